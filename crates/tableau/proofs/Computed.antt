@@ -1,0 +1,20 @@
+-- The replies that document 01 marks, and those to the files of the old checker's failings, by computation.
+use mathlib.Core.Path.{refl}
+use mathlib.Core.List.{[], _∷_}
+use Rattle.tableau.specs.Cases.{cases, AllReplies, _⊢_, yes′}
+use Rattle.tableau.specs.Failings.{incident, incidentMended, staleWitness, namesCompared, literalsKept, outsideAll, failings}
+use Rattle.tableau.proofs.Evaluate.{evaluate}
+
+-- THE CASES MARKED ◆
+pub marked : AllReplies cases
+unfolding AllReplies cases evaluate
+marked = refl
+
+-- the incident, and the four other ways in which the old checker went wrong, are refused
+pub failings-refused : AllReplies failings
+unfolding AllReplies failings incident staleWitness namesCompared literalsKept outsideAll evaluate
+failings-refused = refl
+
+pub mended-accepted : AllReplies ((incidentMended ⊢ yes′ 9 4 4 3) ∷ [])
+unfolding AllReplies incidentMended evaluate
+mended-accepted = refl

@@ -1,0 +1,151 @@
+-- The counts of a reply are those of the file's own lines; the refusal number of a reply.
+use mathlib.Core.Path.{_≡_, refl, sym, _∙_}
+use mathlib.Core.Bool.{Bool, true, false, _&&_, _||_, cond, true≢false}
+use mathlib.Core.List.{List, [], _∷_}
+use mathlib.Core.Option.{Option, none, some}
+use Prim.Native.Nat.{ℕ, suc, _+_, _≤_}
+use native.Mathlib.Omega.{arith}
+use lib.Dec.{leb}
+use borrow.Author.Tests.{leb-true}
+use Rattle.tableau.specs.declared.Letter.{Letter}
+use Rattle.tableau.specs.declared.Rule.{Rule}
+use Rattle.tableau.specs.declared.Reason.{Reason}
+use Rattle.tableau.specs.Basics.{Four, bytes, sameBytes, lookup}
+use Rattle.tableau.specs.File.{Line, shape, split, LF}
+use Rattle.tableau.specs.Terms.{Table, words, relations}
+use Rattle.tableau.specs.Rules.{rule, ruleNames}
+use Rattle.tableau.specs.Tree.{Checked, refused, passed, _>>=_, _>>_, require, requireSome, Tree, Status, isOpen, isClosed, step}
+use Rattle.tableau.specs.Reply.{reasonNumber, Command, make, assume, infer, commandOf, Counts, State, start, rank, requireOpen, isClosing, counted}
+use Rattle.tableau.specs.Reply.{effect, runCommand, runLine, Verdict, accept, refuse, atEnd, runLines, verdict, replyOf, reply}
+use Rattle.tableau.specs.Claims.{hasLetter, closesBranch, countIf, CountsOf, RightCounts}
+use Rattle.tableau.proofs.Bools.{both-true}
+use Rattle.tableau.proofs.Checks.{lookup-agree, some-of-some, LinePassed, Run, done, next, Accepted, verdict-cases, file-accepted}
+
+-- THE COUNTS
+-- the rules that close are those with the words `cls` and `emp`
+closing-word : {x : Rule} (w : List ℕ) → lookup ruleNames w ≡ some x → isClosing x ≡ (sameBytes (bytes "cls") w || sameBytes (bytes "emp") w)
+unfolding ruleNames rule bytes sameBytes
+closing-word w = lookup-agree isClosing (λ w. sameBytes (bytes "cls") w || sameBytes (bytes "emp") w) ruleNames w refl
+
+-- a line adds one to a count if it passes the count's test, and else nothing
+abbrev increase : Bool → ℕ → ℕ
+increase b n = cond b (suc n) n
+
+increase-sum : (b : Bool) (n m : ℕ) → increase b n + m ≡ n + elim b [ true ↦ suc m | false ↦ m ]
+increase-sum true n m = omega arith
+increase-sum false n m = refl
+
+abbrev Adds : (Counts → ℕ) → (Option Line → Bool) → Counts → Line → Command → Type 0
+Adds count test k l c = count (counted k c) ≡ increase (test (some l)) (count k)
+
+abbrev AddsEach : Counts → Line → Command → Type 0
+AddsEach k l c = Adds (λ k. k .terms) (hasLetter Letter.T) k l c × Adds (λ k. k .assumptions) (hasLetter Letter.A) k l c
+    × Adds (λ k. k .steps) (hasLetter Letter.S) k l c × Adds (λ k. k .closings) closesBranch k l c
+
+adds-each : (k : Counts) (l : Line) (c : Command) → commandOf (l .letter) (l .word) ≡ some c → AddsEach k l c
+unfolding commandOf rank
+adds-each k l c = go (l .letter)
+  where
+    go : (x : Letter) → commandOf x (l .word) ≡ some c → AddsEach k (record { letter = x; word = l .word; fields = l .fields }) c
+    go Letter.T e = rw (some-of-some make (lookup words (l .word)) e .2) (refl, refl, refl, refl)
+    go Letter.A e = rw (some-of-some assume (lookup relations (l .word)) e .2) (refl, refl, refl, refl)
+    go Letter.S e = let h = some-of-some infer (lookup ruleNames (l .word)) e in rw (h .2) (refl, refl, refl, rw (closing-word (l .word) (h .1)))
+
+-- so a count of an accepted file is the number of lines that pass its test
+module _ (count : Counts → ℕ) (test : Option Line → Bool)
+    (adds : (k : Counts) (l : Line) (c : Command) → commandOf (l .letter) (l .word) ≡ some c → Adds count test k l c) where
+  line-count : {σ σ′ : State} {l : List ℕ} → LinePassed σ l σ′ → count (σ′ .counts) ≡ increase (test (shape l)) (count (σ .counts))
+  line-count {σ} p = rw (← p .ran .after, p .shaped) (adds (σ .counts) (p .line) (p .command) (p .known))
+
+  run-count : {σ τ : State} {ls : List (List ℕ)} → Run σ ls τ → count (τ .counts) ≡ count (σ .counts) + countIf test ls
+  unfolding countIf
+  run-count done = omega arith
+  run-count {σ} (next {l = l} p r) = run-count r ∙ rw (line-count p) (increase-sum (test (shape l)) (count (σ .counts)) _)
+
+  file-count : {ls : List (List ℕ)} {c : Counts} → Accepted start ls c → count (start .counts) ≡ 0 → count c ≡ countIf test ls
+  file-count a z = rw (← a .counts, run-count (a .run)) (omega arith)
+
+pub right-counts : RightCounts reply
+unfolding RightCounts reply replyOf
+right-counts file = go (verdict file) refl
+  where
+    go : (v : Verdict) → verdict file ≡ v → CountsOf file (replyOf v) (replyOf v .isYes)
+    go (accept c) e =
+        let a = file-accepted file e in
+        record {
+          number = refl;
+          line = refl;
+          terms = file-count _ _ (λ k l c e. adds-each k l c e .0) a refl;
+          assumptions = file-count _ _ (λ k l c e. adds-each k l c e .1) a refl;
+          steps = file-count _ _ (λ k l c e. adds-each k l c e .2) a refl;
+          closings = file-count _ _ (λ k l c e. adds-each k l c e .3) a refl;
+        }
+    go (refuse r i) e = record { terms = refl; assumptions = refl; steps = refl; closings = refl }
+
+-- THE REFUSAL NUMBER: no check of a file gives that of a wrong buffer, 18.
+abbrev InRange : Reason → Type 0
+InRange r = (leb 1 (reasonNumber r) && leb (reasonNumber r) 17) ≡ true
+
+abbrev CheckInRange : {A : Type 0} → Checked A → Type 0
+CheckInRange (refused r) = InRange r
+CheckInRange (passed x) = Unit {0}
+
+abbrev VerdictInRange : Verdict → Type 0
+VerdictInRange (accept c) = Unit {0}
+VerdictInRange (refuse r i) = InRange r
+
+bind-range : {A B : Type 0} (m : Checked A) (k : A → Checked B) → CheckInRange m → ((x : A) → CheckInRange (k x)) → CheckInRange (m >>= k)
+bind-range (refused r) k h t = h
+bind-range (passed x) k h t = t x
+
+require-range : {B : Type 0} (b : Bool) (r : Reason) (m : Checked B) → InRange r → CheckInRange m → CheckInRange (require b r >> m)
+require-range true r m h t = t
+require-range false r m h t = h
+
+requireSome-range : {A B : Type 0} (o : Option A) (r : Reason) (k : A → Checked B) → InRange r → ((x : A) → CheckInRange (k x))
+    → CheckInRange (requireSome o r >>= k)
+requireSome-range none r k h t = h
+requireSome-range (some x) r k h t = t x
+
+requireOpen-range : (s : Status) → CheckInRange (requireOpen s)
+unfolding reasonNumber
+requireOpen-range (isOpen τ) = tt
+requireOpen-range isClosed = refl
+
+ruleset range = (bind-range, require-range, requireSome-range, requireOpen-range)
+
+effect-range : (table : Table) (τ : Tree) (c : Command) (n : Four ℕ) → CheckInRange (effect table τ c n)
+unfolding effect step reasonNumber
+effect-range table τ (make w) n = tt
+effect-range table τ (assume R) n = search range
+effect-range table τ (infer x) n = search range depth 10
+
+line-range : (σ : State) (bs : List ℕ) → CheckInRange (runLine σ bs)
+unfolding runLine runCommand reasonNumber
+line-range σ bs = search (range, effect-range) depth 12
+
+end-range : (σ : State) (s : Status) (i : ℕ) → VerdictInRange (atEnd σ s i)
+unfolding reasonNumber
+end-range σ (isOpen τ) i = refl
+end-range σ isClosed i = tt
+
+lines-range : (ls : List (List ℕ)) (i : ℕ) (m : Checked State) → CheckInRange m → VerdictInRange (runLines ls i m)
+unfolding runLines reasonNumber
+lines-range [] i (refused r) h = h
+lines-range [] i (passed σ) h = end-range σ (σ .status) i
+lines-range (l ∷ ls) i (refused r) h = h
+lines-range ([] ∷ []) i (passed σ) h = end-range σ (σ .status) (suc i)
+lines-range ((b ∷ bs) ∷ []) i (passed σ) h = refl
+lines-range (l ∷ m ∷ ls) i (passed σ) h = lines-range (m ∷ ls) (suc i) (runLine σ l) (line-range σ l)
+
+pub number-in-range : (file : List ℕ) → (reply file .isYes ≡ true → reply file .number ≡ 0)
+    × (reply file .isYes ≡ false → (1 ≤ reply file .number) × (reply file .number ≤ 17))
+unfolding reply replyOf reasonNumber
+number-in-range file = go (verdict file) (verdict-cases VerdictInRange file refl (lines-range (split LF file) 0 (passed start) tt))
+  where
+    go : (v : Verdict) → VerdictInRange v → (replyOf v .isYes ≡ true → replyOf v .number ≡ 0)
+        × (replyOf v .isYes ≡ false → (1 ≤ replyOf v .number) × (replyOf v .number ≤ 17))
+    go (accept c) h = ((λ e. refl), (λ e. absurd (true≢false e)))
+    go (refuse r i) h =
+        let b = both-true (leb 1 (reasonNumber r)) _ h in
+        ((λ e. absurd (true≢false (sym e))), (λ e. (leb-true 1 (reasonNumber r) (b .0), leb-true (reasonNumber r) 17 (b .1))))

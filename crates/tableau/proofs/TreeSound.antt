@@ -1,0 +1,131 @@
+-- A step keeps refutation: if the tree after it has no model, the tree before it has none.
+use mathlib.Core.Path.{_≡_, sym, _∙_, subst}
+use mathlib.Core.Bool.{true, _||_, not}
+use mathlib.Core.List.{List, [], _∷_, _++_, map}
+use mathlib.Core.Option.{none}
+use Prim.Native.Nat.{ℕ, _≤_}
+use native.Mathlib.Nat.{le-refl, le-trans}
+use native.Mathlib.Omega.{arith}
+use lib.ListN.{length, take, length-append, length-take}
+use lib.Seq.{take-append-le, take-take, take-append-seam}
+use Rattle.tableau.specs.declared.Rule.{Rule}
+use Rattle.tableau.specs.Basics.{Four, every}
+use Rattle.tableau.specs.Terms.{TermNo, Table, Literal, Use, unused, place, name, side, term, of, at, sortOf, result}
+use Rattle.tableau.specs.Meaning.{FiniteHeap, Values, value, AllTrue}
+use Rattle.tableau.specs.Rules.{rule, ruleFields}
+use Rattle.tableau.specs.Steps.{conclude, isFresh}
+use Rattle.tableau.specs.Tree.{passed, Waiting, Tree, Status, isOpen, isClosed, literalAt, onBranch, roomOnBranch, roomToWait, close, grow, step}
+use Rattle.tableau.specs.Reply.{ofSort}
+use Rattle.tableau.proofs.Bools.{every-true}
+use Rattle.tableau.proofs.Checks.{require-passed, requireSome-passed, passed-injective}
+use Rattle.tableau.proofs.WellFormed.{WellFormed}
+use Rattle.tableau.proofs.Match.{same-sort, kind-value}
+use Rattle.tableau.proofs.RowMeaning.{Asked}
+use Rattle.tableau.proofs.StepSound.{Refuted, rule-sound}
+
+-- the lengths of the waiting alternatives fall
+abbrev pub Falling : ℕ → List Waiting → Type 0
+Falling n [] = Unit {0}
+Falling n (x ∷ ws) = (x .length ≤ n) × Falling (x .length) ws
+
+module _ (table : Table) (H : FiniteHeap) where
+  -- no values make the literals true
+  abbrev pub Refutes : List Literal → Type 0
+  Refutes B = (ρ : Values H) → AllTrue ρ (at table) B → ⊥
+
+  abbrev pub AllRefuted : List Literal → List Waiting → Type 0
+  AllRefuted B [] = Unit {0}
+  AllRefuted B (x ∷ ws) = Refutes (take (x .length) B ++ x .alternative) × AllRefuted B ws
+
+  -- no branch of the tree has a model (the lengths fall in every tree that a file reaches)
+  abbrev pub StatusRefuted : Status → Type 0
+  StatusRefuted (isOpen τ) = Falling (length (τ .branch)) (τ .waiting) → Refutes (τ .branch) × AllRefuted (τ .branch) (τ .waiting)
+  StatusRefuted isClosed = Unit {0}
+
+module _ (table : Table) (wf : WellFormed (at table)) (H : FiniteHeap) where
+  join : (ρ : Values H) (B k : List Literal) → AllTrue ρ (at table) B → AllTrue ρ (at table) k → AllTrue ρ (at table) (B ++ k)
+  join ρ [] k t s = s
+  join ρ (l ∷ B) k t s = (t .0, join ρ B k (t .1) s)
+
+  lower : (m n : ℕ) (ws : List Waiting) → m ≤ n → Falling m ws → Falling n ws
+  lower m n [] h f = tt
+  lower m n (x ∷ ws) h f = (le-trans (f .0) h, f .1)
+
+  -- a branch that agrees up to n serves the same alternatives
+  agrees : (B B′ : List Literal) (n : ℕ) → ((m : ℕ) → m ≤ n → take m B′ ≡ take m B) → (ws : List Waiting) → Falling n ws → AllRefuted table H B′ ws → AllRefuted table H B ws
+  agrees B B′ n e [] f w = tt
+  agrees B B′ n e (x ∷ ws) f w = (
+    subst (λ (k : List Literal). Refutes table H (k ++ x .alternative)) (e (x .length) (f .0)) (w .0),
+    agrees B B′ (x .length) (λ m h. e m (le-trans h (f .0))) ws (f .1) (w .1),
+  )
+
+  abbrev wait : ℕ → List Literal → Waiting
+  wait n m = record { length = n; alternative = m }
+
+  wait-falling : (n k : ℕ) (ks : List (List Literal)) (ws : List Waiting) → n ≤ k → Falling n ws → Falling k (map (wait n) ks ++ ws)
+  wait-falling n k [] ws h f = lower n k ws h f
+  wait-falling n k (x ∷ ks) ws h f = (h, wait-falling n n ks ws (le-refl n) f)
+
+  wait-refuted : (B k : List Literal) (ks : List (List Literal)) (ws : List Waiting) → AllRefuted table H (B ++ k) (map (wait (length B)) ks ++ ws)
+      → Refuted table H B ks × AllRefuted table H (B ++ k) ws
+  wait-refuted B k [] ws d = (tt, d)
+  wait-refuted B k (x ∷ ks) ws d =
+      let r = wait-refuted B k ks ws (d .1) in
+      (((λ ρ t s. d .0 ρ (subst (λ (z : List Literal). AllTrue ρ (at table) (z ++ x)) (sym (take-append-seam B k)) (join ρ B x t s))), r .0), r .1)
+
+  -- a closing
+  close-refuted : (B : List Literal) (ws : List Waiting) → Falling (length B) ws → StatusRefuted table H (close B ws) → AllRefuted table H B ws
+  unfolding close
+  close-refuted B [] f k = tt
+  close-refuted B (x ∷ ws) f k =
+      let len : x .length ≤ length (take (x .length) B ++ x .alternative) = at-least (x .length) B (x .alternative) (f .0) in
+      let d = k (lower (x .length) _ ws len (f .1)) in
+      (d .0, agrees B (take (x .length) B ++ x .alternative) (x .length) (λ m h. cut m (x .length) B (x .alternative) h (f .0)) ws (f .1) (d .1))
+    where
+      at-least : (n : ℕ) (B k : List Literal) → n ≤ length B → n ≤ length (take n B ++ k)
+      at-least n B k h = simp (length-append, length-take) (omega arith)
+
+      cut : (m n : ℕ) (B k : List Literal) → m ≤ n → n ≤ length B → take m (take n B ++ k) ≡ take m B
+      cut m n B k h g =
+          let l : m ≤ length (take n B) = simp length-take (omega arith) in
+          take-append-le m (take n B) k l ∙ take-take m n B h
+
+  -- a split or a closing: s says that a true branch has a true alternative
+  grow-refuted : (τ : Tree) (ks : List (List Literal)) → (Refuted table H (τ .branch) ks → Refutes table H (τ .branch)) → StatusRefuted table H (grow τ ks)
+      → StatusRefuted table H (isOpen τ)
+  unfolding grow
+  grow-refuted τ [] s e f = (s tt, close-refuted (τ .branch) (τ .waiting) f e)
+  grow-refuted τ (k ∷ ks) s e f =
+      let B = τ .branch in
+      let long : length B ≤ length (B ++ k) = simp length-append (omega arith) in
+      let d = e (wait-falling (length B) _ ks (τ .waiting) long f) in
+      let r = wait-refuted B k ks (τ .waiting) (d .1) in
+      (s ((λ ρ t u. d .0 ρ (join ρ B k t u)), r .0), agrees B (B ++ k) (length B) (λ m h. take-append-le m B k h) (τ .waiting) f (r .1))
+
+  -- a term that passed check 9 has a value of the sort asked
+  asked : (fld : Use) (n : TermNo) → ofSort table fld n ≡ true → (ρ : Values H) → Asked H fld (value ρ (at table) n)
+  unfolding result
+  asked unused n h ρ = tt
+  asked place n h ρ = tt
+  asked name n h ρ = tt
+  asked side n h ρ = tt
+  asked term n h ρ = tt
+  asked (of s) n h ρ = kind-value (at table) wf H ρ n ∙ sym (same-sort s (sortOf (at table n)) h)
+
+  -- A STEP
+  pub step-refuted : (τ : Tree) (x : Rule) (n : Four ℕ) (s : Status) → every (ofSort table) (ruleFields x) n ≡ true → step table τ x n ≡ passed s
+      → StatusRefuted table H s → StatusRefuted table H (isOpen τ)
+  unfolding step
+  step-refuted τ x n s sorts e d =
+      let B = τ .branch in
+      let a = every-true (ofSort table) (ruleFields x) n sorts in
+      let e₁₁ = require-passed (every (onBranch B) (ruleFields x) n) _ _ e in
+      let e₁₂ = requireSome-passed (conclude table (literalAt B (n .a)) (literalAt B (n .b)) (n .c) (n .d) (rule x)) _ _ (e₁₁ .1) in
+      let e₁₃ = require-passed (not (e₁₂ .0 .fresh) || isFresh table B (n .d)) _ _ (e₁₂ .2) in
+      let e₁₄ = requireSome-passed (e₁₂ .0 .adds) _ _ (e₁₃ .1) in
+      let e₁₅ = require-passed (roomOnBranch (length B) (e₁₄ .0)) _ _ (e₁₄ .2) in
+      let e₁₆ = require-passed (roomToWait (length (τ .waiting)) (e₁₄ .0)) _ _ (e₁₅ .1) in
+      grow-refuted τ (e₁₄ .0)
+      (λ r ρ t. rule-sound table wf H ρ B t (n .a) (n .b) (n .c) (n .d) x (asked (ruleFields x .c) (n .c) (a .2) ρ) (asked (ruleFields x .d) (n .d) (a .3) ρ)
+      (e₁₂ .0) (e₁₂ .1) (e₁₃ .0) (e₁₄ .0) (e₁₄ .1) r)
+      (subst (StatusRefuted table H) (sym (passed-injective (e₁₆ .1))) d)

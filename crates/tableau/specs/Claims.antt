@@ -1,0 +1,117 @@
+-- What is claimed of a checker: a file's assumed literals, the demands, the counts.
+use mathlib.Core.Path.{_≡_}
+use mathlib.Core.Bool.{Bool, true, false, _&&_, _||_}
+use mathlib.Core.List.{List, [], _∷_, _++_}
+use mathlib.Core.Option.{Option, none, some}
+use Prim.Native.Nat.{ℕ, suc}
+use lib.Dec.{eqb}
+use Rattle.tableau.specs.declared.Letter.{Letter}
+use Rattle.tableau.specs.Basics.{Four, bytes, sameBytes}
+use Rattle.tableau.specs.File.{Line, shape, split, LF}
+use Rattle.tableau.specs.Terms.{Table, Literal, literal, at, written}
+use Rattle.tableau.specs.Meaning.{FiniteHeap, Values, AllTrue}
+use Rattle.tableau.specs.Reply.{Command, make, assume, infer, commandOf, rank, Reply, reply}
+
+-- THE LINES of a file: what each LF ends.
+abbrev pub allButLast : List (List ℕ) → List (List ℕ)
+allButLast [] = []
+allButLast (l ∷ []) = []
+allButLast (l ∷ m ∷ ls) = l ∷ allButLast (m ∷ ls)
+
+abbrev pub linesOf : List ℕ → List (List ℕ)
+linesOf file = allButLast (split LF file)
+
+-- THE ASSUMED LITERALS: "those on its A lines", over the terms of its T lines, as they stand, with no check.
+abbrev pub commandTerm : Option Command → Four ℕ → Table
+commandTerm none n = []
+commandTerm (some (make w)) n = written w n ∷ []
+commandTerm (some (assume R)) n = []
+commandTerm (some (infer x)) n = []
+
+abbrev pub commandLiteral : Option Command → Four ℕ → List Literal
+commandLiteral none n = []
+commandLiteral (some (make w)) n = []
+commandLiteral (some (assume R)) n = literal R (n .a) (n .b) ∷ []
+commandLiteral (some (infer x)) n = []
+
+abbrev pub lineTerm : Option Line → Table
+lineTerm none = []
+lineTerm (some l) = commandTerm (commandOf (l .letter) (l .word)) (l .fields)
+
+abbrev pub lineLiteral : Option Line → List Literal
+lineLiteral none = []
+lineLiteral (some l) = commandLiteral (commandOf (l .letter) (l .word)) (l .fields)
+
+unfoldable pub termsIn : List (List ℕ) → Table
+termsIn [] = []
+termsIn (l ∷ ls) = lineTerm (shape l) ++ termsIn ls
+
+unfoldable pub literalsIn : List (List ℕ) → List Literal
+literalsIn [] = []
+literalsIn (l ∷ ls) = lineLiteral (shape l) ++ literalsIn ls
+
+abbrev pub termsOf : List ℕ → Table
+termsOf file = termsIn (linesOf file)
+
+abbrev pub assumedOf : List ℕ → List Literal
+assumedOf file = literalsIn (linesOf file)
+
+-- "no finite heap and no values of the variables make all assumed literals true"
+unfoldable pub NoHeap : List ℕ → Type 0
+NoHeap file = (H : FiniteHeap) (ρ : Values H) → AllTrue ρ (at (termsOf file)) (assumedOf file) → ⊥
+
+-- a finite heap and values that do
+pub record Model (file : List ℕ) : Type 0 where
+  pub finiteHeap : FiniteHeap
+  pub values : Values finiteHeap
+  pub allTrue : AllTrue values (at (termsOf file)) (assumedOf file)
+
+-- A CHECKER, right or wrong: any function from bytes to a reply.
+abbrev pub Checker : Type 0
+Checker = List ℕ → Reply
+
+-- Demand 2: "Yes exactly when the file is a closed tableau under document 01's rules and limits; otherwise the first bad line and the
+-- first check it breaks. Counts after a yes are the file's."
+unfoldable pub Demand2 : Checker → Type 0
+Demand2 checker = (file : List ℕ) → checker file ≡ reply file
+
+-- Demand 3: "If it says yes, no finite heap and no values of the variables make all assumed literals true."
+unfoldable pub Demand3 : Checker → Type 0
+Demand3 checker = (file : List ℕ) → checker file .isYes ≡ true → NoHeap file
+
+-- THE FILE'S OWN COUNTS: lines by their first field, and `cls` and `emp` lines by their second.
+abbrev pub hasLetter : Letter → Option Line → Bool
+hasLetter k none = false
+hasLetter k (some l) = eqb (rank k) (rank (l .letter))
+
+abbrev pub closesBranch : Option Line → Bool
+closesBranch none = false
+closesBranch (some l) = eqb (rank Letter.S) (rank (l .letter)) && (sameBytes (bytes "cls") (l .word) || sameBytes (bytes "emp") (l .word))
+
+unfoldable pub countIf : (Option Line → Bool) → List (List ℕ) → ℕ
+countIf f [] = 0
+countIf f (l ∷ ls) = elim (f (shape l)) [ true ↦ suc (countIf f ls) | false ↦ countIf f ls ]
+
+-- "After a yes the number and line are 0", and the counts are the file's
+pub record FileCounts (file : List ℕ) (r : Reply) : Type 0 where
+  pub number : r .number ≡ 0
+  pub line : r .line ≡ 0
+  pub terms : r .terms ≡ countIf (hasLetter Letter.T) (linesOf file)
+  pub assumptions : r .assumptions ≡ countIf (hasLetter Letter.A) (linesOf file)
+  pub steps : r .steps ≡ countIf (hasLetter Letter.S) (linesOf file)
+  pub closings : r .closings ≡ countIf closesBranch (linesOf file)
+
+-- "after a no the four counts are 0"
+pub record NoCounts (r : Reply) : Type 0 where
+  pub terms : r .terms ≡ 0
+  pub assumptions : r .assumptions ≡ 0
+  pub steps : r .steps ≡ 0
+  pub closings : r .closings ≡ 0
+
+abbrev pub CountsOf : List ℕ → Reply → Bool → Type 0
+CountsOf file r true = FileCounts file r
+CountsOf file r false = NoCounts r
+
+-- "Counts after a yes are the file's"; "a refusal reports zero for every count"
+unfoldable pub RightCounts : Checker → Type 0
+RightCounts checker = (file : List ℕ) → CountsOf file (checker file) (checker file .isYes)

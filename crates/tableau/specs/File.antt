@@ -1,0 +1,82 @@
+-- 'The file': from bytes to lines of six fields.
+use mathlib.Core.Bool.{Bool, true, false, _&&_, _||_, not}
+use mathlib.Core.List.{List, [], _∷_}
+use mathlib.Core.Option.{Option, none, some}
+use Prim.Native.Nat.{ℕ, _+_, _*_, _-_}
+use lib.Dec.{eqb, leb}
+use lib.ListN.{length}
+use Rattle.tableau.specs.declared.Letter.{Letter}
+use Rattle.tableau.specs.Basics.{then, guard, Four, four, Named, _↣_, lookup}
+
+-- "At most 60,000 bytes."
+abbrev pub maxBytes : ℕ
+maxBytes = 60000
+
+abbrev pub LF : ℕ
+LF = 10
+
+abbrev pub comma : ℕ
+comma = 44
+
+-- A text cut at each byte c: where c stands n times there are n + 1 pieces.
+abbrev pub onFirst : ℕ → List (List ℕ) → List (List ℕ)
+onFirst b [] = (b ∷ []) ∷ []
+onFirst b (l ∷ ls) = (b ∷ l) ∷ ls
+
+unfoldable pub split : ℕ → List ℕ → List (List ℕ)
+split c [] = [] ∷ []
+split c (b ∷ bs) = elim (eqb b c) [ true ↦ [] ∷ split c bs | false ↦ onFirst b (split c bs) ]
+
+-- "Field 1 is one of the letters T, A, S."
+unfoldable pub letters : List (Named Letter)
+letters = ("T" ↣ Letter.T) ∷ ("A" ↣ Letter.A) ∷ ("S" ↣ Letter.S) ∷ []
+
+-- "Field 2 is two or three small letters."
+abbrev pub isSmall : ℕ → Bool
+isSmall b = leb 97 b && leb b 122
+
+unfoldable pub allSmall : List ℕ → Bool
+allSmall [] = true
+allSmall (b ∷ bs) = isSmall b && allSmall bs
+
+abbrev pub isWord : List ℕ → Bool
+isWord w = (eqb (length w) 2 || eqb (length w) 3) && allSmall w
+
+-- "Fields 3 to 6 are numbers of one to four digits, with no leading zero unless the number is `0`."
+abbrev pub isDigit : ℕ → Bool
+isDigit b = leb 48 b && leb b 57
+
+abbrev pub maxDigits : ℕ
+maxDigits = 4
+
+unfoldable pub digits : List ℕ → ℕ → Option ℕ
+digits [] n = some n
+digits (b ∷ bs) n = guard (isDigit b) (digits bs (10 * n + (b - 48)))
+
+unfoldable pub number : List ℕ → Option ℕ
+number [] = none
+number (b ∷ bs) = guard (leb (length (b ∷ bs)) maxDigits && (not (eqb b 48) || eqb (length bs) 0)) (digits (b ∷ bs) 0)
+
+pub record Line : Type 0 where
+  pub letter : Letter
+  pub word : List ℕ
+  pub fields : Four ℕ
+
+-- "Each line has six fields parted by five commas."
+unfoldable pub sixFields : List (List ℕ) → Option Line
+sixFields [] = none
+sixFields (k ∷ []) = none
+sixFields (k ∷ w ∷ []) = none
+sixFields (k ∷ w ∷ a ∷ []) = none
+sixFields (k ∷ w ∷ a ∷ b ∷ []) = none
+sixFields (k ∷ w ∷ a ∷ b ∷ c ∷ []) = none
+sixFields (k ∷ w ∷ a ∷ b ∷ c ∷ d ∷ []) =
+    then (lookup letters k) λ letter′.
+    guard (isWord w)
+    (then (number a) λ a′. then (number b) λ b′. then (number c) λ c′. then (number d) λ d′.
+    some (record { letter = letter′; word = w; fields = four a′ b′ c′ d′ }))
+sixFields (k ∷ w ∷ a ∷ b ∷ c ∷ d ∷ e ∷ fs) = none
+
+-- the fields of a line, its LF taken off
+abbrev pub shape : List ℕ → Option Line
+shape l = sixFields (split comma l)

@@ -1,0 +1,13 @@
+-- The specification, in the order of document 01.
+pub mod Basics
+pub mod File
+pub mod Terms
+pub mod Meaning
+pub mod Rules
+pub mod Steps
+pub mod Tree
+pub mod Reply
+pub mod Claims
+pub mod Cases
+pub mod Failings
+pub mod Shams

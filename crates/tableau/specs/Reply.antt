@@ -1,0 +1,276 @@
+-- 'The reply': the checks of a line in the order of their numbers, the reply of a whole file, and the forms in which it is given.
+use mathlib.Core.Bool.{Bool, true, false, _&&_, not, cond}
+use mathlib.Core.List.{List, [], _∷_, _++_}
+use mathlib.Core.Option.{Option, none, some}
+use Prim.Native.Nat.{ℕ, zero, suc, _+_, _/_, _%_}
+use lib.Dec.{eqb, leb, ltb}
+use lib.ListN.{length}
+use Rattle.tableau.specs.declared.Letter.{Letter}
+use Rattle.tableau.specs.declared.Word.{Word}
+use Rattle.tableau.specs.declared.Relation.{Relation}
+use Rattle.tableau.specs.declared.Rule.{Rule}
+use Rattle.tableau.specs.declared.Reason.{Reason}
+use Rattle.tableau.specs.Basics.{then, isSome, Four, every, bytes, lookup}
+use Rattle.tableau.specs.File.{shape, split, LF, comma, maxBytes}
+use Rattle.tableau.specs.Terms.{TermNo, Table, Literal, literal, Use, unused, place, name, side, term, of, at, numberOf, maxTerms, sortOf, sameSort, words, wordFields, written, relations, sides, oneSort}
+use Rattle.tableau.specs.Rules.{Row, Kind, rows, congruence, replacement, rule, ruleFields, ruleNames}
+use Rattle.tableau.specs.Tree.{Checked, refused, passed, _>>=_, _>>_, require, requireSome, Tree, Status, isOpen, isClosed, root, maxPlaces, step}
+
+-- THE REFUSAL NUMBERS
+unfoldable pub reasonNumber : Reason → ℕ
+reasonNumber Reason.TooLong = 1
+reasonNumber Reason.BadShape = 2
+reasonNumber Reason.LetterOrder = 3
+reasonNumber Reason.UnknownWord = 4
+reasonNumber Reason.TreeClosed = 5
+reasonNumber Reason.UnusedField = 6
+reasonNumber Reason.TooManyTerms = 7
+reasonNumber Reason.NoSuchTerm = 8
+reasonNumber Reason.WrongSort = 9
+reasonNumber Reason.TermRepeated = 10
+reasonNumber Reason.NoSuchPlace = 11
+reasonNumber Reason.NeedNotMet = 12
+reasonNumber Reason.NotFresh = 13
+reasonNumber Reason.TermNotMade = 14
+reasonNumber Reason.BranchFull = 15
+reasonNumber Reason.WaitingFull = 16
+reasonNumber Reason.BranchOpen = 17
+reasonNumber Reason.BufferLength = 18
+
+-- What a line asks for, by its letter and word: a term, an assumption, a step.
+pub data Command : Type 0 where
+  make : Word → Command
+  assume : Relation → Command
+  infer : Rule → Command
+
+abbrev pub some-of : {A : Type 0} → (A → Command) → Option A → Option Command
+some-of f none = none
+some-of f (some x) = some (f x)
+
+unfoldable pub commandOf : Letter → List ℕ → Option Command
+commandOf Letter.T w = some-of make (lookup words w)
+commandOf Letter.A w = some-of assume (lookup relations w)
+commandOf Letter.S w = some-of infer (lookup ruleNames w)
+
+abbrev pub fieldsOf : Command → Four Use
+fieldsOf (make w) = wordFields w
+fieldsOf (assume R) = sides R
+fieldsOf (infer x) = ruleFields x
+
+-- The counts of a reply.
+pub record Counts : Type 0 where
+  pub terms : ℕ
+  pub assumptions : ℕ
+  pub steps : ℕ
+  pub closings : ℕ
+
+-- Where the reading of a file stands: the terms made, the tree, the letter of the last line, the counts.
+pub record State : Type 0 where
+  pub table : Table
+  pub status : Status
+  pub letter : Letter
+  pub counts : Counts
+
+abbrev pub start : State
+start = record { table = []; status = isOpen root; letter = Letter.T; counts = record { terms = 0; assumptions = 0; steps = 0; closings = 0 } }
+
+-- check 3: "T lines come first, then A, then S; any kind may be missing."
+unfoldable pub rank : Letter → ℕ
+rank Letter.T = 0
+rank Letter.A = 1
+rank Letter.S = 2
+
+abbrev pub inOrder : Letter → Letter → Bool
+inOrder last next = leb (rank last) (rank next)
+
+-- check 5: the tree, where it is open (T and A lines, which check 3 keeps before any S line, always find it so)
+abbrev pub requireOpen : Status → Checked Tree
+requireOpen (isOpen τ) = passed τ
+requireOpen isClosed = refused Reason.TreeClosed
+
+-- check 6: "A field that the word doesn't use holds `0`."
+abbrev pub zeroIfUnused : Use → ℕ → Bool
+zeroIfUnused unused n = eqb n 0
+zeroIfUnused place n = true
+zeroIfUnused name n = true
+zeroIfUnused side n = true
+zeroIfUnused term n = true
+zeroIfUnused (of s) n = true
+
+-- check 7: "601st term"
+abbrev pub roomForTerm : Table → Command → Bool
+roomForTerm table (make w) = ltb (length table) maxTerms
+roomForTerm table (assume R) = true
+roomForTerm table (infer x) = true
+
+-- check 8: "a term field names no term made so far, or a name is 0"
+abbrev pub isTerm : Table → TermNo → Bool
+isTerm table n = leb 1 n && leb n (length table)
+
+abbrev pub termOrName : Table → Use → ℕ → Bool
+termOrName table unused n = true
+termOrName table place n = true
+termOrName table name n = leb 1 n
+termOrName table side n = true
+termOrName table term n = isTerm table n
+termOrName table (of s) n = isTerm table n
+
+-- check 9: "wrong sort in T, A, `cut` or `ler`"
+abbrev pub ofSort : Table → Use → ℕ → Bool
+ofSort table unused n = true
+ofSort table place n = true
+ofSort table name n = true
+ofSort table side n = true
+ofSort table term n = true
+ofSort table (of s) n = sameSort s (sortOf (at table n))
+
+abbrev pub sidesAgree : Table → Command → Four ℕ → Bool
+sidesAgree table (make w) n = true
+sidesAgree table (assume R) n = oneSort R (sortOf (at table (n .a))) (sortOf (at table (n .b)))
+sidesAgree table (infer x) n = true
+
+-- check 10: "term already made"
+abbrev pub isNew : Table → Command → Four ℕ → Bool
+isNew table (make w) n = not (isSome (numberOf table (written w n)))
+isNew table (assume R) n = true
+isNew table (infer x) n = true
+
+-- the rules that close, `cls` and `emp`: those whose rows have no alternative
+abbrev pub addsNothing : List Row → Bool
+addsNothing [] = true
+addsNothing (R ∷ Rs) = eqb (length (R .adds)) 0 && addsNothing Rs
+
+abbrev pub closingKind : Kind → Bool
+closingKind (rows Rs) = addsNothing Rs
+closingKind congruence = false
+closingKind replacement = false
+
+abbrev pub isClosing : Rule → Bool
+isClosing x = closingKind (rule x)
+
+abbrev pub counted : Counts → Command → Counts
+counted c (make w) = record { terms = suc (c .terms); assumptions = c .assumptions; steps = c .steps; closings = c .closings }
+counted c (assume R) = record { terms = c .terms; assumptions = suc (c .assumptions); steps = c .steps; closings = c .closings }
+counted c (infer x) = record { terms = c .terms; assumptions = c .assumptions; steps = suc (c .steps); closings = cond (isClosing x) (suc (c .closings)) (c .closings) }
+
+-- What a line does: a new term, a literal on the branch (check 15: "an A line .. would pass 1,000 places"), a step (checks 11 to 16).
+abbrev pub added : Tree → Literal → Status
+added τ l = isOpen (record { branch = τ .branch ++ (l ∷ []); waiting = τ .waiting })
+
+unfoldable pub effect : Table → Tree → Command → Four ℕ → Checked (Table × Status)
+effect table τ (make w) n = passed (table ++ (written w n ∷ []), isOpen τ)
+effect table τ (assume R) n = do
+  require (ltb (length (τ .branch)) maxPlaces) Reason.BranchFull
+  passed (table, added τ (literal R (n .a) (n .b)))
+effect table τ (infer x) n = do
+  status ← step table τ x n
+  passed (table, status)
+
+-- A line, whose letter and word are known: checks 5 to 10, a line for each, then its effect.
+unfoldable pub runCommand : State → Letter → Command → Four ℕ → Checked State
+runCommand σ l c n = do
+  τ ← requireOpen (σ .status)
+  require (every zeroIfUnused (fieldsOf c) n) Reason.UnusedField
+  require (roomForTerm (σ .table) c) Reason.TooManyTerms
+  require (every (termOrName (σ .table)) (fieldsOf c) n) Reason.NoSuchTerm
+  require (every (ofSort (σ .table)) (fieldsOf c) n && sidesAgree (σ .table) c n) Reason.WrongSort
+  require (isNew (σ .table) c n) Reason.TermRepeated
+  e ← effect (σ .table) τ c n
+  passed (record { table = e .0; status = e .1; letter = l; counts = counted (σ .counts) c })
+
+-- "Checks on a line run in the order of the numbers below": 2, 3 and 4, then those above.
+unfoldable pub runLine : State → List ℕ → Checked State
+runLine σ bs = do
+  l ← requireSome (shape bs) Reason.BadShape
+  require (inOrder (σ .letter) (l .letter)) Reason.LetterOrder
+  c ← requireSome (commandOf (l .letter) (l .word)) Reason.UnknownWord
+  runCommand σ (l .letter) c (l .fields)
+
+-- The verdict on a file: a yes with its counts, or the first bad line and the first check it breaks.
+pub data Verdict : Type 0 where
+  accept : Counts → Verdict
+  refuse : Reason → ℕ → Verdict
+
+-- check 17: "input ends with a branch open; line is last line plus 1"
+abbrev pub atEnd : State → Status → ℕ → Verdict
+atEnd σ (isOpen τ) i = refuse Reason.BranchOpen i
+atEnd σ isClosed i = accept (σ .counts)
+
+-- the lines from number i on: each piece but the last was ended by an LF; a last piece that is not empty is a line with no LF (check 2)
+unfoldable pub runLines : List (List ℕ) → ℕ → Checked State → Verdict
+runLines [] i (refused r) = refuse r i
+runLines [] i (passed σ) = atEnd σ (σ .status) i
+runLines (l ∷ ls) i (refused r) = refuse r i
+runLines ([] ∷ []) i (passed σ) = atEnd σ (σ .status) (suc i)
+runLines ((b ∷ bs) ∷ []) i (passed σ) = refuse Reason.BadShape (suc i)
+runLines (l ∷ m ∷ ls) i (passed σ) = runLines (m ∷ ls) (suc i) (runLine σ l)
+
+-- check 1: "over 60,000 bytes; line 0, before any line"
+unfoldable pub verdict : List ℕ → Verdict
+verdict file = elim (leb (length file) maxBytes) [ true ↦ runLines (split LF file) 0 (passed start) | false ↦ refuse Reason.TooLong 0 ]
+
+-- THE REPLY, "fields in order: `yes` or `no`, refusal number, line, T lines, A lines, S lines, closings".
+pub record Reply : Type 0 where
+  pub isYes : Bool
+  pub number : ℕ
+  pub line : ℕ
+  pub terms : ℕ
+  pub assumptions : ℕ
+  pub steps : ℕ
+  pub closings : ℕ
+
+-- "After a yes the number and line are 0; after a no the four counts are 0."
+unfoldable pub replyOf : Verdict → Reply
+replyOf (accept c) = record { isYes = true; number = 0; line = 0; terms = c .terms; assumptions = c .assumptions; steps = c .steps; closings = c .closings }
+replyOf (refuse r i) = record { isYes = false; number = reasonNumber r; line = i; terms = 0; assumptions = 0; steps = 0; closings = 0 }
+
+unfoldable pub reply : List ℕ → Reply
+reply file = replyOf (verdict file)
+
+abbrev pub sixNumbers : Reply → List ℕ
+sixNumbers r = r .number ∷ r .line ∷ r .terms ∷ r .assumptions ∷ r .steps ∷ r .closings ∷ []
+
+-- "One line ended by LF": a number in decimal, with no leading zero
+unfoldable pub decimalFrom : ℕ → ℕ → List ℕ → List ℕ
+decimalFrom zero n ds = ds
+decimalFrom (suc fuel) n ds = elim (ltb n 10) [ true ↦ (48 + n) ∷ ds | false ↦ decimalFrom fuel (n / 10) ((48 + n % 10) ∷ ds) ]
+
+abbrev pub decimal : ℕ → List ℕ
+decimal n = decimalFrom (suc n) n []
+
+unfoldable pub commaNumbers : List ℕ → List ℕ
+commaNumbers [] = LF ∷ []
+commaNumbers (n ∷ ns) = comma ∷ (decimal n ++ commaNumbers ns)
+
+unfoldable pub yesOrNo : Bool → List ℕ
+yesOrNo true = bytes "yes"
+yesOrNo false = bytes "no"
+
+unfoldable pub replyLine : Reply → List ℕ
+replyLine r = yesOrNo (r .isYes) ++ commaNumbers (sixNumbers r)
+
+-- "six numbers of four bytes each, low byte first, in the reply's order"
+abbrev pub fourBytes : ℕ → List ℕ
+fourBytes n = (n % 256) ∷ (n / 256 % 256) ∷ (n / 65536 % 256) ∷ (n / 16777216 % 256) ∷ []
+
+unfoldable pub numberBytes : List ℕ → List ℕ
+numberBytes [] = []
+numberBytes (n ∷ ns) = fourBytes n ++ numberBytes ns
+
+unfoldable pub replyBytes : Reply → List ℕ
+replyBytes r = numberBytes (sixNumbers r)
+
+-- THE CALL OF A BUILD HOST: the number it returns, and what the reply buffer holds afterwards.
+-- "reply buffer not 24 bytes; returned by the call, nothing written, before 1"
+abbrev pub bufferLength : ℕ
+bufferLength = 24
+
+pub record Call : Type 0 where
+  pub returns : ℕ
+  pub buffer : List ℕ
+
+unfoldable pub call : List ℕ → List ℕ → Call
+call file buffer′ = elim (eqb (length buffer′) bufferLength) [
+  | true ↦ record { returns = reply file .number; buffer = replyBytes (reply file) }
+  | false ↦ record { returns = reasonNumber Reason.BufferLength; buffer = buffer′ }
+]

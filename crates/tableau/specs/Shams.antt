@@ -1,0 +1,69 @@
+-- 'Four sham checkers have to fall short': each a function from bytes to a reply.
+use mathlib.Core.Path.{_≡_}
+use mathlib.Core.Bool.{Bool, true, false, cond}
+use mathlib.Core.List.{List, [], _∷_}
+use mathlib.Core.Option.{Option}
+use Prim.Native.Nat.{ℕ, suc, _+_}
+use lib.Dec.{eqb}
+use Rattle.tableau.specs.declared.Letter.{Letter}
+use Rattle.tableau.specs.declared.Reason.{Reason}
+use Rattle.tableau.specs.File.{Line, shape, split, LF}
+use Rattle.tableau.specs.Tree.{passed}
+use Rattle.tableau.specs.Reply.{Reply, Verdict, accept, refuse, reasonNumber, replyOf, reply, runLines, start}
+use Rattle.tableau.specs.Claims.{Checker, Demand3, hasLetter, closesBranch, linesOf, countIf}
+use Rattle.tableau.specs.Cases.{yes′, no′, fileOf, F}
+
+-- "One that says no to all, or gives 15, 16 or 17 to all": one number and line for every file
+abbrev pub noToAll : ℕ → ℕ → Checker
+noToAll number line = λ file. no′ number line
+
+-- "One that says yes to all": the same counts for every file
+abbrev pub yesToAll : ℕ → ℕ → ℕ → ℕ → Checker
+yesToAll t a s c = λ file. yes′ t a s c
+
+-- "One that checks the first step, or the first alternative, and waves on the others": reads up to the first line of a kind, and says
+-- yes where nothing but an open branch stands against it
+unfoldable pub upToFirst : (Option Line → Bool) → List (List ℕ) → List (List ℕ)
+upToFirst f [] = []
+upToFirst f (l ∷ ls) = elim (f (shape l)) [ true ↦ l ∷ [] ∷ [] | false ↦ l ∷ upToFirst f ls ]
+
+unfoldable pub waveOn : Verdict → Reply
+waveOn (accept c) = replyOf (accept c)
+waveOn (refuse r i) = cond (eqb (reasonNumber r) (reasonNumber Reason.BranchOpen)) (yes′ 0 0 0 0) (replyOf (refuse r i))
+
+-- (where there is no such line its reply is right)
+unfoldable pub firstOnly : (Option Line → Bool) → Checker
+firstOnly f file = elim (eqb (countIf f (linesOf file)) 0) [ true ↦ reply file | false ↦ waveOn (runLines (upToFirst f (split LF file)) 0 (passed start)) ]
+
+abbrev pub firstStepOnly : Checker
+firstStepOnly = firstOnly (hasLetter Letter.S)
+
+abbrev pub firstAlternativeOnly : Checker
+firstAlternativeOnly = firstOnly closesBranch
+
+-- "One that invents step or closing counts": right but for n steps or closings too many
+abbrev pub addSteps : ℕ → Reply → Reply
+addSteps n r = record { isYes = r .isYes; number = r .number; line = r .line; terms = r .terms; assumptions = r .assumptions; steps = n + r .steps; closings = r .closings }
+
+abbrev pub addClosings : ℕ → Reply → Reply
+addClosings n r = record { isYes = r .isYes; number = r .number; line = r .line; terms = r .terms; assumptions = r .assumptions; steps = r .steps; closings = n + r .closings }
+
+abbrev pub inventedSteps : ℕ → Checker
+inventedSteps n = λ file. addSteps n (reply file)
+
+abbrev pub inventedClosings : ℕ → Checker
+inventedClosings n = λ file. addClosings n (reply file)
+
+-- a checker's reply to a file is not the one that the second demand asks for
+abbrev pub Breaks2At : Checker → List ℕ → Type 0
+Breaks2At checker file = ¬ (checker file ≡ reply file)
+
+-- Each sham breaks the demand that document 01 says it breaks.
+pub record ShamsFallShort : Type 0 where
+  pub no-to-all : (number line : ℕ) → Breaks2At (noToAll number line) (fileOf F)
+  pub yes-to-all : (t a s c : ℕ) → ¬ Demand3 (yesToAll t a s c)
+  pub yes-to-no-bytes : (t a s c : ℕ) → Breaks2At (yesToAll t a s c) []
+  pub first-step : ¬ Demand3 firstStepOnly
+  pub first-alternative : ¬ Demand3 firstAlternativeOnly
+  pub invented-steps : (n : ℕ) → Breaks2At (inventedSteps (suc n)) (fileOf F)
+  pub invented-closings : (n : ℕ) → Breaks2At (inventedClosings (suc n)) (fileOf F)

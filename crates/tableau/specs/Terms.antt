@@ -1,0 +1,233 @@
+-- 'T lines' and 'A lines': sorts, words and the arguments they take, terms and their table, literals.
+use mathlib.Core.Bool.{Bool, true, false, _&&_, _||_}
+use mathlib.Core.List.{List, [], _∷_}
+use mathlib.Core.Option.{Option, none, some}
+use Prim.Native.Nat.{ℕ, zero, suc}
+use lib.Dec.{eqb}
+use Rattle.tableau.specs.declared.Sort.{Sort}
+use Rattle.tableau.specs.declared.Operator.{Operator}
+use Rattle.tableau.specs.declared.Word.{Word}
+use Rattle.tableau.specs.declared.Relation.{Relation}
+use Rattle.tableau.specs.Basics.{Four, four, every, Named, _↣_}
+
+-- "Places, term numbers and names are three separate kinds of count throughout."
+abbrev pub Place : Type 0
+Place = ℕ
+
+abbrev pub TermNo : Type 0
+TermNo = ℕ
+
+abbrev pub Name : Type 0
+Name = ℕ
+
+-- What a field of a line holds: nothing, a place, a name, a side (of `rep`), a term of any sort, a term of one sort.
+pub data Use : Type 0 where
+  unused place name side term : Use
+  of : Sort → Use
+
+-- THE WORDS OF T LINES, a row for each: its sort and its arguments, "from field 3 on, in the order given".
+unfoldable pub words : List (Named Word)
+words =
+    ("nul" ↣ Word.Operation Operator.Nul) ∷
+    ("rfv" ↣ Word.Variable Sort.Reference) ∷
+    ("rea" ↣ Word.Operation Operator.Rea) ∷
+    ("emp" ↣ Word.Operation Operator.Emp) ∷
+    ("all" ↣ Word.Operation Operator.All) ∷
+    ("rgv" ↣ Word.Variable Sort.Region) ∷
+    ("cup" ↣ Word.Operation Operator.Cup) ∷
+    ("cap" ↣ Word.Operation Operator.Cap) ∷
+    ("dif" ↣ Word.Operation Operator.Dif) ∷
+    ("sin" ↣ Word.Operation Operator.Sin) ∷
+    ("img" ↣ Word.Operation Operator.Img) ∷
+    ("arv" ↣ Word.Variable Sort.Heap) ∷
+    ("wri" ↣ Word.Operation Operator.Wri) ∷
+    ("fnv" ↣ Word.Variable Sort.Field) ∷
+    ("clv" ↣ Word.Variable Sort.Class) ∷
+    ("typ" ↣ Word.Operation Operator.Typ) ∷
+    ("dty" ↣ Word.Operation Operator.Dty) ∷
+    []
+
+unfoldable pub result : Operator → Sort
+result Operator.Nul = Sort.Reference
+result Operator.Rea = Sort.Reference
+result Operator.Emp = Sort.Region
+result Operator.All = Sort.Region
+result Operator.Cup = Sort.Region
+result Operator.Cap = Sort.Region
+result Operator.Dif = Sort.Region
+result Operator.Sin = Sort.Region
+result Operator.Img = Sort.Region
+result Operator.Wri = Sort.Heap
+result Operator.Typ = Sort.Class
+result Operator.Dty = Sort.Class
+
+unfoldable pub arguments : Operator → Four Use
+arguments Operator.Nul = four unused unused unused unused
+arguments Operator.Rea = four (of Sort.Heap) (of Sort.Reference) (of Sort.Field) unused
+arguments Operator.Emp = four unused unused unused unused
+arguments Operator.All = four unused unused unused unused
+arguments Operator.Cup = four (of Sort.Region) (of Sort.Region) unused unused
+arguments Operator.Cap = four (of Sort.Region) (of Sort.Region) unused unused
+arguments Operator.Dif = four (of Sort.Region) (of Sort.Region) unused unused
+arguments Operator.Sin = four (of Sort.Reference) unused unused unused
+arguments Operator.Img = four (of Sort.Heap) (of Sort.Region) (of Sort.Field) unused
+arguments Operator.Wri = four (of Sort.Heap) (of Sort.Reference) (of Sort.Field) (of Sort.Reference)
+arguments Operator.Typ = four (of Sort.Reference) unused unused unused
+arguments Operator.Dty = four (of Sort.Field) unused unused unused
+
+-- a variable's one argument is its name
+abbrev pub wordFields : Word → Four Use
+wordFields (Word.Variable s) = four name unused unused unused
+wordFields (Word.Operation o) = arguments o
+
+-- A term: "a variable is an `rfv`, `rgv`, `arv`, `fnv` or `clv` with its name"; else an operator with fields 3 to 6, numbers of terms.
+pub data Term : Type 0 where
+  variable : Sort → Name → Term
+  apply : Operator → Four TermNo → Term
+
+abbrev pub sortOf : Term → Sort
+unfolding result
+sortOf (variable s n) = s
+sortOf (apply o k) = result o
+
+-- the term that a T line writes
+abbrev pub written : Word → Four ℕ → Term
+written (Word.Variable s) n = variable s (n .a)
+written (Word.Operation o) n = apply o n
+
+-- Tests of equality, by the places in the lists above.
+unfoldable pub sortIndex : Sort → ℕ
+sortIndex Sort.Reference = 0
+sortIndex Sort.Region = 1
+sortIndex Sort.Heap = 2
+sortIndex Sort.Field = 3
+sortIndex Sort.Class = 4
+
+unfoldable pub operatorIndex : Operator → ℕ
+operatorIndex Operator.Nul = 0
+operatorIndex Operator.Rea = 1
+operatorIndex Operator.Emp = 2
+operatorIndex Operator.All = 3
+operatorIndex Operator.Cup = 4
+operatorIndex Operator.Cap = 5
+operatorIndex Operator.Dif = 6
+operatorIndex Operator.Sin = 7
+operatorIndex Operator.Img = 8
+operatorIndex Operator.Wri = 9
+operatorIndex Operator.Typ = 10
+operatorIndex Operator.Dty = 11
+
+unfoldable pub relationIndex : Relation → ℕ
+relationIndex Relation.In = 0
+relationIndex Relation.Ni = 1
+relationIndex Relation.Eq = 2
+relationIndex Relation.Ne = 3
+relationIndex Relation.Le = 4
+relationIndex Relation.Nl = 5
+
+abbrev pub sameSort : Sort → Sort → Bool
+sameSort s s′ = eqb (sortIndex s) (sortIndex s′)
+
+abbrev pub sameOperator : Operator → Operator → Bool
+sameOperator o o′ = eqb (operatorIndex o) (operatorIndex o′)
+
+abbrev pub sameRelation : Relation → Relation → Bool
+sameRelation R R′ = eqb (relationIndex R) (relationIndex R′)
+
+abbrev pub sameTerm : Term → Term → Bool
+sameTerm (variable s n) (variable s′ n′) = sameSort s s′ && eqb n n′
+sameTerm (variable s n) (apply o k) = false
+sameTerm (apply o k) (variable s n) = false
+sameTerm (apply o k) (apply o′ k′) = sameOperator o o′ && every eqb k k′
+
+-- THE TERM TABLE: "terms numbered from 1, at most 600".
+abbrev pub Table : Type 0
+Table = List Term
+
+abbrev pub maxTerms : ℕ
+maxTerms = 600
+
+-- term n; a number that no term has is read as `nul`, and never asked
+abbrev pub noTerm : Term
+noTerm = apply Operator.Nul (four 0 0 0 0)
+
+abbrev pub at : Table → TermNo → Term
+at [] n = noTerm
+at (e ∷ es) zero = noTerm
+at (e ∷ es) (suc zero) = e
+at (e ∷ es) (suc (suc n)) = at es (suc n)
+
+-- "No term is written twice, so equal terms have equal numbers": the number of a term, if it stands in the table
+unfoldable pub numberFrom : ℕ → Table → Term → Option TermNo
+numberFrom i [] e = none
+numberFrom i (x ∷ xs) e = elim (sameTerm e x) [ true ↦ some i | false ↦ numberFrom (suc i) xs e ]
+
+abbrev pub numberOf : Table → Term → Option TermNo
+numberOf = numberFrom 1
+
+-- the first where the field is a term, else the second
+abbrev pub ifTerm : {A : Type 0} → Use → A → A → A
+ifTerm unused x z = z
+ifTerm place x z = z
+ifTerm name x z = z
+ifTerm side x z = z
+ifTerm term x z = x
+ifTerm (of s) x z = x
+
+-- A fold over a table: what a variable gives, and what an operator gives from what its arguments gave (z for an unused field).
+-- "Arguments are earlier terms", so term t needs depth t.
+module _ {A : Type 0} (onVariable : TermNo → Sort → Name → A) (onApply : TermNo → Operator → Four A → A) (z : A) (table : TermNo → Term) where
+  unfoldable pub layer : TermNo → Term → (TermNo → A) → A
+  layer t (variable s n) below = onVariable t s n
+  layer t (apply o k) below = onApply t o
+      (four (ifTerm (arguments o .a) (below (k .a)) z) (ifTerm (arguments o .b) (below (k .b)) z) (ifTerm (arguments o .c) (below (k .c)) z) (ifTerm (arguments o .d) (below (k .d)) z))
+
+  unfoldable pub toDepth : ℕ → TermNo → A
+  toDepth zero t = z
+  toDepth (suc k) t = layer t (table t) (toDepth k)
+
+  unfoldable pub fold : TermNo → A
+  fold t = toDepth (suc t) t
+
+-- does the term w stand in the term t, as the whole or inside?
+unfoldable pub mentions : (TermNo → Term) → TermNo → TermNo → Bool
+mentions table w = fold (λ t s n. eqb t w) (λ t o m. eqb t w || (m .a || (m .b || (m .c || m .d)))) false table
+
+-- LITERALS: "a word and two terms".
+pub data Literal : Type 0 where
+  literal : Relation → TermNo → TermNo → Literal
+
+unfoldable pub relations : List (Named Relation)
+relations =
+    ("in" ↣ Relation.In) ∷
+    ("ni" ↣ Relation.Ni) ∷
+    ("eq" ↣ Relation.Eq) ∷
+    ("ne" ↣ Relation.Ne) ∷
+    ("le" ↣ Relation.Le) ∷
+    ("nl" ↣ Relation.Nl) ∷
+    []
+
+-- "`in`, `ni` (reference, region); `eq`, `ne` (both of one sort, any); `le`, `nl` (classes)"
+unfoldable pub sides : Relation → Four Use
+sides Relation.In = four (of Sort.Reference) (of Sort.Region) unused unused
+sides Relation.Ni = four (of Sort.Reference) (of Sort.Region) unused unused
+sides Relation.Eq = four term term unused unused
+sides Relation.Ne = four term term unused unused
+sides Relation.Le = four (of Sort.Class) (of Sort.Class) unused unused
+sides Relation.Nl = four (of Sort.Class) (of Sort.Class) unused unused
+
+unfoldable pub oneSort : Relation → Sort → Sort → Bool
+oneSort Relation.In s s′ = true
+oneSort Relation.Ni s s′ = true
+oneSort Relation.Eq s s′ = sameSort s s′
+oneSort Relation.Ne s s′ = sameSort s s′
+oneSort Relation.Le s s′ = true
+oneSort Relation.Nl s s′ = true
+
+-- does the literal, or any of several, mention w?
+abbrev pub mentionedIn : (TermNo → Term) → TermNo → Literal → Bool
+mentionedIn table w (literal R m n) = mentions table w m || mentions table w n
+
+unfoldable pub mentioned : (TermNo → Term) → TermNo → List Literal → Bool
+mentioned table w [] = false
+mentioned table w (l ∷ ls) = mentionedIn table w l || mentioned table w ls

@@ -1,0 +1,113 @@
+// The words of document 01, in its order. The specification in specs/ gives them their meaning; code above this crate uses the same types.
+
+// "Field 1 is one of the letters T, A, S."
+pub enum Letter {
+    T,
+    A,
+    S,
+}
+
+// The sorts of terms.
+pub enum Sort {
+    Reference,
+    Region,
+    Heap,
+    Field,
+    Class,
+}
+
+// The words whose arguments are terms.
+pub enum Operator {
+    Nul,
+    Rea,
+    Emp,
+    All,
+    Cup,
+    Cap,
+    Dif,
+    Sin,
+    Img,
+    Wri,
+    Typ,
+    Dty,
+}
+
+// A word of a T line: rfv, rgv, arv, fnv and clv make the variables, one word for each sort; the others are operators.
+pub enum Word {
+    Variable(Sort),
+    Operation(Operator),
+}
+
+// The words of A lines.
+pub enum Relation {
+    In,
+    Ni,
+    Eq,
+    Ne,
+    Le,
+    Nl,
+}
+
+// The words of S lines: the thirty rules.
+pub enum Rule {
+    Eqr,
+    Eql,
+    Ext,
+    Fir,
+    Cpe,
+    Cpi,
+    Cue,
+    Cui,
+    Dfe,
+    Dfi,
+    Sge,
+    Sgi,
+    Cut,
+    All,
+    Nul,
+    Sep,
+    Img,
+    Wit,
+    Ref,
+    Sym,
+    Trn,
+    Sub,
+    Rep,
+    Ler,
+    Let,
+    Lea,
+    Rdh,
+    Rdm,
+    Cls,
+    Emp,
+}
+
+// Why a file is refused, in the order of the refusal numbers 1 to 18.
+pub enum Reason {
+    TooLong,
+    BadShape,
+    LetterOrder,
+    UnknownWord,
+    TreeClosed,
+    UnusedField,
+    TooManyTerms,
+    NoSuchTerm,
+    WrongSort,
+    TermRepeated,
+    NoSuchPlace,
+    NeedNotMet,
+    NotFresh,
+    TermNotMade,
+    BranchFull,
+    WaitingFull,
+    BranchOpen,
+    BufferLength,
+}
+
+// "Places, term numbers and names are three separate kinds of count throughout": a place on the branch, the number of a term, the name of
+// a variable. Places and term numbers count from 1.
+pub struct Place(pub usize);
+
+pub struct TermNumber(pub usize);
+
+pub struct Name(pub usize);
