@@ -1,7 +1,7 @@
 -- The replies that document 01 marks, and those to the files of the old checker's failings, by computation.
 use mathlib.Core.Path.{refl}
 use mathlib.Core.List.{[], _∷_}
-use Rattle.tableau.specs.Cases.{cases, AllReplies, _⊢_, yes′}
+use Rattle.tableau.specs.Cases.{cases, AllReplies, _⊢_}
 use Rattle.tableau.specs.Failings.{incident, incidentMended, staleWitness, namesCompared, literalsKept, outsideAll, failings}
 use Rattle.tableau.proofs.Evaluate.{evaluate}
 
@@ -15,6 +15,6 @@ pub failings-refused : AllReplies failings
 unfolding AllReplies failings incident staleWitness namesCompared literalsKept outsideAll evaluate
 failings-refused = refl
 
-pub mended-accepted : AllReplies ((incidentMended ⊢ yes′ 9 4 4 3) ∷ [])
+pub mended-accepted : AllReplies ((incidentMended ⊢ "yes,0,0,9,4,4,3") ∷ [])
 unfolding AllReplies incidentMended evaluate
 mended-accepted = refl

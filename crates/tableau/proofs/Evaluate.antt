@@ -7,9 +7,9 @@ use Rattle.tableau.specs.Terms.{words, result, arguments, sortIndex, ope
 use Rattle.tableau.specs.Rules.{rule, ruleFields, ruleNames}
 use Rattle.tableau.specs.Steps.{fits, fitsLiteral, met, made, madeLiterals, madeAlternatives, isFresh, takesTerms, concludeSub, concludeRep, concludeRows, conclude}
 use Rattle.tableau.specs.Tree.{roomOnBranch, roomToWait, close, grow, step}
-use Rattle.tableau.specs.Reply.{reasonNumber, commandOf, rank, effect, runCommand, runLine, runLines, verdict, Reply, replyOf, reply}
+use Rattle.tableau.specs.Reply.{reasonNumber, commandOf, rank, effect, runCommand, runLine, runLines, verdict, Reply, replyOf, reply, decimalFrom, commaNumbers, yesOrNo, replyLine}
 use Rattle.tableau.specs.Cases.{fileOf}
 
 unfoldable pub evaluate : List ℕ → Reply
-unfolding fileOf bytes sameBytes lookup split letters allSmall digits number sixFields words result arguments sortIndex operatorIndex relationIndex numberFrom layer toDepth fold mentions relations sides oneSort mentioned rule ruleFields ruleNames fits fitsLiteral met made madeLiterals madeAlternatives isFresh takesTerms concludeSub concludeRep concludeRows conclude roomOnBranch roomToWait close grow step reasonNumber commandOf rank effect runCommand runLine runLines verdict replyOf reply
+unfolding fileOf bytes sameBytes lookup split letters allSmall digits number sixFields words result arguments sortIndex operatorIndex relationIndex numberFrom layer toDepth fold mentions relations sides oneSort mentioned rule ruleFields ruleNames fits fitsLiteral met made madeLiterals madeAlternatives isFresh takesTerms concludeSub concludeRep concludeRows conclude roomOnBranch roomToWait close grow step reasonNumber commandOf rank effect runCommand runLine runLines verdict replyOf reply decimalFrom commaNumbers yesOrNo replyLine
 evaluate = reply

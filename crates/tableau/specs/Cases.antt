@@ -1,13 +1,12 @@
 -- 'Two files and their neighbours': the cases marked ◆, as one list.
 use mathlib.Core.Path.{_≡_}
-use mathlib.Core.Bool.{true, false}
 use mathlib.Core.List.{List, [], _∷_, _++_, map}
 use Prim.Native.Nat.{ℕ, zero, suc}
 use Prim.Native.String.{String}
 use lib.ListN.{take, set}
 use Rattle.tableau.specs.Basics.{bytes}
 use Rattle.tableau.specs.File.{LF}
-use Rattle.tableau.specs.Reply.{Reply, reply}
+use Rattle.tableau.specs.Reply.{reply, replyLine}
 
 -- lines, "one to a line", as the bytes of a file
 unfoldable pub fileOf : List String → List ℕ
@@ -18,12 +17,6 @@ fileOf (l ∷ ls) = bytes l ++ (LF ∷ fileOf ls)
 abbrev pub withLine : ℕ → String → List String → List String
 withLine zero l ls = ls
 withLine (suc n) l ls = set ls n l
-
-abbrev pub yes′ : ℕ → ℕ → ℕ → ℕ → Reply
-yes′ t a s c = record { isYes = true; number = 0; line = 0; terms = t; assumptions = a; steps = s; closings = c }
-
-abbrev pub no′ : ℕ → ℕ → Reply
-no′ n i = record { isYes = false; number = n; line = i; terms = 0; assumptions = 0; steps = 0; closings = 0 }
 
 unfoldable pub F : List String
 F =
@@ -49,33 +42,34 @@ G = take 3 F ++ (
     "S,cls,4,3,0,0" ∷
     [])
 
+-- A file, by its lines, and its reply line.
 pub record Case : Type 0 where
   pub file : List String
-  pub says : Reply
+  pub says : String
 
 infix 3 _⊢_
-abbrev pub _⊢_ : List String → Reply → Case
+abbrev pub _⊢_ : List String → String → Case
 f ⊢ r = record { file = f; says = r }
 
 -- THE CASES MARKED ◆, in the order of document 01
 unfoldable pub cases : List Case
 unfolding F G
 cases =
-    (F ⊢ yes′ 4 2 2 1) ∷
-    (G ⊢ yes′ 4 3 3 2) ∷
-    (take 9 G ⊢ no′ 17 10) ∷
-    ([] ⊢ no′ 17 1) ∷
-    (take 7 F ⊢ no′ 17 8) ∷
-    (F ++ ("S,cls,3,2,0,0" ∷ []) ⊢ no′ 5 9) ∷
-    (withLine 8 "S,cls,2,3,0,0" F ⊢ no′ 12 8) ∷
-    (withLine 7 "S,cpe,3,0,0,0" F ⊢ no′ 11 7) ∷
-    (withLine 7 "S,cpe,2,0,0,0" F ⊢ no′ 12 7) ∷
-    (withLine 4 "T,cap,2,4,0,0" F ⊢ no′ 8 4) ∷
-    (withLine 4 "T,cap,2,1,0,0" F ⊢ no′ 9 4) ∷
-    (withLine 3 "T,rgv,1,0,0,0" F ⊢ no′ 10 3) ∷
-    (withLine 1 "T,rfv,01,0,0,0" F ⊢ no′ 2 1) ∷
+    (F ⊢ "yes,0,0,4,2,2,1") ∷
+    (G ⊢ "yes,0,0,4,3,3,2") ∷
+    (take 9 G ⊢ "no,17,10,0,0,0,0") ∷
+    ([] ⊢ "no,17,1,0,0,0,0") ∷
+    (take 7 F ⊢ "no,17,8,0,0,0,0") ∷
+    (F ++ ("S,cls,3,2,0,0" ∷ []) ⊢ "no,5,9,0,0,0,0") ∷
+    (withLine 8 "S,cls,2,3,0,0" F ⊢ "no,12,8,0,0,0,0") ∷
+    (withLine 7 "S,cpe,3,0,0,0" F ⊢ "no,11,7,0,0,0,0") ∷
+    (withLine 7 "S,cpe,2,0,0,0" F ⊢ "no,12,7,0,0,0,0") ∷
+    (withLine 4 "T,cap,2,4,0,0" F ⊢ "no,8,4,0,0,0,0") ∷
+    (withLine 4 "T,cap,2,1,0,0" F ⊢ "no,9,4,0,0,0,0") ∷
+    (withLine 3 "T,rgv,1,0,0,0" F ⊢ "no,10,3,0,0,0,0") ∷
+    (withLine 1 "T,rfv,01,0,0,0" F ⊢ "no,2,1,0,0,0,0") ∷
     []
 
--- each file gets the reply beside it
+-- each file gets the reply line beside it
 unfoldable pub AllReplies : List Case → Type 0
-AllReplies cs = map (λ (c : Case). reply (fileOf (c .file))) cs ≡ map (λ (c : Case). c .says) cs
+AllReplies cs = map (λ (c : Case). replyLine (reply (fileOf (c .file)))) cs ≡ map (λ (c : Case). fileOf (c .says ∷ [])) cs

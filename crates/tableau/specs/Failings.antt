@@ -3,7 +3,7 @@ use mathlib.Core.List.{List, [], _∷_, _++_}
 use Prim.Native.String.{String}
 use lib.ListN.{take}
 use Rattle.tableau.specs.Claims.{Model}
-use Rattle.tableau.specs.Cases.{fileOf, Case, _⊢_, no′}
+use Rattle.tableau.specs.Cases.{fileOf, Case, _⊢_}
 
 -- THE INCIDENT: "Taking two of the three `img` alternatives as enough."
 -- The receiver u is one of the routine's objects r, and reads its last-jog record, rea(h,u,f), from its field f. Assumed: u may have that
@@ -97,11 +97,11 @@ outsideAll =
 
 unfoldable pub failings : List Case
 failings =
-    (incident ⊢ no′ 12 15) ∷
-    (staleWitness ⊢ no′ 13 12) ∷
-    (namesCompared ⊢ no′ 12 7) ∷
-    (literalsKept ⊢ no′ 12 9) ∷
-    (outsideAll ⊢ no′ 12 6) ∷
+    (incident ⊢ "no,12,15,0,0,0,0") ∷
+    (staleWitness ⊢ "no,13,12,0,0,0,0") ∷
+    (namesCompared ⊢ "no,12,7,0,0,0,0") ∷
+    (literalsKept ⊢ "no,12,9,0,0,0,0") ∷
+    (outsideAll ⊢ "no,12,6,0,0,0,0") ∷
     []
 
 -- a heap and values make the assumptions of each file true, so that a yes would have been wrong

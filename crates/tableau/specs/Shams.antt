@@ -11,7 +11,13 @@ use Rattle.tableau.specs.File.{Line, shape, split, LF}
 use Rattle.tableau.specs.Tree.{passed}
 use Rattle.tableau.specs.Reply.{Reply, Verdict, accept, refuse, reasonNumber, replyOf, reply, runLines, start}
 use Rattle.tableau.specs.Claims.{Checker, Demand3, hasLetter, closesBranch, linesOf, countIf}
-use Rattle.tableau.specs.Cases.{yes′, no′, fileOf, F}
+use Rattle.tableau.specs.Cases.{fileOf, F}
+
+abbrev pub yes′ : ℕ → ℕ → ℕ → ℕ → Reply
+yes′ t a s c = record { isYes = true; number = 0; line = 0; terms = t; assumptions = a; steps = s; closings = c }
+
+abbrev pub no′ : ℕ → ℕ → Reply
+no′ n i = record { isYes = false; number = n; line = i; terms = 0; assumptions = 0; steps = 0; closings = 0 }
 
 -- "One that says no to all, or gives 15, 16 or 17 to all": one number and line for every file
 abbrev pub noToAll : ℕ → ℕ → Checker
