@@ -1,0 +1,4 @@
+pub mod Arrays
+pub mod Branch
+pub mod Waiting
+pub mod Outcomes

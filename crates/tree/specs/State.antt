@@ -1,0 +1,84 @@
+-- What the arrays of the tree state hold. A literal is a number here, its code; the definitions are for any reading f of the codes.
+use mathlib.Core.Path.{_≡_}
+use mathlib.Core.Bool.{Bool}
+use mathlib.Core.List.{List, [], _∷_, _++_, map}
+use mathlib.Core.Option.{some}
+use Prim.Native.Nat.{ℕ, zero, suc, _+_, _*_, _/_, _%_, _^_, _≤_, _<_}
+use lib.ListN.{length, take, getD}
+use Rattle.tableau.specs.Terms.{Literal, place}
+use Rattle.tableau.specs.Tree as specification
+use Rattle.tableau.specs.Tree.{literalAt, onBranch, maxPlaces, maxWaiting, Waiting}
+use Rattle.tree.specs.declared.Alternative.{Alternative}
+use Rattle.tree.specs.declared.Tree.{Tree}
+
+-- every code is below this
+abbrev pub codeLimit : ℕ
+codeLimit = 2 ^ 23
+
+-- ALTERNATIVES: the codes that one adds, in order.
+abbrev pub codesOf : Alternative → List ℕ
+codesOf a = take (a .count) (a .first ∷ a .second ∷ a .third ∷ [])
+
+-- at most n codes
+pub record Holds (n : ℕ) (a : Alternative) : Type 0 where
+  pub count : a .count ≤ n
+  pub first : a .first < codeLimit
+  pub second : a .second < codeLimit
+  pub third : a .third < codeLimit
+
+-- An alternative that waits is one number: the length of the branch at its split (10 bits), its count (2 bits), two codes.
+abbrev pub packed : ℕ → Alternative → ℕ
+packed cut a = cut + 2 ^ 10 * (a .count + 2 ^ 2 * (a .first + 2 ^ 23 * a .second))
+
+abbrev pub cutOf : ℕ → ℕ
+cutOf w = w % 2 ^ 10
+
+abbrev pub unpacked : ℕ → Alternative
+unpacked w = record {
+  count = w / 2 ^ 10 % 2 ^ 2;
+  first = w / 2 ^ 10 / 2 ^ 2 % 2 ^ 23;
+  second = w / 2 ^ 10 / 2 ^ 2 / 2 ^ 23 % 2 ^ 23;
+  third = 0;
+}
+
+-- THE BRANCH: an array whose first n numbers are its codes.
+pub record IsBranch (array : List ℕ) (n : ℕ) : Type 0 where
+  pub size : length array ≡ maxPlaces
+  pub room : n ≤ maxPlaces
+  pub bounded : (k : ℕ) → getD array k 0 < codeLimit
+
+-- r is what check 11 says of place p, on every branch of n literals
+abbrev pub HasPlace : ℕ → ℕ → Bool → Type 0
+HasPlace n p r = (B : List Literal) → length B ≡ n → r ≡ onBranch B place p
+
+-- r is the code at place p
+pub record IsAt (array : List ℕ) (n p r : ℕ) : Type 0 where
+  pub bounded : r < codeLimit
+  pub literal : (f : ℕ → Literal) → literalAt (map f (take n array)) p ≡ some (f r)
+
+-- more codes behind the first n, and the new length
+pub record Appended (array : List ℕ) (n : ℕ) (more : List ℕ) (array′ : List ℕ) (n′ : ℕ) : Type 0 where
+  pub count : n′ ≡ n + length more
+  pub branch : IsBranch array′ n′
+  pub codes : take n′ array′ ≡ take n array ++ more
+
+-- WHAT WAITS: an array whose first n numbers are packed alternatives, each of which the branch has room for. The last is taken next.
+pub record IsStack (array : List ℕ) (n : ℕ) : Type 0 where
+  pub size : length array ≡ maxWaiting
+  pub room : n ≤ maxWaiting
+  pub places : (k : ℕ) → cutOf (getD array k 0) + unpacked (getD array k 0) .count ≤ maxPlaces
+
+abbrev pub waitingOf : (ℕ → Literal) → ℕ → Waiting
+waitingOf f w = record { length = cutOf w; alternative = map f (codesOf (unpacked w)) }
+
+abbrev pub stackOf : (ℕ → Literal) → List ℕ → ℕ → List Waiting
+stackOf f array zero = []
+stackOf f array (suc n) = waitingOf f (getD array n 0) ∷ stackOf f array n
+
+-- THE TREE that a state stands for, and what every method requires and ensures of a state.
+abbrev pub treeOf : (ℕ → Literal) → Tree → specification.Tree
+treeOf f t = record { branch = map f (take (t .len) (t .branch)); waiting = stackOf f (t .waiting) (t .count) }
+
+pub record Within (t : Tree) : Type 0 where
+  pub branch : IsBranch (t .branch) (t .len)
+  pub waiting : IsStack (t .waiting) (t .count)
