@@ -9,7 +9,7 @@ use Rattle.tableau.specs.Terms.{TermNo, Name, Term, variable, apply, Use
 use Rattle.tableau.proofs.WellFormed.{OkArgument, OkTerm, WellFormed}
 
 -- two functions that agree below t agree at the arguments of term t
-argument-same : {A : Type 0} {f f′ : TermNo → A} (z : A) (table : TermNo → Term) (t : TermNo) (k : Use) (n : ℕ) → OkArgument table t k n
+pub argument-same : {A : Type 0} {f f′ : TermNo → A} (z : A) (table : TermNo → Term) (t : TermNo) (k : Use) (n : ℕ) → OkArgument table t k n
     → ((m : ℕ) → m < t → f m ≡ f′ m) → ifTerm k (f n) z ≡ ifTerm k (f′ n) z
 argument-same z table t unused n ok e = refl
 argument-same z table t place n ok e = refl

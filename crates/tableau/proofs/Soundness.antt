@@ -38,7 +38,7 @@ argument-ok table (of x) n h s =
     let l : n ≤ length table = leb-true n (length table) (both-true (leb 1 n) _ h .1) in
     (omega arith, sym (same-sort x (sortOf (at table n)) s))
 
-term-ok : (table : Table) (w : Word) (n : Four ℕ) → every (termOrName table) (wordFields w) n ≡ true → every (ofSort table) (wordFields w) n ≡ true
+pub term-ok : (table : Table) (w : Word) (n : Four ℕ) → every (termOrName table) (wordFields w) n ≡ true → every (ofSort table) (wordFields w) n ≡ true
     → OkTerm (at table) (suc (length table)) (written w n)
 term-ok table (Word.Variable s) n h k = tt
 term-ok table (Word.Operation o) n h k =
@@ -50,7 +50,7 @@ term-ok table (Word.Operation o) n h k =
       argument-ok table (arguments o .d) (n .d) (a .3) (b .3),
     )
 
-is-none : {A : Type 0} (m : Option A) → isSome m ≡ false → m ≡ none
+pub is-none : {A : Type 0} (m : Option A) → isSome m ≡ false → m ≡ none
 is-none none e = refl
 is-none (some x) e = absurd (true≢false e)
 

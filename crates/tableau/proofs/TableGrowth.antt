@@ -16,7 +16,7 @@ use Rattle.tableau.proofs.Bools.{dec, clash, eqb-same, none≢some, bot
 use Rattle.tableau.proofs.WellFormed.{OkArgument, OkTerm, WellFormed}
 
 -- the table with one term more
-at-snoc : (table : Table) (e : Term) (t : TermNo) → at (table ++ (e ∷ [])) t ≡ cond (eqb t (suc (length table))) e (at table t)
+pub at-snoc : (table : Table) (e : Term) (t : TermNo) → at (table ++ (e ∷ [])) t ≡ cond (eqb t (suc (length table))) e (at table t)
 at-snoc [] e zero = refl
 at-snoc [] e (suc zero) = refl
 at-snoc [] e (suc (suc n)) = sym (ap (λ b. cond b e noTerm) (eqb·suc-suc (suc n) 0 ∙ eqb·suc-zero n))
@@ -24,17 +24,17 @@ at-snoc (x ∷ xs) e zero = sym (ap (λ b. cond b e noTerm) (eqb·zero-suc (suc 
 at-snoc (x ∷ xs) e (suc zero) = sym (ap (λ b. cond b e x) (eqb·suc-suc 0 (suc (length xs)) ∙ eqb·zero-suc (length xs)))
 at-snoc (x ∷ xs) e (suc (suc n)) = at-snoc xs e (suc n) ∙ ap (λ b. cond b e (at xs (suc n))) (sym (eqb·suc-suc (suc n) (suc (length xs))))
 
-at-zero : (table : Table) → at table 0 ≡ noTerm
+pub at-zero : (table : Table) → at table 0 ≡ noTerm
 at-zero [] = refl
 at-zero (x ∷ xs) = refl
 
-at-beyond : (table : Table) (t : TermNo) → length table < t → at table t ≡ noTerm
+pub at-beyond : (table : Table) (t : TermNo) → length table < t → at table t ≡ noTerm
 at-beyond [] t h = refl
 at-beyond (x ∷ xs) zero h = refl
 at-beyond (x ∷ xs) (suc zero) h = absurd (omega arith)
 at-beyond (x ∷ xs) (suc (suc n)) h = at-beyond xs (suc n) (omega arith)
 
-same-term-refl : (e : Term) → sameTerm e e ≡ true
+pub same-term-refl : (e : Term) → sameTerm e e ≡ true
 same-term-refl (variable s n) = both-i (eqb-same (sortIndex s)) (eqb-same n)
 same-term-refl (apply o k) =
     both-i (eqb-same (operatorIndex o)) (both-i (eqb-same (k .a)) (both-i (eqb-same (k .b)) (both-i (eqb-same (k .c)) (eqb-same (k .d)))))

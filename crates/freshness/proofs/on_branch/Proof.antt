@@ -1,0 +1,91 @@
+-- `on_branch` says whether a literal among the first len mentions w: none of those passed does.
+use mathlib.Core.Path.{_≡_, refl, sym, _∙_, ap}
+use mathlib.Core.Bool.{false, true, _||_}
+use mathlib.Core.List.{map}
+use Prim.Native.Nat.{_≤_, _-_, _+_, suc}
+use native.Mathlib.Omega.{arith}
+use native.Mathlib.Numerals.{add-one}
+use lib.ListN.{length, take, getD}
+use borrow.Author.Needs.{needs}
+use Rattle.tableau.specs.Terms.{Table, at, mentioned}
+use Rattle.terms.specs.Packing.{unpackLiteral}
+use Rattle.terms.specs.Holds.{Uses}
+use Rattle.freshness.proofs.Laws.{mentioned-one-more, mentioned-part}
+use Rattle.freshness.proofs.on_branch.Statement.{statement}
+use Rattle.freshness.proofs.on_branch.Tie as tie
+use Rattle.freshness.proofs.on_branch.Reads as reads
+use Rattle.freshness.proofs.on_branch.Lts as lts
+use Rattle.freshness.proofs.in_literal.Reads as in-literal-reads
+
+abbrev Inv-loop : tie.InvT-loop
+Inv-loop uses n branch len w i₀ i = (i ≤ len) × ((table : Table) → Uses table uses → length table ≡ n
+    → mentioned (at table) (w .0) (map unpackLiteral (take i branch)) ≡ false)
+
+abbrev μ-loop : tie.MeasureT-loop
+μ-loop uses n branch len w i₀ i = len - i
+
+-- src/lib.rt:44:5
+loop-holds : tie.Need-loop-holds Inv-loop μ-loop
+unfolding mentioned
+loop-holds c = (omega arith, λ table u e. refl)
+
+-- src/lib.rt:45:32
+mul-in-literal : tie.Need-mul-in-literal Inv-loop μ-loop
+mul-in-literal c = omega arith
+
+-- src/lib.rt:45:32
+element-copy-out-in-literal : tie.Need-element-copy-out-in-literal Inv-loop μ-loop
+element-copy-out-in-literal c = omega arith
+
+-- src/lib.rt:45:12
+in-literal-requires : tie.Need-in-literal-requires Inv-loop μ-loop
+in-literal-requires c κs = search needs
+
+-- src/lib.rt:46:13
+returns : tie.Need-returns Inv-loop μ-loop
+returns c table u e =
+    let g = c .before .before .before .before .before in
+    let i = c .before .before .before .before .loop .i in
+    sym (mentioned-part unpackLiteral (at table) (g .args .w .0) (g .args .branch .now) i (g .args .len) (omega arith) (omega (arith, g .pre))
+    (sym (c .before .in-literal .ensures table u e) ∙ c .if1 .taken))
+
+-- src/lib.rt:48:9
+add-i : tie.Need-add-i Inv-loop μ-loop
+add-i c = omega arith
+
+-- src/lib.rt:44:5
+loop-less : tie.Need-loop-less Inv-loop μ-loop
+loop-less c = omega arith
+
+-- src/lib.rt:44:5
+loop-again : tie.Need-loop-again Inv-loop μ-loop
+loop-again c =
+    let g = c .before .before .before .before .before in
+    let i = c .before .before .before .before .loop .i in (
+      omega arith,
+      λ table u e. rw (add-one i) (mentioned-one-more unpackLiteral (at table) (g .args .w .0) (g .args .branch .now) i (omega (arith, g .pre))
+          ∙ (λ j. c .before .before .before .before .loop .inv .1 table u e j || (sym (c .before .in-literal .ensures table u e) ∙ c .if1 .left) j)),
+    )
+
+-- src/lib.rt:38:1
+returns-2 : tie.Need-returns-2 Inv-loop μ-loop
+returns-2 c table u e =
+    let g = c .before .before in
+    let l : c .before .loop .i ≡ g .args .len = omega arith in
+    sym (rw (sym l) (c .before .loop .inv .1 table u e))
+
+pub on-branch-spec : {M : Type 1} → statement M
+on-branch-spec =
+    tie.close
+    (tie.spec
+    Inv-loop
+    μ-loop
+    loop-holds
+    mul-in-literal
+    element-copy-out-in-literal
+    in-literal-requires
+    returns
+    add-i
+    loop-less
+    loop-again
+    returns-2)

@@ -1,0 +1,62 @@
+-- `sgi` answers what its row says.
+use borrow.Author.Needs.{needs}
+use mathlib.Core.Path.{sym, _∙_, subst}
+use Rattle.tableau.specs.Terms.{at}
+use Rattle.rules.specs.Answer.{SmallView}
+use Rattle.rules.proofs.Laws.{computing, found-at, found-small, found-nothing, is-sin, not-sin}
+use Rattle.rules.proofs.regions.sgi.Statement.{statement}
+use Rattle.rules.proofs.regions.sgi.Tie as tie
+
+enum-known-x : tie.Need-enum-known-x
+enum-known-x c = search needs
+
+-- t is not sin(u)
+returns : tie.Need-returns
+unfolding computing
+returns c =
+    let g = c .before .args in
+    record { room = tt; answers = λ table h fresh. rw (not-sin (at table (g .t .0)) (g .x) (h .1 .is) (c .match .keys2)) }
+
+enum-known-all : tie.Need-enum-known-all
+enum-known-all c = search needs
+
+enum-told : tie.Need-enum-told
+enum-told c = search needs
+
+-- `all` does not stand in the table
+returns-2 : tie.Need-returns-2
+unfolding computing
+returns-2 c =
+    let g = c .before .before .before .before .before .args in
+    let x = c .before .before .before .x .given in
+    record {
+      room = tt;
+      answers = λ table h fresh.
+          let K = is-sin (at table (g .t .0)) _ (h .1 .is ∙ x .1) in
+          rw (K .3, found-nothing (h .2) (c .enum-told .given .1));
+    }
+
+splits-requires : tie.Need-splits-requires
+splits-requires c κs = search needs
+
+-- all is met
+returns-3 : tie.Need-returns-3
+unfolding computing
+returns-3 c =
+    let g = c .before .before .before .before .before .before .before .args in
+    let x = c .before .before .before .before .before .x .given in
+    let f = c .before .before .all .given in
+    record {
+      room = c .splits .ensures .room;
+      answers = λ table h fresh.
+          let K = is-sin (at table (g .t .0)) _ (h .1 .is ∙ x .1) in
+          let su = subst SmallView (x .1) (h .1 .small) in
+          let n = found-at (h .2) (f .1) in
+          let sn = found-small (h .2) (f .1) in
+          rw (K .3, n) (sym (c .splits .ensures .adds ((su, sn), (su, h .0))));
+    }
+
+pub sgi-spec : {M : Type 1} → statement M
+sgi-spec =
+    tie.close
+    (tie.spec enum-known-x returns enum-known-all enum-told returns-2 splits-requires returns-3)

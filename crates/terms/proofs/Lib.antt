@@ -1,0 +1,10 @@
+pub mod PackingLaws
+pub mod NumberLaws
+pub mod ChainLaws
+pub mod EntryLaws
+pub mod BitLaws
+pub mod UsesLaws
+pub mod MentionLaws
+pub mod GrowthLaws
+pub mod LineLaws
+pub mod ViewLaws
