@@ -1,0 +1,167 @@
+-- What the arms of a `let .. else` say of the terms that the rules would add; what is small.
+use mathlib.Core.Path.{_≡_, refl, sym, subst}
+use mathlib.Core.List.{List, [], _∷_}
+use mathlib.Core.Bool.{true}
+use mathlib.Core.Option.{Option, none, some}
+use Prim.Native.Nat.{ℕ, _<_, _≤_}
+use native.Mathlib.Omega.{arith}
+use lib.ListN.{length}
+use borrow.Author.Tests.{le-leb}
+use types.Run.{OneOf}
+use denote.Enum.Declared as Declared
+use Rattle.tableau.specs.declared.Operator.{Operator}
+use Rattle.tableau.specs.declared.Relation.{Relation}
+use Rattle.tableau.specs.Terms.{TermNo, Table, Term, variable, apply, Literal, literal, at, noTerm, numberOf}
+use Rattle.tableau.proofs.TableGrowth.{at-beyond}
+use Rattle.terms.specs.declared.TermView.{TermView}
+use Rattle.terms.specs.declared.LiteralView.{LiteralView}
+use Rattle.terms.specs.Packing.{Packable, viewApply, viewOf, unpackLiteral, PackableLiteral, literalViewAs, literalViewOf}
+use Rattle.terms.specs.Holds.{Entries, foundOf}
+use Rattle.terms.proofs.TermView as term-view
+use Rattle.terms.proofs.ViewLaws.{not-among}
+use Rattle.terms.proofs.PackingLaws.{literal-packable}
+use Rattle.terms.proofs.NumberLaws.{found-in}
+use Rattle.tree.specs.State.{HasPlace}
+use Rattle.rules.specs.Answer.{SmallLiteral, SmallView, SmallFound, dtyOf, reaOf, heapOf, readOn, readUnder}
+
+-- THE KEYS of the other arms
+abbrev pub notRea : List ℕ
+notRea = 0 ∷ 1 ∷ 3 ∷ 4 ∷ 5 ∷ 6 ∷ 7 ∷ 8 ∷ 9 ∷ 10 ∷ 11 ∷ 12 ∷ []
+
+abbrev pub notImg : List ℕ
+notImg = 0 ∷ 1 ∷ 2 ∷ 3 ∷ 4 ∷ 5 ∷ 6 ∷ 7 ∷ 8 ∷ 10 ∷ 11 ∷ 12 ∷ []
+
+abbrev pub notWri : List ℕ
+notWri = 0 ∷ 1 ∷ 2 ∷ 3 ∷ 4 ∷ 5 ∷ 6 ∷ 7 ∷ 8 ∷ 9 ∷ 11 ∷ 12 ∷ []
+
+abbrev pub keyOf : TermView → ℕ
+keyOf x = Declared.tagOf term-view.the-type x
+
+-- x is not img(h,r,f)
+pub dty-other : (x : TermView) → OneOf notImg (keyOf x) → dtyOf x ≡ noTerm
+dty-other (TermView.Variable s n) o = refl
+dty-other TermView.Nul o = refl
+dty-other (TermView.Rea a b c) o = refl
+dty-other TermView.Emp o = refl
+dty-other TermView.All o = refl
+dty-other (TermView.Cup a b) o = refl
+dty-other (TermView.Cap a b) o = refl
+dty-other (TermView.Dif a b) o = refl
+dty-other (TermView.Sin a) o = refl
+dty-other (TermView.Img a b c) o = absurd (not-among notImg 9 _ refl o refl)
+dty-other (TermView.Wri a b c d) o = refl
+dty-other (TermView.Typ a) o = refl
+dty-other (TermView.Dty a) o = refl
+
+pub rea-other : (x : TermView) (u : TermNo) → OneOf notImg (keyOf x) → reaOf x u ≡ noTerm
+rea-other (TermView.Variable s n) u o = refl
+rea-other TermView.Nul u o = refl
+rea-other (TermView.Rea a b c) u o = refl
+rea-other TermView.Emp u o = refl
+rea-other TermView.All u o = refl
+rea-other (TermView.Cup a b) u o = refl
+rea-other (TermView.Cap a b) u o = refl
+rea-other (TermView.Dif a b) u o = refl
+rea-other (TermView.Sin a) u o = refl
+rea-other (TermView.Img a b c) u o = absurd (not-among notImg 9 _ refl o refl)
+rea-other (TermView.Wri a b c d) u o = refl
+rea-other (TermView.Typ a) u o = refl
+rea-other (TermView.Dty a) u o = refl
+
+-- x is not rea(h,u,f)
+pub heap-other : (x : TermView) → OneOf notRea (keyOf x) → heapOf x ≡ 0
+heap-other (TermView.Variable s n) o = refl
+heap-other TermView.Nul o = refl
+heap-other (TermView.Rea a b c) o = absurd (not-among notRea 2 _ refl o refl)
+heap-other TermView.Emp o = refl
+heap-other TermView.All o = refl
+heap-other (TermView.Cup a b) o = refl
+heap-other (TermView.Cap a b) o = refl
+heap-other (TermView.Dif a b) o = refl
+heap-other (TermView.Sin a) o = refl
+heap-other (TermView.Img a b c) o = refl
+heap-other (TermView.Wri a b c d) o = refl
+heap-other (TermView.Typ a) o = refl
+heap-other (TermView.Dty a) o = refl
+
+pub on-other : (h : TermNo) (x : TermView) → OneOf notRea (keyOf x) → readOn h x ≡ noTerm
+on-other h (TermView.Variable s n) o = refl
+on-other h TermView.Nul o = refl
+on-other h (TermView.Rea a b c) o = absurd (not-among notRea 2 _ refl o refl)
+on-other h TermView.Emp o = refl
+on-other h TermView.All o = refl
+on-other h (TermView.Cup a b) o = refl
+on-other h (TermView.Cap a b) o = refl
+on-other h (TermView.Dif a b) o = refl
+on-other h (TermView.Sin a) o = refl
+on-other h (TermView.Img a b c) o = refl
+on-other h (TermView.Wri a b c d) o = refl
+on-other h (TermView.Typ a) o = refl
+on-other h (TermView.Dty a) o = refl
+
+-- y is not wri(h,u,f,v)
+pub under-other : (x y : TermView) → OneOf notWri (keyOf y) → readUnder x y ≡ noTerm
+under-other x (TermView.Variable s n) o = refl
+under-other x TermView.Nul o = refl
+under-other x (TermView.Rea a b c) o = refl
+under-other x TermView.Emp o = refl
+under-other x TermView.All o = refl
+under-other x (TermView.Cup a b) o = refl
+under-other x (TermView.Cap a b) o = refl
+under-other x (TermView.Dif a b) o = refl
+under-other x (TermView.Sin a) o = refl
+under-other x (TermView.Img a b c) o = refl
+under-other x (TermView.Wri a b c d) o = absurd (not-among notWri 10 _ refl o refl)
+under-other x (TermView.Typ a) o = refl
+under-other x (TermView.Dty a) o = refl
+
+-- `nul` is packed
+pub no-term-packable : Packable noTerm
+no-term-packable = (omega arith, omega arith, omega arith, omega arith)
+
+-- WHAT IS SMALL: the arguments of a term that is packed, the sides of a literal, a number that a search finds
+packable-small : (e : Term) → Packable e → SmallView (viewOf e)
+unfolding viewApply
+packable-small (variable s n) h = tt
+packable-small (apply Operator.Nul k) h = tt
+packable-small (apply Operator.Rea k) h = (h .0, h .1, h .2)
+packable-small (apply Operator.Emp k) h = tt
+packable-small (apply Operator.All k) h = tt
+packable-small (apply Operator.Cup k) h = (h .0, h .1)
+packable-small (apply Operator.Cap k) h = (h .0, h .1)
+packable-small (apply Operator.Dif k) h = (h .0, h .1)
+packable-small (apply Operator.Sin k) h = h .0
+packable-small (apply Operator.Img k) h = (h .0, h .1, h .2)
+packable-small (apply Operator.Wri k) h = (h .0, h .1, h .2, h .3)
+packable-small (apply Operator.Typ k) h = h .0
+packable-small (apply Operator.Dty k) h = h .0
+
+literal-small : (l : Literal) → PackableLiteral l → SmallLiteral (literalViewOf l)
+unfolding literalViewAs
+literal-small (literal Relation.In m n) h = h
+literal-small (literal Relation.Ni m n) h = h
+literal-small (literal Relation.Eq m n) h = h
+literal-small (literal Relation.Ne m n) h = h
+literal-small (literal Relation.Le m n) h = h
+literal-small (literal Relation.Nl m n) h = h
+
+pub view-small : (table : Table) (terms : List ℕ) → Entries table terms → (n : TermNo) (x : TermView) → x ≡ viewOf (at table n) → SmallView x
+view-small table terms E n x e = subst SmallView (sym e) (packable-small (at table n) (E .packable n))
+
+pub literal-view-small : (p : ℕ) (x : LiteralView) → x ≡ literalViewOf (unpackLiteral p) → SmallLiteral x
+literal-view-small p x e = subst SmallLiteral (sym e) (literal-small (unpackLiteral p) (literal-packable p))
+
+pub found-small : (table : Table) (terms : List ℕ) → Entries table terms → (e : Term) → SmallFound (foundOf (numberOf table e))
+found-small table terms E e = go (numberOf table e) refl
+  where
+    go : (o : Option TermNo) → numberOf table e ≡ o → SmallFound (foundOf o)
+    go none q = tt
+    go (some j) q = let l : j ≤ length table = found-in table e j q .last in omega (arith, E .few)
+
+-- no term has a number past the last
+pub past-last : (table : Table) (terms : List ℕ) → Entries table terms → (n : TermNo) → 600 < n → at table n ≡ noTerm
+past-last table terms E n h = at-beyond table n (omega (arith, E .few))
+
+-- check 11 holds of the places from 1 to n
+pub has-place : (n p : ℕ) → 1 ≤ p → p ≤ n → HasPlace n p true
+has-place n p h g = λ B e. rw (e, le-leb 1 p h, le-leb p n g)

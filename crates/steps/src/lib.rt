@@ -1,0 +1,2 @@
+// A step: what it reads off the branch and the term table.
+pub mod reading;

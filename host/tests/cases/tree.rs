@@ -1,0 +1,267 @@
+//! Nested splits: the order of the alternatives, the places after a cut back,
+//! and what is fresh.
+
+use super::rules_accept::IMG;
+use super::{
+    case, lines, with_line, with_lines, with_more, Case, ALL, EMP, FIELD, G, HEAP, R, S, U, V,
+};
+
+pub fn cases() -> Vec<Case> {
+    let groups = [
+        split_in_the_first_alternative(),
+        split_in_the_second_alternative(),
+        splits_in_img(),
+        second_alternative_checked(),
+        fresh_again(),
+        fresh_beside_a_waiting_alternative(),
+    ];
+    groups.into_iter().flatten().collect()
+}
+
+const LEFT: [&str; 15] = [
+    U,
+    R,               // 2, a
+    S,               // 3, b
+    "T,rgv,3,0,0,0", // 4, c
+    "T,cup,2,3,0,0", // 5, cup(a,b)
+    "T,cup,5,4,0,0", // 6, cup(cup(a,b),c)
+    "A,in,1,6,0,0",  // 1: u in cup(cup(a,b),c)
+    "A,ni,1,2,0,0",  // 2: u ni a
+    "A,ni,1,3,0,0",  // 3: u ni b
+    "A,ni,1,4,0,0",  // 4: u ni c
+    "S,cue,1,0,0,0", // 5: u in cup(a,b)
+    "S,cue,5,0,0,0", // 6: u in a
+    "S,cls,6,2,0,0", // waiting last: 6: u in b
+    "S,cls,6,3,0,0", // then 5: u in c
+    "S,cls,5,4,0,0",
+];
+
+fn split_in_the_first_alternative() -> Vec<Case> {
+    let changed = |number, line, reply| {
+        case(
+            &format!("tree: left, line {number} {line}"),
+            with_line(&LEFT, number, line),
+            reply,
+        )
+    };
+    vec![
+        case("tree: left", lines(&LEFT), "yes,0,0,6,4,5,3"),
+        changed(13, "S,cls,6,3,0,0", "no,12,13,0,0,0,0"), // b isn't first
+        changed(14, "S,cls,5,4,0,0", "no,12,14,0,0,0,0"), // nor c second
+        changed(14, "S,cls,6,2,0,0", "no,12,14,0,0,0,0"), // a is closed
+        changed(14, "S,cls,7,3,0,0", "no,11,14,0,0,0,0"), // b took place 6 again
+        changed(15, "S,cls,6,4,0,0", "no,11,15,0,0,0,0"), // c took place 5
+        changed(15, "S,cls,5,3,0,0", "no,12,15,0,0,0,0"), // b is closed
+        case(
+            "tree: left, two open",
+            lines(&LEFT[..13]),
+            "no,17,14,0,0,0,0",
+        ),
+        case(
+            "tree: left, one open",
+            lines(&LEFT[..14]),
+            "no,17,15,0,0,0,0",
+        ),
+        case(
+            "tree: left, step after the last closing",
+            with_more(&LEFT, &["S,ref,0,0,1,0"]),
+            "no,5,16,0,0,0,0",
+        ),
+    ]
+}
+
+fn split_in_the_second_alternative() -> Vec<Case> {
+    let right = [
+        (5, "T,cup,3,4,0,0"),  // cup(b,c)
+        (6, "T,cup,2,5,0,0"),  // cup(a,cup(b,c))
+        (11, "S,cue,1,0,0,0"), // 5: u in a
+        (12, "S,cls,5,2,0,0"), // 5: u in cup(b,c)
+        (13, "S,cue,5,0,0,0"), // 6: u in b
+        (14, "S,cls,6,3,0,0"), // 6: u in c; place 5 stays
+        (15, "S,cls,6,4,0,0"),
+    ];
+    let last = |line| with_lines(&LEFT, &[&right[..], &[(15, line)]].concat());
+    vec![
+        case("tree: right", with_lines(&LEFT, &right), "yes,0,0,6,4,5,3"),
+        case(
+            "tree: right, place 5 is no alternative",
+            last("S,cls,5,4,0,0"),
+            "no,12,15,0,0,0,0",
+        ),
+        case(
+            "tree: right, no place 7",
+            last("S,cls,7,4,0,0"),
+            "no,11,15,0,0,0,0",
+        ),
+    ]
+}
+
+/// `img` leaves two waiting; a cut is made inside its first and its second
+/// alternative, whose own alternatives come before the next of `img`.
+fn splits_in_img() -> Vec<Case> {
+    let steps = [
+        "S,img,1,0,5,0", // 14, 5: typ(u) nl dty(f)
+        "S,cut,0,0,1,2", // 15, 6: u in r
+        "S,cls,2,5,0,0", // 16, 6: u ni r; place 5 stays
+        "S,cls,1,6,0,0", // 17, 5: rea(h,u,f) ni all
+        "S,cut,0,0,1,2", // 18, 6: u in r
+        "S,cls,3,5,0,0", // 19, 6: u ni r; place 5 stays
+        "S,cls,1,6,0,0", // 20, 5: rea(h,u,f) in img(h,r,f)
+        "S,cls,5,4,0,0", // 21
+    ];
+    let file = [&IMG[..13], &steps].concat();
+    let changed = |number, line, reply| {
+        case(
+            &format!("tree: img, line {number} {line}"),
+            with_line(&file, number, line),
+            reply,
+        )
+    };
+    vec![
+        case("tree: img", lines(&file), "yes,0,0,9,4,8,5"),
+        changed(17, "S,cls,3,5,0,0", "no,12,17,0,0,0,0"), // the cut isn't done
+        changed(18, "S,cls,5,4,0,0", "no,12,18,0,0,0,0"), // third before second
+        changed(20, "S,cls,5,4,0,0", "no,12,20,0,0,0,0"), // the cut isn't done
+        changed(21, "S,cls,1,6,0,0", "no,11,21,0,0,0,0"), // no place 6 now
+        changed(21, "S,cls,3,5,0,0", "no,12,21,0,0,0,0"), // second is closed
+        case(
+            "tree: img, alternatives from the right",
+            with_lines(&IMG, &[(16, "S,cls,5,4,0,0"), (17, "S,cls,3,5,0,0")]),
+            "no,12,16,0,0,0,0",
+        ),
+    ]
+}
+
+/// The last of two closings is checked as the first is.
+fn second_alternative_checked() -> Vec<Case> {
+    vec![
+        case(
+            "tree: G, first closing twice",
+            with_line(&G, 10, "S,cls,4,2,0,0"),
+            "no,12,10,0,0,0,0",
+        ),
+        case(
+            "tree: G, second closing on no place",
+            with_line(&G, 10, "S,cls,5,3,0,0"),
+            "no,11,10,0,0,0,0",
+        ),
+        case(
+            "tree: G, second closing first",
+            with_lines(&G, &[(9, "S,cls,4,3,0,0"), (10, "S,cls,4,2,0,0")]),
+            "no,12,9,0,0,0,0",
+        ),
+    ]
+}
+
+/// w is used in the first alternative; when that is closed it is fresh again.
+fn fresh_again() -> Vec<Case> {
+    let file = [
+        U,
+        V,               // 2, w
+        ALL,             // 3
+        EMP,             // 4
+        R,               // 5
+        "A,eq,3,4,0,0",  // 1: all eq emp
+        "S,cut,0,0,1,5", // 7, 2: u in r
+        "S,fir,0,0,0,2", // 8, 3: w in all
+        "S,eqr,1,3,0,0", // 9, 4: w in emp
+        "S,emp,4,0,0,0", // 10, 2: u ni r
+        "S,fir,0,0,0,2", // 11, 3: w in all
+        "S,eqr,1,3,0,0", // 12, 4: w in emp
+        "S,emp,4,0,0,0", // 13
+    ];
+    // w in all stands before the split, so it stays.
+    let before = [
+        &file[..6],
+        &["S,fir,0,0,0,2", "S,cut,0,0,1,5", "S,fir,0,0,0,2"],
+    ]
+    .concat();
+    let closed_once = [
+        &file[..6],
+        &[
+            "S,fir,0,0,0,2", // 7, 2: w in all
+            "S,cut,0,0,1,5", // 8, 3: u in r
+            "S,eqr,1,2,0,0", // 9, 4: w in emp
+            "S,emp,4,0,0,0", // 10, 3: u ni r
+            "S,fir,0,0,0,2", // 11
+        ],
+    ]
+    .concat();
+    vec![
+        case("tree: w fresh again", lines(&file), "yes,0,0,5,1,7,2"),
+        case(
+            "tree: w used twice in an alternative",
+            with_line(&file, 9, "S,fir,0,0,0,2"),
+            "no,13,9,0,0,0,0",
+        ),
+        case(
+            "tree: u of the cut in the second alternative",
+            with_line(&file, 11, "S,fir,0,0,0,1"),
+            "no,13,11,0,0,0,0",
+        ),
+        case(
+            "tree: w used before the split",
+            lines(&before),
+            "no,13,9,0,0,0,0",
+        ),
+        case(
+            "tree: w used before the split, second alternative",
+            lines(&closed_once),
+            "no,13,11,0,0,0,0",
+        ),
+    ]
+}
+
+/// Only the waiting alternative of `rdm` holds w, the reference written.
+fn fresh_beside_a_waiting_alternative() -> Vec<Case> {
+    let file = [
+        U,
+        V,                // 2, w
+        "T,rfv,3,0,0,0",  // 3, y
+        HEAP,             // 4
+        FIELD,            // 5, f
+        "T,fnv,2,0,0,0",  // 6, g
+        "T,wri,4,1,5,2",  // 7, wri(h,u,f,w)
+        "T,rea,7,3,6,0",  // 8, rea(wri(h,u,f,w),y,g)
+        "T,rea,4,3,6,0",  // 9, rea(h,y,g)
+        ALL,              // 10
+        EMP,              // 11
+        "T,rfv,4,0,0,0",  // 12, z
+        "A,eq,10,11,0,0", // 1: all eq emp
+        "S,rdm,0,0,8,0",  // 14, 2: u eq y, 3: f eq g
+        "S,fir,0,0,0,2",  // 15, 4: w in all
+        "S,eqr,1,4,0,0",  // 16, 5: w in emp
+        "S,emp,5,0,0,0",  // 17, 2: term 8 eq term 9
+        "S,fir,0,0,0,12", // 18, 3: z in all
+        "S,eqr,1,3,0,0",  // 19, 4: z in emp
+        "S,emp,4,0,0,0",  // 20
+    ];
+    let changed = |what: &str, number, line, reply| {
+        case(
+            &format!("tree: rdm, {what}"),
+            with_line(&file, number, line),
+            reply,
+        )
+    };
+    vec![
+        case(
+            "tree: w only in a waiting alternative",
+            lines(&file),
+            "yes,0,0,12,1,7,2",
+        ),
+        changed(
+            "z in both alternatives",
+            15,
+            "S,fir,0,0,0,12",
+            "yes,0,0,12,1,7,2",
+        ),
+        changed(
+            "w not waiting any more",
+            18,
+            "S,fir,0,0,0,2",
+            "no,13,18,0,0,0,0",
+        ),
+        changed("u on the branch", 15, "S,fir,0,0,0,1", "no,13,15,0,0,0,0"),
+        changed("y on the branch", 15, "S,fir,0,0,0,3", "no,13,15,0,0,0,0"),
+    ]
+}

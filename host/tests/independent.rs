@@ -1,0 +1,937 @@
+//! The cases of document 01 with a stated reply, and their neighbours. Expected
+//! replies are worked out by hand from the document.
+
+mod examples;
+
+use examples::{file, rule_files, F, G, IMG, RDM, WIT};
+use host::independent::{call, check, reply_line, Reply};
+
+fn yes(terms: u32, assumptions: u32, steps: u32, closings: u32) -> Reply {
+    Reply {
+        yes: true,
+        number: 0,
+        line: 0,
+        terms,
+        assumptions,
+        steps,
+        closings,
+    }
+}
+
+fn no(number: u32, line: u32) -> Reply {
+    Reply {
+        yes: false,
+        number,
+        line,
+        terms: 0,
+        assumptions: 0,
+        steps: 0,
+        closings: 0,
+    }
+}
+
+fn check_lines(lines: &[&str]) -> Reply {
+    check(&file(lines))
+}
+
+/// The lines given as words parted by white space.
+fn check_text(text: &str) -> Reply {
+    let lines: Vec<&str> = text.split_whitespace().collect();
+    check_lines(&lines)
+}
+
+/// The lines with the one of this number (from 1) changed.
+fn with_line<'a>(lines: &[&'a str], number: usize, line: &'a str) -> Vec<&'a str> {
+    let mut changed = lines.to_vec();
+    changed[number - 1] = line;
+    changed
+}
+
+/// The lines without the one of this number (from 1).
+fn without_line<'a>(lines: &[&'a str], number: usize) -> Vec<&'a str> {
+    let mut changed = lines.to_vec();
+    changed.remove(number - 1);
+    changed
+}
+
+/// The lines with more after them.
+fn with_more<'a>(lines: &[&'a str], more: &[&'a str]) -> Vec<&'a str> {
+    let mut changed = lines.to_vec();
+    changed.extend_from_slice(more);
+    changed
+}
+
+// ---------------------------------------------------------------------------
+// Two files and their neighbours
+// ---------------------------------------------------------------------------
+
+#[test]
+fn f_and_g() {
+    assert_eq!(check_lines(&F), yes(4, 2, 2, 1));
+    assert_eq!(reply_line(&check_lines(&F)), "yes,0,0,4,2,2,1\n");
+    assert_eq!(check_lines(&G), yes(4, 3, 3, 2));
+    assert_eq!(reply_line(&check_lines(&G)), "yes,0,0,4,3,3,2\n");
+    assert_eq!(check_lines(&without_line(&G, 10)), no(17, 10));
+}
+
+#[test]
+fn f_changed() {
+    assert_eq!(check(b""), no(17, 1));
+    assert_eq!(reply_line(&check(b"")), "no,17,1,0,0,0,0\n");
+    assert_eq!(check_lines(&without_line(&F, 8)), no(17, 8));
+    assert_eq!(check_lines(&with_more(&F, &["S,cls,3,2,0,0"])), no(5, 9));
+    assert_eq!(check_lines(&with_line(&F, 8, "S,cls,2,3,0,0")), no(12, 8));
+    assert_eq!(check_lines(&with_line(&F, 7, "S,cpe,3,0,0,0")), no(11, 7));
+    assert_eq!(check_lines(&with_line(&F, 7, "S,cpe,2,0,0,0")), no(12, 7));
+    assert_eq!(check_lines(&with_line(&F, 4, "T,cap,2,4,0,0")), no(8, 4));
+    assert_eq!(check_lines(&with_line(&F, 4, "T,cap,2,1,0,0")), no(9, 4));
+    assert_eq!(check_lines(&with_line(&F, 3, "T,rgv,1,0,0,0")), no(10, 3));
+    assert_eq!(check_lines(&with_line(&F, 1, "T,rfv,01,0,0,0")), no(2, 1));
+}
+
+// ---------------------------------------------------------------------------
+// The column "Example" of the refusals
+// ---------------------------------------------------------------------------
+
+#[test]
+fn example_1() {
+    assert_eq!(check(&vec![b'\n'; 60_001]), no(1, 0));
+    assert_eq!(check(&vec![0; 60_001]), no(1, 0));
+}
+
+#[test]
+fn example_2() {
+    assert_eq!(check(b"T,nul,0,0,0\n"), no(2, 1));
+}
+
+#[test]
+fn example_3() {
+    assert_eq!(check_lines(&with_line(&F, 8, "A,in,1,2,0,0")), no(3, 8));
+    // After the last closing too: refusal 5 is for S lines.
+    assert_eq!(check_lines(&with_more(&F, &["A,in,1,2,0,0"])), no(3, 9));
+    assert_eq!(check_lines(&with_more(&F, &["T,nul,0,0,0,0"])), no(3, 9));
+    assert_eq!(check_lines(&with_line(&F, 6, "T,nul,0,0,0,0")), no(3, 6));
+}
+
+#[test]
+fn example_4() {
+    assert_eq!(check(b"T,cut,1,2,0,0\n"), no(4, 1));
+}
+
+#[test]
+fn example_5() {
+    assert_eq!(check_lines(&with_more(&F, &["S,ref,0,0,1,0"])), no(5, 9));
+}
+
+#[test]
+fn example_6() {
+    assert_eq!(check_lines(&with_line(&F, 8, "S,cls,3,2,1,0")), no(6, 8));
+}
+
+#[test]
+fn example_7() {
+    assert_eq!(check(&rfv_lines(601)), no(7, 601));
+}
+
+#[test]
+fn example_8() {
+    assert_eq!(check(b"T,rfv,0,0,0,0\n"), no(8, 1));
+}
+
+#[test]
+fn example_9() {
+    assert_eq!(check_text("T,rgv,1,0,0,0 T,sin,1,0,0,0"), no(9, 2));
+}
+
+#[test]
+fn example_10() {
+    assert_eq!(check_text("T,emp,0,0,0,0 T,emp,0,0,0,0"), no(10, 2));
+}
+
+#[test]
+fn example_11() {
+    assert_eq!(check(b"S,emp,0,0,0,0\n"), no(11, 1));
+}
+
+#[test]
+fn example_12() {
+    assert_eq!(check_lines(&with_line(&F, 8, "S,cls,2,3,0,0")), no(12, 8));
+}
+
+#[test]
+fn example_13() {
+    assert_eq!(check_lines(&with_line(&F, 7, "S,fir,0,0,0,1")), no(13, 7));
+}
+
+#[test]
+fn example_14() {
+    assert_eq!(check_lines(&with_line(&F, 7, "S,all,1,0,0,0")), no(14, 7));
+}
+
+#[test]
+fn example_15() {
+    let mut text = file(&["T,rfv,1,0,0,0"]);
+    text.extend(b"A,eq,1,1,0,0\n".repeat(1_001));
+    assert_eq!(check(&text), no(15, 1_002));
+}
+
+#[test]
+fn example_16() {
+    let mut text = file(&["T,rfv,1,0,0,0", "T,rgv,1,0,0,0"]);
+    text.extend(b"S,cut,0,0,1,2\n".repeat(201));
+    assert_eq!(check(&text), no(16, 203));
+}
+
+#[test]
+fn example_17() {
+    assert_eq!(check(b""), no(17, 1));
+}
+
+#[test]
+fn example_18() {
+    let mut buffer = [7; 23];
+    assert_eq!(call(&file(&F), &mut buffer), 18);
+    assert_eq!(buffer, [7; 23]);
+}
+
+#[test]
+fn side_of_rep() {
+    let files = rule_files();
+    let rep = files.iter().find(|example| example.rule == "rep").unwrap();
+    for side in ["0", "2", "3", "9999"] {
+        let line = format!("S,rep,1,2,{side},0");
+        assert_eq!(check_lines(&with_line(&rep.lines, 7, &line)), no(12, 7));
+    }
+    // Side 2: u in r and r eq s give u in s.
+    let right = "T,rfv,1,0,0,0 T,rgv,1,0,0,0 T,rgv,2,0,0,0
+                 A,in,1,2,0,0 A,eq,2,3,0,0 A,ni,1,3,0,0
+                 S,rep,1,2,2,0 S,cls,4,3,0,0";
+    assert_eq!(check_text(right), yes(3, 3, 2, 1));
+    // A place off the branch comes before the side.
+    assert_eq!(
+        check_lines(&with_line(&rep.lines, 7, "S,rep,1,4,3,0")),
+        no(11, 7)
+    );
+}
+
+// ---------------------------------------------------------------------------
+// The call
+// ---------------------------------------------------------------------------
+
+#[test]
+fn call_writes_six_numbers() {
+    let mut buffer = [7; 24];
+    assert_eq!(call(&file(&F), &mut buffer), 0);
+    assert_eq!(
+        buffer,
+        [0, 0, 0, 0, 0, 0, 0, 0, 4, 0, 0, 0, 2, 0, 0, 0, 2, 0, 0, 0, 1, 0, 0, 0]
+    );
+    let mut buffer = [7; 24];
+    assert_eq!(call(b"", &mut buffer), 17);
+    assert_eq!(
+        buffer,
+        [17, 0, 0, 0, 1, 0, 0, 0, 0, 0, 0, 0, 0, 0, 0, 0, 0, 0, 0, 0, 0, 0, 0, 0]
+    );
+    // Line 1,002 is 3 times 256 and 234.
+    let mut text = file(&["T,rfv,1,0,0,0"]);
+    text.extend(b"A,eq,1,1,0,0\n".repeat(1_001));
+    let mut buffer = [7; 24];
+    assert_eq!(call(&text, &mut buffer), 15);
+    assert_eq!(
+        buffer,
+        [15, 0, 0, 0, 234, 3, 0, 0, 0, 0, 0, 0, 0, 0, 0, 0, 0, 0, 0, 0, 0, 0, 0, 0]
+    );
+}
+
+#[test]
+fn call_refuses_other_buffers() {
+    for length in [0, 1, 23, 25, 48] {
+        let mut buffer = vec![7; length];
+        assert_eq!(call(&file(&F), &mut buffer), 18);
+        assert_eq!(buffer, vec![7; length]);
+        // "before 1"
+        assert_eq!(call(&vec![b'\n'; 60_001], &mut buffer), 18);
+        assert_eq!(buffer, vec![7; length]);
+    }
+}
+
+// ---------------------------------------------------------------------------
+// Limits
+// ---------------------------------------------------------------------------
+
+/// `rfv` lines with names from 1.
+fn rfv_lines(count: usize) -> Vec<u8> {
+    let mut text = Vec::new();
+    for name in 1..=count {
+        text.extend_from_slice(format!("T,rfv,{name},0,0,0\n").as_bytes());
+    }
+    text
+}
+
+/// A line of 17 bytes, seven of 13 and 4,278 of 14 are 60,000 bytes. The steps
+/// are 5 cuts, then six times 711 `ref` lines and a closing: 4,277 S lines.
+fn sixty_thousand_bytes() -> Vec<u8> {
+    let mut text = file(&["T,rfv,1000,0,0,0", "T,emp,0,0,0,0"]);
+    text.extend(b"A,in,1,2,0,0\n".repeat(7));
+    text.extend(b"S,cut,0,0,1,2\n".repeat(5));
+    for _ in 0..6 {
+        text.extend(b"S,ref,0,0,1,0\n".repeat(711));
+        text.extend(b"S,emp,1,0,0,0\n");
+    }
+    text
+}
+
+#[test]
+fn limit_of_bytes() {
+    let mut text = sixty_thousand_bytes();
+    assert_eq!(text.len(), 60_000);
+    assert_eq!(check(&text), yes(2, 7, 4_277, 6));
+    text.push(b'\n');
+    assert_eq!(check(&text), no(1, 0));
+    // 60,000 bytes with no LF, and bare LFs.
+    assert_eq!(check(&vec![b'T'; 60_000]), no(2, 1));
+    assert_eq!(check(&vec![b'\n'; 60_000]), no(2, 1));
+}
+
+#[test]
+fn limit_of_terms() {
+    let mut text = rfv_lines(599);
+    text.extend(file(&["T,emp,0,0,0,0", "A,in,1,600,0,0", "S,emp,1,0,0,0"]));
+    assert_eq!(check(&text), yes(600, 1, 1, 1));
+    assert_eq!(check(&rfv_lines(600)), no(17, 601));
+    let mut text = rfv_lines(600);
+    text.extend(file(&["T,emp,0,0,0,0", "A,in,1,600,0,0", "S,emp,1,0,0,0"]));
+    assert_eq!(check(&text), no(7, 601));
+    // 7 comes before 8, 9 and 10, and after 6.
+    for (line, number) in [
+        ("T,rfv,0,0,0,0", 7),
+        ("T,sin,999,0,0,0", 7),
+        ("T,cup,1,1,0,0", 7),
+        ("T,rfv,1,0,0,0", 7),
+        ("T,rfv,1,0,0,1", 6),
+    ] {
+        let mut text = rfv_lines(600);
+        text.extend(file(&[line]));
+        assert_eq!(check(&text), no(number, 601));
+    }
+}
+
+/// Terms 1 u, 2 emp, then places holding u in emp.
+fn places(count: usize) -> Vec<u8> {
+    let mut text = file(&["T,rfv,1,0,0,0", "T,emp,0,0,0,0"]);
+    text.extend(b"A,in,1,2,0,0\n".repeat(count));
+    text
+}
+
+#[test]
+fn limit_of_places_on_a_lines() {
+    let mut text = places(1_000);
+    text.extend(b"S,emp,1000,0,0,0\n");
+    assert_eq!(check(&text), yes(2, 1_000, 1, 1));
+    let mut text = places(1_001);
+    text.extend(b"S,emp,1000,0,0,0\n");
+    assert_eq!(check(&text), no(15, 1_003));
+    // 8 and 9 come before 15.
+    let mut text = places(1_000);
+    text.extend(b"A,in,1,3,0,0\n");
+    assert_eq!(check(&text), no(8, 1_003));
+    let mut text = places(1_000);
+    text.extend(b"A,in,2,1,0,0\n");
+    assert_eq!(check(&text), no(9, 1_003));
+}
+
+#[test]
+fn limit_of_places_on_s_lines() {
+    let mut text = places(999);
+    text.extend(file(&["S,ref,0,0,1,0", "S,emp,999,0,0,0"]));
+    assert_eq!(check(&text), yes(2, 999, 2, 1));
+    let mut text = places(1_000);
+    text.extend(file(&["S,ref,0,0,1,0", "S,emp,999,0,0,0"]));
+    assert_eq!(check(&text), no(15, 1_003));
+    // A split whose alternatives hold one literal each.
+    let mut text = places(999);
+    text.extend(file(&["S,cut,0,0,1,2", "S,emp,1,0,0,0", "S,emp,1,0,0,0"]));
+    assert_eq!(check(&text), yes(2, 999, 3, 2));
+    let mut text = places(1_000);
+    text.extend(file(&["S,cut,0,0,1,2", "S,emp,1,0,0,0", "S,emp,1,0,0,0"]));
+    assert_eq!(check(&text), no(15, 1_003));
+    // A step that needs only closing still goes on at 1,000.
+    let mut text = places(1_000);
+    text.extend(file(&["S,emp,1,0,0,0"]));
+    assert_eq!(check(&text), yes(2, 1_000, 1, 1));
+}
+
+/// The lines with `A,eq,1,1,0,0` put in after the last A line so often that
+/// there are `count` A lines.
+fn filled(lines: &[&str], terms: usize, assumed: usize, count: usize) -> Vec<u8> {
+    let mut text = file(&lines[..terms + assumed]);
+    text.extend(b"A,eq,1,1,0,0\n".repeat(count - assumed));
+    text.extend(file(&lines[terms + assumed..]));
+    text
+}
+
+#[test]
+fn limit_of_places_in_wide_steps() {
+    // `wit` adds three literals: 997 and 3, then 998 and 3.
+    let step = &WIT[..13];
+    assert_eq!(check(&filled(step, 10, 2, 997)), no(17, 10 + 997 + 2));
+    assert_eq!(check(&filled(step, 10, 2, 998)), no(15, 10 + 998 + 1));
+    // `rdm` adds two, or one: the longer alternative counts.
+    let step = &RDM[..12];
+    assert_eq!(check(&filled(step, 9, 2, 998)), no(17, 9 + 998 + 2));
+    assert_eq!(check(&filled(step, 9, 2, 999)), no(15, 9 + 999 + 1));
+    // `ext` adds two in each alternative.
+    let ext = [
+        "T,rgv,1,0,0,0",
+        "T,rfv,1,0,0,0",
+        "A,ne,1,1,0,0",
+        "S,ext,1,0,0,2",
+    ];
+    assert_eq!(check(&filled(&ext, 2, 1, 998)), no(17, 2 + 998 + 2));
+    assert_eq!(check(&filled(&ext, 2, 1, 999)), no(15, 2 + 999 + 1));
+}
+
+#[test]
+fn limit_of_waiting() {
+    let mut text = places(1);
+    text.extend(b"S,cut,0,0,1,2\n".repeat(200));
+    text.extend(b"S,emp,1,0,0,0\n".repeat(201));
+    assert_eq!(check(&text), yes(2, 1, 401, 201));
+    // One closing too few, one too many.
+    let mut text = places(1);
+    text.extend(b"S,cut,0,0,1,2\n".repeat(200));
+    text.extend(b"S,emp,1,0,0,0\n".repeat(200));
+    assert_eq!(check(&text), no(17, 404));
+    text.extend(b"S,emp,1,0,0,0\n".repeat(2));
+    assert_eq!(check(&text), no(5, 405));
+    // The neighbour above.
+    let mut text = places(1);
+    text.extend(b"S,cut,0,0,1,2\n".repeat(201));
+    text.extend(b"S,emp,1,0,0,0\n".repeat(202));
+    assert_eq!(check(&text), no(16, 204));
+    // A closing makes room for one.
+    let mut text = places(1);
+    text.extend(b"S,cut,0,0,1,2\n".repeat(200));
+    text.extend(b"S,emp,1,0,0,0\n");
+    text.extend(b"S,cut,0,0,1,2\n");
+    assert_eq!(check(&text), no(17, 206));
+    text.extend(b"S,cut,0,0,1,2\n");
+    assert_eq!(check(&text), no(16, 206));
+}
+
+#[test]
+fn limit_of_waiting_in_img() {
+    // Two of the three alternatives wait.
+    let mut text = file(&IMG[..13]);
+    text.extend(b"S,cut,0,0,1,3\n".repeat(198));
+    text.extend(b"S,img,1,0,5,0\n");
+    assert_eq!(check(&text), no(17, 213));
+    let mut text = file(&IMG[..13]);
+    text.extend(b"S,cut,0,0,1,3\n".repeat(199));
+    text.extend(b"S,img,1,0,5,0\n");
+    assert_eq!(check(&text), no(16, 213));
+}
+
+#[test]
+fn places_come_before_waiting() {
+    // 800 A lines and 200 cuts fill both.
+    let mut text = places(800);
+    text.extend(b"S,cut,0,0,1,2\n".repeat(201));
+    assert_eq!(check(&text), no(15, 2 + 800 + 201));
+    let mut text = places(799);
+    text.extend(b"S,cut,0,0,1,2\n".repeat(201));
+    assert_eq!(check(&text), no(16, 2 + 799 + 201));
+}
+
+// ---------------------------------------------------------------------------
+// How the old checker went wrong
+// ---------------------------------------------------------------------------
+
+#[test]
+fn old_two_of_three_img_alternatives() {
+    assert_eq!(check_lines(&IMG), yes(9, 4, 4, 3));
+    assert_eq!(check_lines(&without_line(&IMG, 17)), no(17, 17));
+    // In the order of the document: nl, then ni, then in.
+    assert_eq!(
+        check_lines(&with_line(&IMG, 15, "S,cls,3,5,0,0")),
+        no(12, 15)
+    );
+    assert_eq!(
+        check_lines(&with_line(&IMG, 16, "S,cls,5,4,0,0")),
+        no(12, 16)
+    );
+}
+
+#[test]
+fn old_w_inside_a_larger_term() {
+    let fresh = "T,rfv,1,0,0,0 T,typ,1,0,0,0 T,all,0,0,0,0 S,fir,0,0,0,1";
+    assert_eq!(check_text(fresh), no(17, 5));
+    let spoilt = "T,rfv,1,0,0,0 T,typ,1,0,0,0 T,all,0,0,0,0 A,eq,2,2,0,0 S,fir,0,0,0,1";
+    assert_eq!(check_text(spoilt), no(13, 5));
+    // Two deep, on the right side.
+    let deep = "T,rfv,1,0,0,0 T,sin,1,0,0,0 T,all,0,0,0,0 T,cup,3,2,0,0
+                A,eq,3,4,0,0 S,fir,0,0,0,1";
+    assert_eq!(check_text(deep), no(13, 6));
+    // A name that equals the term number does not spoil it.
+    let name = "T,rfv,7,0,0,0 T,rgv,1,0,0,0 T,all,0,0,0,0
+                A,eq,2,2,0,0 S,fir,0,0,0,1";
+    assert_eq!(check_text(name), no(17, 6));
+    // Nor does the same name of another sort: `rfv` 1 and `rgv` 1.
+    let sort = "T,rfv,1,0,0,0 T,rgv,1,0,0,0 T,all,0,0,0,0
+                A,eq,2,2,0,0 S,fir,0,0,0,1";
+    assert_eq!(check_text(sort), no(17, 6));
+}
+
+#[test]
+fn old_sub_on_names() {
+    let names = "T,rfv,3,0,0,0 T,rfv,4,0,0,0 T,rfv,1,0,0,0 T,rfv,2,0,0,0
+                 A,eq,3,4,0,0 S,sub,1,0,1,2";
+    assert_eq!(check_text(names), no(12, 6));
+    // Not even a name with itself, nor a word with no argument.
+    let same = "T,rfv,3,0,0,0 T,rfv,4,0,0,0 A,eq,1,2,0,0 S,sub,1,0,1,1";
+    assert_eq!(check_text(same), no(12, 4));
+    let none = "T,nul,0,0,0,0 A,eq,1,1,0,0 S,sub,1,0,1,1";
+    assert_eq!(check_text(none), no(12, 3));
+    // t and w may be one term with an argument.
+    let one = "T,nul,0,0,0,0 T,sin,1,0,0,0 A,eq,1,1,0,0 S,sub,1,0,2,2";
+    assert_eq!(check_text(one), no(17, 5));
+    // t has a and w has b, not the other way round.
+    let turned = "T,rfv,1,0,0,0 T,rfv,2,0,0,0 T,typ,1,0,0,0 T,typ,2,0,0,0
+                  A,eq,1,2,0,0 S,sub,1,0,4,3";
+    assert_eq!(check_text(turned), no(12, 6));
+}
+
+#[test]
+fn old_literals_of_a_closed_alternative() {
+    // G with a literal more in its first alternative, wanted in the second.
+    let mut kept = G[..8].to_vec();
+    kept.extend(["S,ref,0,0,1,0", "S,cls,4,2,0,0", "S,sym,5,0,0,0"]);
+    assert_eq!(check_lines(&kept), no(11, 11));
+    let mut kept = G[..8].to_vec();
+    kept.extend(["S,ref,0,0,1,0", "S,sym,5,0,0,0", "S,cls,4,2,0,0"]);
+    kept.push("S,cls,4,3,0,0");
+    assert_eq!(check_lines(&kept), yes(4, 3, 5, 2));
+    // In place 4 stands the second alternative, and not the first.
+    assert_eq!(check_lines(&with_line(&G, 10, "S,cls,4,2,0,0")), no(12, 10));
+}
+
+#[test]
+fn old_sin_without_a_case_outside_all() {
+    // u ni sin(u) alone does not close: first comes u ni all.
+    let lines = [
+        "T,rfv,1,0,0,0",
+        "T,sin,1,0,0,0",
+        "T,all,0,0,0,0",
+        "A,ni,1,2,0,0",
+        "S,sgi,0,0,2,0",
+        "S,cls,2,1,0,0",
+    ];
+    assert_eq!(check_lines(&lines), no(12, 6));
+    // Both alternatives ask for all in the table.
+    let lines = ["T,rfv,1,0,0,0", "T,sin,1,0,0,0", "S,sgi,0,0,2,0"];
+    assert_eq!(check_lines(&lines), no(14, 3));
+}
+
+// ---------------------------------------------------------------------------
+// The rules, each accepted once
+// ---------------------------------------------------------------------------
+
+#[test]
+fn every_rule() {
+    let names = [
+        "eqr", "eql", "ext", "fir", "cpe", "cpi", "cue", "cui", "dfe", "dfi", "sge", "sgi", "cut",
+        "all", "nul", "sep", "img", "wit", "ref", "sym", "trn", "sub", "rep", "ler", "let", "lea",
+        "rdh", "rdm", "cls", "emp",
+    ];
+    let files = rule_files();
+    assert_eq!(files.len(), 30);
+    for (name, example) in names.iter().zip(&files) {
+        assert_eq!(*name, example.rule);
+        let word = format!("S,{name},");
+        assert!(example.lines.iter().any(|line| line.starts_with(&word)));
+        let [terms, assumptions, steps, closings] = example.counts;
+        let expected = yes(terms, assumptions, steps, closings);
+        assert_eq!(check_lines(&example.lines), expected, "{name}");
+    }
+}
+
+#[test]
+fn every_rule_uses_its_fields() {
+    // The column "Uses" of the document, written out a second time.
+    let table = "eqr pq, eql pq, ext pw, fir w, cpe p, cpi pqt, cue p, cui pt, dfe p, dfi pqt,
+                 sge p, sgi t, cut tw, all p, nul p, sep pq, img pt, wit pw, ref t, sym p,
+                 trn pq, sub ptw, rep pqt, ler t, let pq, lea pq, rdh t, rdm t, cls pq, emp p";
+    let mut rows = 0;
+    for row in table.split(',') {
+        let words: Vec<&str> = row.split_whitespace().collect();
+        let (rule, used) = (words[0], words[1]);
+        rows += 1;
+        for (index, field) in ["p", "q", "t", "w"].iter().enumerate() {
+            let mut numbers = [0, 0, 0, 0];
+            numbers[index] = 1;
+            let [p, q, t, w] = numbers;
+            let line = format!("S,{rule},{p},{q},{t},{w}");
+            // With an empty table and branch a used field gets past 6.
+            let reply = check_lines(&[&line]);
+            assert_eq!(reply.number == 6, !used.contains(field), "{line}");
+            assert_eq!(reply.line, 1);
+        }
+    }
+    assert_eq!(rows, 30);
+}
+
+#[test]
+fn premises_in_order() {
+    // `eqr` and `eql` want the equation first.
+    let text = "T,rfv,1,0,0,0 T,rgv,1,0,0,0 T,rgv,2,0,0,0 A,eq,2,3,0,0 A,in,1,2,0,0";
+    assert_eq!(check_text(&format!("{text} S,eqr,2,1,0,0")), no(12, 6));
+    assert_eq!(check_text(&format!("{text} S,eql,1,2,0,0")), no(12, 6));
+    // `cpi`: p on the left of cap, q on the right; one place may be both.
+    let text = "T,rfv,1,0,0,0 T,rgv,1,0,0,0 T,rgv,2,0,0,0 T,cap,2,3,0,0 T,cap,2,2,0,0
+                A,in,1,2,0,0 A,in,1,3,0,0";
+    assert_eq!(check_text(&format!("{text} S,cpi,2,1,4,0")), no(12, 8));
+    assert_eq!(check_text(&format!("{text} S,cpi,1,2,4,0")), no(17, 9));
+    assert_eq!(check_text(&format!("{text} S,cpi,1,1,5,0")), no(17, 9));
+    // `cui`: either side.
+    let text = "T,rfv,1,0,0,0 T,rgv,1,0,0,0 T,rgv,2,0,0,0 T,rgv,3,0,0,0 T,cup,2,3,0,0
+                A,in,1,2,0,0 A,in,1,3,0,0 A,in,1,4,0,0";
+    assert_eq!(check_text(&format!("{text} S,cui,1,0,5,0")), no(17, 10));
+    assert_eq!(check_text(&format!("{text} S,cui,2,0,5,0")), no(17, 10));
+    assert_eq!(check_text(&format!("{text} S,cui,3,0,5,0")), no(12, 9));
+    // `cls`: the denied literal second, the terms in the same order.
+    let text = "T,rfv,1,0,0,0 T,rfv,2,0,0,0 A,eq,1,2,0,0 A,ne,1,2,0,0 A,ne,2,1,0,0";
+    assert_eq!(
+        check_text(&format!("{text} S,cls,1,2,0,0")),
+        yes(2, 3, 1, 1)
+    );
+    assert_eq!(check_text(&format!("{text} S,cls,1,3,0,0")), no(12, 6));
+    assert_eq!(check_text(&format!("{text} S,cls,2,1,0,0")), no(12, 6));
+    assert_eq!(check_text(&format!("{text} S,cls,1,1,0,0")), no(12, 6));
+    // `ext` wants regions.
+    let text = "T,rfv,1,0,0,0 T,rfv,2,0,0,0 A,ne,1,1,0,0 S,ext,1,0,0,2";
+    assert_eq!(check_text(text), no(12, 4));
+}
+
+// ---------------------------------------------------------------------------
+// Checks on one line, in the order of the numbers
+// ---------------------------------------------------------------------------
+
+#[test]
+fn shapes() {
+    let bad = [
+        "",
+        "T",
+        "T,nul,0,0,0",
+        "T,nul,0,0,0,0,0",
+        "T,nul,0,0,0,0,",
+        ",nul,0,0,0,0",
+        "t,nul,0,0,0,0",
+        "B,nul,0,0,0,0",
+        "TT,nul,0,0,0,0",
+        "T,,0,0,0,0",
+        "T,n,0,0,0,0",
+        "T,null,0,0,0,0",
+        "T,Nul,0,0,0,0",
+        "T,nu1,0,0,0,0",
+        "T,nul,,0,0,0",
+        "T,nul,00,0,0,0",
+        "T,nul,01,0,0,0",
+        "T,nul,10000,0,0,0",
+        "T,nul,00000,0,0,0",
+        "T,nul,-1,0,0,0",
+        "T,nul,+1,0,0,0",
+        "T,nul,1a,0,0,0",
+        "T,nul,\"0\",0,0,0",
+        "T,\"nul\",0,0,0,0",
+        " T,nul,0,0,0,0",
+        "T,nul,0,0,0,0 ",
+        "T,nul, 0,0,0,0",
+        "T,nul,0,0,0,0\r",
+        "T;nul;0;0;0;0",
+    ];
+    for line in bad {
+        assert_eq!(check_lines(&[line]), no(2, 1), "{line:?}");
+        assert_eq!(check_lines(&with_line(&F, 6, line)), no(2, 6), "{line:?}");
+        assert_eq!(check_lines(&with_more(&F, &[line])), no(2, 9), "{line:?}");
+    }
+    // No LF at the end, even where the tree would be closed.
+    let mut text = file(&F);
+    text.pop();
+    assert_eq!(check(&text), no(2, 8));
+    // An empty line more.
+    let mut text = file(&F);
+    text.push(b'\n');
+    assert_eq!(check(&text), no(2, 9));
+    assert_eq!(check(&[0xff, 0xfe, b'\n']), no(2, 1));
+}
+
+#[test]
+fn words_of_other_letters() {
+    for line in [
+        "T,in,0,0,0,0",
+        "T,ref,0,0,0,0",
+        "T,xx,0,0,0,0",
+        "A,nul,0,0,0,0",
+        "A,cls,0,0,0,0",
+        "A,inn,0,0,0,0",
+        "S,rfv,0,0,0,0",
+        "S,in,0,0,0,0",
+        "S,zz,9,9,9,9",
+    ] {
+        assert_eq!(check_lines(&[line]), no(4, 1), "{line}");
+    }
+    // 2, 3 and 4 come before 5; 5 before 6.
+    assert_eq!(check_lines(&with_more(&F, &["S,rfv,0,0,0,0"])), no(4, 9));
+    assert_eq!(check_lines(&with_more(&F, &["T,ref,0,0,0,0"])), no(3, 9));
+    assert_eq!(check_lines(&with_more(&F, &["S,cls,9,9,9,9"])), no(5, 9));
+}
+
+#[test]
+fn order_on_t_lines() {
+    // 6 before 8, 8 before 9, 9 before 10.
+    assert_eq!(check(b"T,rfv,0,1,0,0\n"), no(6, 1));
+    assert_eq!(check(b"T,nul,1,0,0,0\n"), no(6, 1));
+    assert_eq!(check(b"T,sin,0,0,0,0\n"), no(8, 1));
+    assert_eq!(check(b"T,sin,1,0,0,0\n"), no(8, 1));
+    assert_eq!(check_text("T,rfv,1,0,0,0 T,cup,1,9,0,0"), no(8, 2));
+    assert_eq!(check_text("T,rfv,1,0,0,0 T,cup,1,1,0,0"), no(9, 2));
+    // The same name under another word is another variable.
+    let names = "T,rfv,1,0,0,0 T,rgv,1,0,0,0 T,arv,1,0,0,0 T,fnv,1,0,0,0 T,clv,1,0,0,0";
+    assert_eq!(check_text(names), no(17, 6));
+    assert_eq!(check_text(&format!("{names} T,clv,1,0,0,0")), no(10, 6));
+    // cup(r,s) and cup(s,r) are two terms.
+    let turned = "T,rgv,1,0,0,0 T,rgv,2,0,0,0 T,cup,1,2,0,0 T,cup,2,1,0,0 T,cap,1,2,0,0";
+    assert_eq!(check_text(turned), no(17, 6));
+    assert_eq!(check(b"T,rfv,9999,0,0,0\n"), no(17, 2));
+}
+
+#[test]
+fn sorts_on_t_lines() {
+    // Terms: 1 reference, 2 region, 3 heap, 4 field, 5 class.
+    let base = "T,rfv,1,0,0,0 T,rgv,1,0,0,0 T,arv,1,0,0,0 T,fnv,1,0,0,0 T,clv,1,0,0,0";
+    let words: [(&str, &[u32]); 9] = [
+        ("rea", &[3, 1, 4]),
+        ("cup", &[2, 2]),
+        ("cap", &[2, 2]),
+        ("dif", &[2, 2]),
+        ("sin", &[1]),
+        ("img", &[3, 2, 4]),
+        ("wri", &[3, 1, 4, 1]),
+        ("typ", &[1]),
+        ("dty", &[4]),
+    ];
+    for (word, good) in words {
+        let line = t_line(word, good);
+        assert_eq!(check_text(&format!("{base} {line}")), no(17, 7), "{line}");
+        for index in 0..good.len() {
+            for term in 1..=5 {
+                let mut arguments = good.to_vec();
+                arguments[index] = term;
+                let line = t_line(word, &arguments);
+                let expected = if term == good[index] {
+                    no(17, 7)
+                } else {
+                    no(9, 6)
+                };
+                assert_eq!(check_text(&format!("{base} {line}")), expected, "{line}");
+            }
+        }
+    }
+}
+
+fn t_line(word: &str, arguments: &[u32]) -> String {
+    let mut line = format!("T,{word}");
+    for index in 0..4 {
+        let number = arguments.get(index).copied().unwrap_or(0);
+        line.push_str(&format!(",{number}"));
+    }
+    line
+}
+
+#[test]
+fn sorts_on_a_lines() {
+    let base = "T,rfv,1,0,0,0 T,rgv,1,0,0,0 T,arv,1,0,0,0 T,fnv,1,0,0,0 T,clv,1,0,0,0";
+    for left in 1..=5 {
+        for right in 1..=5 {
+            for word in ["in", "ni", "eq", "ne", "le", "nl"] {
+                let good = match word {
+                    "in" | "ni" => left == 1 && right == 2,
+                    "eq" | "ne" => left == right,
+                    _ => left == 5 && right == 5,
+                };
+                let expected = if good { no(17, 7) } else { no(9, 6) };
+                let line = format!("A,{word},{left},{right},0,0");
+                assert_eq!(check_text(&format!("{base} {line}")), expected, "{line}");
+            }
+        }
+    }
+    // 6 before 8, 8 before 9.
+    assert_eq!(check_text(&format!("{base} A,in,0,9,1,0")), no(6, 6));
+    assert_eq!(check_text(&format!("{base} A,in,1,2,0,1")), no(6, 6));
+    assert_eq!(check_text(&format!("{base} A,in,2,6,0,0")), no(8, 6));
+    assert_eq!(check_text(&format!("{base} A,in,0,2,0,0")), no(8, 6));
+}
+
+#[test]
+fn order_on_s_lines() {
+    // Terms: 1 u, 2 r, 3 a class. One place: u in r.
+    let base = "T,rfv,1,0,0,0 T,rgv,1,0,0,0 T,clv,1,0,0,0 A,in,1,2,0,0";
+    for (line, number) in [
+        // 6 before 8.
+        ("S,cut,1,0,9,9", 6),
+        // 8 before 9: t is no reference, w no term.
+        ("S,cut,0,0,2,0", 8),
+        ("S,cut,0,0,0,2", 8),
+        ("S,cut,0,0,2,2", 9),
+        ("S,cut,0,0,1,1", 9),
+        ("S,ler,0,0,4,0", 8),
+        ("S,ler,0,0,1,0", 9),
+        ("S,ref,0,0,0,0", 8),
+        // 8 before 11.
+        ("S,cui,0,0,0,0", 8),
+        ("S,ext,9,0,0,4", 8),
+        // 11 before 12.
+        ("S,cui,2,0,1,0", 11),
+        ("S,eqr,1,2,0,0", 11),
+        ("S,eqr,0,1,0,0", 11),
+        ("S,cui,1,0,1,0", 12),
+        // A wrong sort elsewhere is 12.
+        ("S,sgi,0,0,1,0", 12),
+        ("S,rdh,0,0,2,0", 12),
+        ("S,rdm,0,0,3,0", 12),
+        // 12 before 13.
+        ("S,ext,1,0,0,1", 12),
+        ("S,wit,1,0,0,1", 12),
+        // 13 before 14; w not an `rfv` is not fresh.
+        ("S,fir,0,0,0,1", 13),
+        ("S,fir,0,0,0,2", 13),
+        ("S,fir,0,0,0,3", 13),
+    ] {
+        assert_eq!(
+            check_text(&format!("{base} {line}")),
+            no(number, 5),
+            "{line}"
+        );
+    }
+    // `nul` is on no branch and yet not fresh: only an `rfv` is.
+    let text = "T,nul,0,0,0,0 T,all,0,0,0,0 S,fir,0,0,0,1";
+    assert_eq!(check_text(text), no(13, 3));
+    // Not on the branch now: fresh again once its alternative is closed.
+    let text = "T,rfv,1,0,0,0 T,rfv,2,0,0,0 T,all,0,0,0,0 T,emp,0,0,0,0
+                A,in,1,4,0,0 S,cut,0,0,1,3
+                S,fir,0,0,0,2 S,emp,1,0,0,0
+                S,fir,0,0,0,2 S,emp,1,0,0,0";
+    assert_eq!(check_text(text), yes(4, 1, 5, 2));
+    // Only waiting, not on the branch: still fresh. Of the alternatives of
+    // `rdm` only the second holds v, term 4.
+    let mut lines = RDM[..9].to_vec();
+    lines.extend(["T,all,0,0,0,0", "S,rdm,0,0,8,0", "S,fir,0,0,0,4"]);
+    assert_eq!(check_lines(&lines), no(17, 13));
+    lines[11] = "S,fir,0,0,0,2";
+    assert_eq!(check_lines(&lines), no(13, 12));
+}
+
+#[test]
+fn terms_to_be_added_must_stand() {
+    // 14 for each missing term.
+    assert_eq!(check_text("T,rfv,1,0,0,0 S,fir,0,0,0,1"), no(14, 2));
+    let text = "T,rfv,1,0,0,0 T,rgv,1,0,0,0 A,in,1,2,0,0";
+    assert_eq!(check_text(&format!("{text} S,all,1,0,0,0")), no(14, 4));
+    assert_eq!(check_text(&format!("{text} S,nul,1,0,0,0")), no(14, 4));
+    // `img`: each of all, typ(u), dty(f), rea(h,u,f).
+    let terms = [
+        "T,all,0,0,0,0",
+        "T,typ,1,0,0,0",
+        "T,dty,4,0,0,0",
+        "T,rea,2,1,4,0",
+    ];
+    for missing in 0..4 {
+        let mut lines = IMG[..5].to_vec();
+        lines.extend(without_line(&terms, missing + 1));
+        lines.extend(["A,in,1,3,0,0", "S,img,1,0,5,0"]);
+        assert_eq!(check_lines(&lines), no(14, 10), "{}", terms[missing]);
+    }
+    // `wit`: each of typ(w), dty(f), rea(h,w,f).
+    for missing in 7..=9 {
+        let lines = [&without_line(&WIT[..10], missing), &["A,in,5,4,0,0"][..]].concat();
+        let lines = with_more(&lines, &["S,wit,1,0,0,6"]);
+        assert_eq!(check_lines(&lines), no(14, 11), "{}", WIT[missing - 1]);
+    }
+    // `rdm`: rea(h,y,g), wanted by the second alternative only.
+    let lines = [&RDM[..8], &["S,rdm,0,0,8,0"]].concat();
+    assert_eq!(check_lines(&lines), no(14, 9));
+    // 14 before 15: the same at 1,000 places.
+    let mut text = file(&["T,rfv,1,0,0,0", "T,rgv,1,0,0,0"]);
+    text.extend(b"A,in,1,2,0,0\n".repeat(1_000));
+    text.extend(b"S,nul,1,0,0,0\n");
+    assert_eq!(check(&text), no(14, 1_003));
+}
+
+#[test]
+fn alternatives_are_taken_last_split_first() {
+    // Two cuts, u in r and u in s. Term 1 u, 2 r, 3 s; no assumptions hold, so
+    // places say which alternative is on the branch.
+    let base = "T,rfv,1,0,0,0 T,rgv,1,0,0,0 T,rgv,2,0,0,0 T,emp,0,0,0,0
+                A,in,1,4,0,0 S,cut,0,0,1,2 S,cut,0,0,1,3 S,emp,1,0,0,0";
+    // Now: u in r in place 2, u ni s in place 3.
+    assert_eq!(check_text(&format!("{base} S,sep,2,3,0,0")), no(12, 9));
+    assert_eq!(check_text(&format!("{base} S,nul,2,0,0,0")), no(14, 9));
+    assert_eq!(check_text(&format!("{base} S,nul,3,0,0,0")), no(12, 9));
+    // Next: u ni r in place 2, and nothing in place 3.
+    let next = format!("{base} S,emp,1,0,0,0");
+    assert_eq!(check_text(&format!("{next} S,nul,2,0,0,0")), no(12, 10));
+    assert_eq!(check_text(&format!("{next} S,nul,3,0,0,0")), no(11, 10));
+    assert_eq!(
+        check_text(&format!("{next} S,emp,1,0,0,0")),
+        yes(4, 1, 5, 3)
+    );
+}
+
+// ---------------------------------------------------------------------------
+// Any bytes
+// ---------------------------------------------------------------------------
+
+struct Dice(u64);
+
+impl Dice {
+    fn below(&mut self, bound: usize) -> usize {
+        self.0 = self.0.wrapping_mul(6364136223846793005).wrapping_add(1);
+        (self.0 >> 33) as usize % bound
+    }
+}
+
+#[test]
+fn any_bytes_get_a_reply() {
+    let mut dice = Dice(1);
+    let files: Vec<Vec<u8>> = rule_files().iter().map(|e| file(&e.lines)).collect();
+    let bytes = b"TAS,0123456789\nabcdeilmnpqrstuvwxy\r\0\xff";
+    for _ in 0..50_000 {
+        let mut text = files[dice.below(files.len())].clone();
+        for _ in 0..=dice.below(3) {
+            let index = dice.below(text.len());
+            text[index] = bytes[dice.below(bytes.len())];
+        }
+        let reply = check(&text);
+        let lines = text.iter().filter(|byte| **byte == b'\n').count() as u32;
+        if reply.yes {
+            assert_eq!((reply.number, reply.line), (0, 0));
+            assert_eq!(reply.terms + reply.assumptions + reply.steps, lines);
+            assert!(reply.closings >= 1 && reply.closings <= reply.steps);
+        } else {
+            assert!(reply.number >= 1 && reply.number <= 17);
+            assert_eq!(reply, no(reply.number, reply.line));
+            assert!(reply.line >= 1 && reply.line <= lines + 1);
+        }
+    }
+}
+
+#[test]
+fn doubling_terms_finish() {
+    // Each term holds the one before it twice; freshness still comes at once.
+    let mut text = file(&["T,rfv,1,0,0,0", "T,sin,1,0,0,0"]);
+    for term in 2..599 {
+        text.extend_from_slice(format!("T,cup,{term},{term},0,0\n").as_bytes());
+    }
+    text.extend_from_slice(b"T,all,0,0,0,0\nA,eq,599,599,0,0\nS,fir,0,0,0,1\n");
+    assert_eq!(check(&text), no(13, 602));
+}
