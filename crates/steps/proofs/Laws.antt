@@ -1,7 +1,7 @@
--- What the arms of a `let .. else` say of the terms that the rules would add; what is small.
+-- What the arms of a `let .. else` say of the terms that the rules would add; what is small; what a rule concludes from.
 use mathlib.Core.Path.{_≡_, refl, sym, subst}
 use mathlib.Core.List.{List, [], _∷_}
-use mathlib.Core.Bool.{true}
+use mathlib.Core.Bool.{Bool, true}
 use mathlib.Core.Option.{Option, none, some}
 use Prim.Native.Nat.{ℕ, _<_, _≤_}
 use native.Mathlib.Omega.{arith}
@@ -11,10 +11,12 @@ use types.Run.{OneOf}
 use denote.Enum.Declared as Declared
 use Rattle.tableau.specs.declared.Operator.{Operator}
 use Rattle.tableau.specs.declared.Relation.{Relation}
+use Rattle.tableau.specs.declared.Rule.{Rule}
 use Rattle.tableau.specs.Terms.{TermNo, Table, Term, variable, apply, Literal, literal, at, noTerm, numberOf}
 use Rattle.tableau.proofs.TableGrowth.{at-beyond}
 use Rattle.terms.specs.declared.TermView.{TermView}
 use Rattle.terms.specs.declared.LiteralView.{LiteralView}
+use Rattle.terms.specs.declared.Found.{Found}
 use Rattle.terms.specs.Packing.{Packable, viewApply, viewOf, unpackLiteral, PackableLiteral, literalViewAs, literalViewOf}
 use Rattle.terms.specs.Holds.{Entries, foundOf}
 use Rattle.terms.proofs.TermView as term-view
@@ -22,7 +24,8 @@ use Rattle.terms.proofs.ViewLaws.{not-among}
 use Rattle.terms.proofs.PackingLaws.{literal-packable}
 use Rattle.terms.proofs.NumberLaws.{found-in}
 use Rattle.tree.specs.State.{HasPlace}
-use Rattle.rules.specs.Answer.{SmallLiteral, SmallView, SmallFound, dtyOf, reaOf, heapOf, readOn, readUnder}
+use Rattle.rules.specs.declared.outcome.Outcome.{Outcome}
+use Rattle.rules.specs.Answer.{SmallLiteral, SmallView, SmallFound, ViewAt, FoundAs, dtyOf, reaOf, heapOf, readOn, readUnder, Concludes, ConcludesFresh}
 
 -- THE KEYS of the other arms
 abbrev pub notRea : List ℕ
@@ -165,3 +168,19 @@ past-last table terms E n h = at-beyond table n (omega (arith, E .few))
 -- check 11 holds of the places from 1 to n
 pub has-place : (n p : ℕ) → 1 ≤ p → p ≤ n → HasPlace n p true
 has-place n p h g = λ B e. rw (e, le-leb 1 p h, le-leb p n g)
+
+-- WHAT A RULE IS TOLD: the view of a number that is the same, the search for a term that is the same
+pub view-at : {table : Table} {m n : TermNo} {x : TermView} → m ≡ n → ViewAt table m x → ViewAt table n x
+view-at {table} {m} {n} {x} e v = subst (λ (k : TermNo). ViewAt table k x) e v
+
+pub found-as : {table : Table} {d e : Term} {f : Found} → d ≡ e → FoundAs table d f → FoundAs table e f
+found-as {table} {d} {e} {f} q v = subst (λ (k : Term). FoundAs table k f) q v
+
+-- a rule concludes from what gives its premise
+pub concludes-from : {A B : Table → Type 0} {x : Rule} {P Q : Option Literal} {t w : ℕ} {r : Outcome}
+    → ((table : Table) → A table → B table) → Concludes B x P Q t w r → Concludes A x P Q t w r
+concludes-from f C = record { room = C .room; answers = λ table h fresh. C .answers table (f table h) fresh }
+
+pub concludes-fresh-from : {A B : Table → Type 0} {fresh : Bool} {x : Rule} {P Q : Option Literal} {t w : ℕ} {r : Outcome}
+    → ((table : Table) → A table → B table) → ConcludesFresh B fresh x P Q t w r → ConcludesFresh A fresh x P Q t w r
+concludes-fresh-from f C = record { room = C .room; answers = λ table h. C .answers table (f table h) }
