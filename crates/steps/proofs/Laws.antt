@@ -1,31 +1,38 @@
 -- What the arms of a `let .. else` say of the terms that the rules would add; what is small; what a rule concludes from.
-use mathlib.Core.Path.{_≡_, refl, sym, subst}
+use mathlib.Core.Path.{_≡_, refl, sym, subst, ap, ap₂, _∙_}
 use mathlib.Core.List.{List, [], _∷_}
-use mathlib.Core.Bool.{Bool, true}
+use mathlib.Core.Bool.{Bool, true, _&&_, _||_}
+use mathlib.Core.Logic.{_⊎_, inl, inr}
+use lib.Dec.{leb}
 use mathlib.Core.Option.{Option, none, some}
-use Prim.Native.Nat.{ℕ, _<_, _≤_}
+use Prim.Native.Nat.{ℕ, suc, _<_, _≤_}
 use native.Mathlib.Omega.{arith}
 use lib.ListN.{length}
-use borrow.Author.Tests.{le-leb}
+use borrow.Author.Tests.{le-leb, leb-true}
 use types.Run.{OneOf}
 use denote.Enum.Declared as Declared
 use Rattle.tableau.specs.declared.Operator.{Operator}
 use Rattle.tableau.specs.declared.Relation.{Relation}
 use Rattle.tableau.specs.declared.Rule.{Rule}
-use Rattle.tableau.specs.Terms.{TermNo, Table, Term, variable, apply, Literal, literal, at, noTerm, numberOf}
+use Rattle.tableau.specs.declared.Sort.{Sort}
+use Rattle.tableau.specs.Terms.{TermNo, Table, Term, variable, apply, Literal, literal, at, noTerm, numberOf, Use, unused, place, name, side, term, of}
+use Rattle.tableau.specs.Rules.{ruleFields}
+use Rattle.tableau.specs.Tree.{literalAt}
+use Rattle.tableau.proofs.Bools.{both-true, one-true}
 use Rattle.tableau.proofs.TableGrowth.{at-beyond}
 use Rattle.terms.specs.declared.TermView.{TermView}
 use Rattle.terms.specs.declared.LiteralView.{LiteralView}
 use Rattle.terms.specs.declared.Found.{Found}
-use Rattle.terms.specs.Packing.{Packable, viewApply, viewOf, unpackLiteral, PackableLiteral, literalViewAs, literalViewOf}
-use Rattle.terms.specs.Holds.{Entries, foundOf}
+use Rattle.terms.specs.Packing.{literalOf, Packable, viewApply, viewOf, unpackLiteral, PackableLiteral, literalViewAs, literalViewOf}
+use Rattle.terms.specs.Holds.{Entries, Searchable, foundOf}
 use Rattle.terms.proofs.TermView as term-view
 use Rattle.terms.proofs.ViewLaws.{not-among}
 use Rattle.terms.proofs.PackingLaws.{literal-packable}
 use Rattle.terms.proofs.NumberLaws.{found-in}
 use Rattle.tree.specs.State.{HasPlace}
 use Rattle.rules.specs.declared.outcome.Outcome.{Outcome}
-use Rattle.rules.specs.Answer.{SmallLiteral, SmallView, SmallFound, ViewAt, FoundAs, dtyOf, reaOf, heapOf, readOn, readUnder, Concludes, ConcludesFresh}
+use Rattle.rules.specs.Answer.{SmallLiteral, SmallView, SmallFound, ViewAt, SortAt, FoundAs, dtyOf, reaOf, heapOf, readOn, readUnder, Concludes, ConcludesFresh, answer}
+use Rattle.steps.specs.Infers.{PlaceGiven, TermGiven, Given, Infers, placeOf}
 
 -- THE KEYS of the other arms
 abbrev pub notRea : List ℕ
@@ -169,9 +176,12 @@ past-last table terms E n h = at-beyond table n (omega (arith, E .few))
 pub has-place : (n p : ℕ) → 1 ≤ p → p ≤ n → HasPlace n p true
 has-place n p h g = λ B e. rw (e, le-leb 1 p h, le-leb p n g)
 
--- WHAT A RULE IS TOLD: the view of a number that is the same, the search for a term that is the same
+-- WHAT A RULE IS TOLD: the view and the sort of a number that is the same, the search for a term that is the same
 pub view-at : {table : Table} {m n : TermNo} {x : TermView} → m ≡ n → ViewAt table m x → ViewAt table n x
 view-at {table} {m} {n} {x} e v = subst (λ (k : TermNo). ViewAt table k x) e v
+
+pub sort-at : (table : Table) {m n : TermNo} {k : Sort} → m ≡ n → SortAt table m k → SortAt table n k
+sort-at table {m} {n} {k} e v = subst (λ (j : TermNo). SortAt table j k) e v
 
 pub found-as : {table : Table} {d e : Term} {f : Found} → d ≡ e → FoundAs table d f → FoundAs table e f
 found-as {table} {d} {e} {f} q v = subst (λ (k : Term). FoundAs table k f) q v
@@ -184,3 +194,105 @@ concludes-from f C = record { room = C .room; answers = λ table h fresh. C .ans
 pub concludes-fresh-from : {A B : Table → Type 0} {fresh : Bool} {x : Rule} {P Q : Option Literal} {t w : ℕ} {r : Outcome}
     → ((table : Table) → A table → B table) → ConcludesFresh B fresh x P Q t w r → ConcludesFresh A fresh x P Q t w r
 concludes-fresh-from f C = record { room = C .room; answers = λ table h. C .answers table (f table h) }
+
+-- WHAT A STEP IS GIVEN: the literal at a place that the rule uses, the number of a field that it uses
+abbrev pub given : Use → LiteralView → Option Literal
+given unused P = none
+given place P = some (literalOf P)
+given name P = none
+given side P = none
+given term P = none
+given (of s) P = none
+
+abbrev pub fieldOf : Use → ℕ → ℕ
+fieldOf unused n = 0
+fieldOf place n = n
+fieldOf name n = n
+fieldOf side n = n
+fieldOf term n = n
+fieldOf (of s) n = n
+
+-- a field of a place is used as one, or not used
+abbrev pub Placed : Use → Type 0
+Placed unused = Unit {0}
+Placed place = Unit {0}
+Placed name = ⊥
+Placed side = ⊥
+Placed term = ⊥
+Placed (of s) = ⊥
+
+literal-given : (B : List Literal) (k : Use) (n : ℕ) (P : LiteralView) → Placed k → PlaceGiven B k n P → literalAt B n ≡ given k P
+literal-given B unused n P h g = ap (literalAt B) g
+literal-given B place n P h g = g
+literal-given B name n P h g = absurd h
+literal-given B side n P h g = absurd h
+literal-given B term n P h g = absurd h
+literal-given B (of s) n P h g = absurd h
+
+field-given : (k : Use) (n : ℕ) → TermGiven k n → n ≡ fieldOf k n
+field-given unused n g = g
+field-given place n g = refl
+field-given name n g = refl
+field-given side n g = refl
+field-given term n g = refl
+field-given (of s) n g = refl
+
+-- the terms that the rule is given, where the rule is known
+pub term-given : {x y : Rule} (t : ℕ) → x ≡ y → TermGiven (ruleFields x .c) t → TermGiven (ruleFields y .c) t
+term-given {x} {y} t e h = subst (λ (k : Rule). TermGiven (ruleFields k .c) t) e h
+
+pub new-given : {x y : Rule} (w : ℕ) → x ≡ y → TermGiven (ruleFields x .d) w → TermGiven (ruleFields y .d) w
+new-given {x} {y} w e h = subst (λ (k : Rule). TermGiven (ruleFields k .d) w) e h
+
+given-answer : (table : Table) (fresh : Bool) (B : List Literal) (x : Rule) (p q t w : ℕ) (P Q : LiteralView)
+    → Placed (ruleFields x .a) → Placed (ruleFields x .b) → Given B x p q t w P Q
+    → answer table fresh (literalAt B p) (literalAt B q) t w x ≡ answer table fresh (given (ruleFields x .a) P) (given (ruleFields x .b) Q) (fieldOf (ruleFields x .c) t) (fieldOf (ruleFields x .d) w) x
+given-answer table fresh B x p q t w P Q a b g =
+    ap₂ (λ (k l : Option Literal). answer table fresh k l t w x) (literal-given B (ruleFields x .a) p P a (g .atP)) (literal-given B (ruleFields x .b) q Q b (g .atQ))
+    ∙ ap₂ (λ (k l : ℕ). answer table fresh (given (ruleFields x .a) P) (given (ruleFields x .b) Q) k l x) (field-given (ruleFields x .c) t (g .termT)) (field-given (ruleFields x .d) w (g .termW))
+
+-- WHAT A STEP INFERS is what the function of its rule concludes
+pub infers : {n : ℕ} {x y : Rule} {P Q : LiteralView} {t w : ℕ} {fresh : Bool} {terms head next : List ℕ} {r : Outcome} {A : Table → Type 0}
+    → x ≡ y → Placed (ruleFields y .a) → Placed (ruleFields y .b) → ((table : Table) → Searchable table terms head next → A table)
+    → Concludes A y (given (ruleFields y .a) P) (given (ruleFields y .b) Q) (fieldOf (ruleFields y .c) t) (fieldOf (ruleFields y .d) w) r
+    → Infers n x P Q t w fresh terms head next r
+infers {n} {x} {y} {P} {Q} {t} {w} {fresh} {terms} {head} {next} {r} {A} e a b f C =
+    subst (λ (k : Rule). Infers n k P Q t w fresh terms head next r) (sym e)
+    record {
+      room = C .room;
+      answers = λ h table S B p q g. given-answer table fresh B y p q t w P Q a b g ∙ C .answers table (f table S) fresh;
+    }
+
+pub infers-fresh : {n : ℕ} {x y : Rule} {P Q : LiteralView} {t w : ℕ} {fresh : Bool} {terms head next : List ℕ} {r : Outcome} {A : Table → Type 0}
+    → x ≡ y → Placed (ruleFields y .a) → Placed (ruleFields y .b) → ((table : Table) → Searchable table terms head next → A table)
+    → ConcludesFresh A fresh y (given (ruleFields y .a) P) (given (ruleFields y .b) Q) (fieldOf (ruleFields y .c) t) (fieldOf (ruleFields y .d) w) r
+    → Infers n x P Q t w fresh terms head next r
+infers-fresh {n} {x} {y} {P} {Q} {t} {w} {fresh} {terms} {head} {next} {r} {A} e a b f C =
+    subst (λ (k : Rule). Infers n k P Q t w fresh terms head next r) (sym e)
+    record {
+      room = C .room;
+      answers = λ h table S B p q g. given-answer table fresh B y p q t w P Q a b g ∙ C .answers table (f table S);
+    }
+
+-- THE RULES THAT ARE LEFT: none of these numbers is from m up to n
+abbrev pub outside : ℕ → ℕ → List ℕ → Bool
+outside m n [] = true
+outside m n (j ∷ js) = (leb (suc j) m || leb n j) && outside m n js
+
+pub past : (m n : ℕ) (js : List ℕ) (x : ℕ) → outside m n js ≡ true → OneOf js x → m ≤ x → n ≤ x
+past m n [] x o h l = absurd h
+past m n (j ∷ []) x o h l = here (one-true _ _ (both-true (leb (suc j) m || leb n j) _ o .0))
+  where
+    here : (leb (suc j) m ≡ true) ⊎ (leb n j ≡ true) → n ≤ x
+    here (inl a) = absurd (omega (arith, leb-true (suc j) m a, h))
+    here (inr a) = omega (arith, leb-true n j a, h)
+past m n (j ∷ i ∷ js) x o (inl h) l = here (one-true _ _ (both-true (leb (suc j) m || leb n j) _ o .0))
+  where
+    here : (leb (suc j) m ≡ true) ⊎ (leb n j ≡ true) → n ≤ x
+    here (inl a) = absurd (omega (arith, leb-true (suc j) m a, h))
+    here (inr a) = omega (arith, leb-true n j a, h)
+past m n (j ∷ i ∷ js) x o (inr h) l = past m n (i ∷ js) x (both-true (leb (suc j) m || leb n j) _ o .1) h l
+
+pub infers-later : {m n : ℕ} {x : Rule} {P Q : LiteralView} {t w : ℕ} {fresh : Bool} {terms head next : List ℕ} {r : Outcome}
+    → (m ≤ placeOf x → n ≤ placeOf x) → Infers n x P Q t w fresh terms head next r → Infers m x P Q t w fresh terms head next r
+infers-later f I = record { room = I .room; answers = λ h. I .answers (f h) }
