@@ -17,6 +17,10 @@ use Rattle.lines.specs.Lines.{packWord}
 use Rattle.lines.specs.declared.LetterFound.{LetterFound}
 use Rattle.lines.specs.Remains.{letterFound, packedWord, letterFrom, wordFrom, numberFrom, whole}
 
+no-value : {A : Type 0} (b : Bool) → guard {A = A} b none ≡ none
+no-value true = refl
+no-value false = refl
+
 -- A table of words, by its first entry.
 pub lookup-other : {A : Type 0} (n : Named A) (ns : List (Named A)) (w : List ℕ) → sameBytes (bytes (n .text)) w ≡ false → lookup (n ∷ ns) w ≡ lookup ns w
 unfolding lookup
@@ -29,6 +33,7 @@ pub lookup-none : {A : Type 0} (w : List ℕ) → lookup {A = A} [] w ≡ none
 unfolding lookup
 lookup-none w = refl
 
+-- The letter.
 pub no-letter : (x : ℕ) → (x ≡ 84 → ⊥) → (x ≡ 65 → ⊥) → (x ≡ 83 → ⊥) → lookup letters (x ∷ []) ≡ none
 unfolding letters sameBytes bytes
 no-letter x t a s =
@@ -53,11 +58,7 @@ pub letter-first : (count x : ℕ) (l l′ : Letter) → count ≡ 0 → lookup 
 letter-first count x l l′ e h p = rw (e, letter-alone x p, h)
 
 pub letter-unknown : (count x : ℕ) (l : Letter) → count ≡ 0 → lookup letters (x ∷ []) ≡ none → (p : List ℕ) → letterFrom count l (x ∷ p) ≡ none
-letter-unknown count x l e h p = rw (e, letter-alone x p, h) (nothing (eqb (length p) 0))
-  where
-    nothing : (b : Bool) → guard {A = Letter} b none ≡ none
-    nothing true = refl
-    nothing false = refl
+letter-unknown count x l e h p = rw (e, letter-alone x p, h) (no-value (eqb (length p) 0))
 
 pub letter-empty : (count : ℕ) (l : Letter) → count ≡ 0 → letterFrom count l [] ≡ none
 unfolding letters lookup sameBytes bytes
@@ -114,10 +115,6 @@ module _ (count value x : ℕ) where
   word-whole h = rw (le-leb 2 (count + 0) (omega arith), le-leb 0 (3 - count) (omega arith), mul-zero, add-zero)
 
 -- A number.
-no-value : {A : Type 0} (b : Bool) → guard {A = A} b none ≡ none
-no-value true = refl
-no-value false = refl
-
 -- a first 0 stands alone
 lone : (x : ℕ) (p : List ℕ) → x ≡ 48 → leb (suc (length p)) maxDigits && (not (eqb x 48) || eqb (length p) 0) ≡ leb (length p) (maxDigits - maxDigits)
 lone x [] e = rw e

@@ -123,6 +123,9 @@ impl Reading {
             return self.in_number(x);
         }
         if left == 4 {
+            if x < b'a' {
+                return self.end_word(x);
+            }
             return self.in_word(x);
         }
         self.in_letter(x)
@@ -157,23 +160,11 @@ impl Reading {
     }
 
     fn in_word(mut self, x: u8) -> Step
-        requires { ⌜ (self .left ≡ 4) × Sound self ⌝ }
+        requires { ⌜ (self .left ≡ 4) × (97 ≤ x) × Sound self ⌝ }
         ensures { λ r. ⌜ Reads self x r ⌝ }
     {
         let count = self.count;
         let value = self.value;
-        if x < b'a' {
-            if x == b',' {
-                if 2 <= count {
-                    self.left = 3;
-                    self.count = 0;
-                    self.value = 0;
-                    self.word = value;
-                    return Step::More(self);
-                }
-            }
-            return Step::Bad;
-        }
         if b'z' < x {
             return Step::Bad;
         }
@@ -191,6 +182,23 @@ impl Reading {
             self.count = 3;
             self.value = value + 65536 * wide(x);
             return Step::More(self);
+        }
+        Step::Bad
+    }
+
+    // A byte below the small letters ends the word.
+    fn end_word(mut self, x: u8) -> Step
+        requires { ⌜ (self .left ≡ 4) × (x < 97) ⌝ }
+        ensures { λ r. ⌜ Reads self x r ⌝ }
+    {
+        if x == b',' {
+            if 2 <= self.count {
+                self.left = 3;
+                self.word = self.value;
+                self.count = 0;
+                self.value = 0;
+                return Step::More(self);
+            }
         }
         Step::Bad
     }

@@ -1,4 +1,4 @@
--- What the arms of a `let .. else` say of the terms that the rules would add; what is small; what a rule concludes from.
+-- What the arms of a `let .. else` say of the terms that the rules would add; what is small; what a rule concludes from; what a step infers.
 use mathlib.Core.Path.{_≡_, refl, sym, subst, ap, ap₂, _∙_}
 use mathlib.Core.List.{List, [], _∷_}
 use mathlib.Core.Bool.{Bool, true, _&&_, _||_}
@@ -263,6 +263,7 @@ infers {n} {x} {y} {P} {Q} {t} {w} {fresh} {terms} {head} {next} {r} {A} e a b f
       answers = λ h table S B p q g. given-answer table fresh B y p q t w P Q a b g ∙ C .answers table (f table S) fresh;
     }
 
+-- the same for a rule that asks for a fresh w
 pub infers-fresh : {n : ℕ} {x y : Rule} {P Q : LiteralView} {t w : ℕ} {fresh : Bool} {terms head next : List ℕ} {r : Outcome} {A : Table → Type 0}
     → x ≡ y → Placed (ruleFields y .a) → Placed (ruleFields y .b) → ((table : Table) → Searchable table terms head next → A table)
     → ConcludesFresh A fresh y (given (ruleFields y .a) P) (given (ruleFields y .b) Q) (fieldOf (ruleFields y .c) t) (fieldOf (ruleFields y .d) w) r
@@ -279,20 +280,20 @@ abbrev pub outside : ℕ → ℕ → List ℕ → Bool
 outside m n [] = true
 outside m n (j ∷ js) = (leb (suc j) m || leb n j) && outside m n js
 
+past-one : (m n j x : ℕ) → leb (suc j) m || leb n j ≡ true → x ≡ j → m ≤ x → n ≤ x
+past-one m n j x o h l = go (one-true (leb (suc j) m) (leb n j) o)
+  where
+    go : (leb (suc j) m ≡ true) ⊎ (leb n j ≡ true) → n ≤ x
+    go (inl a) = absurd (omega (arith, leb-true (suc j) m a, h))
+    go (inr a) = omega (arith, leb-true n j a, h)
+
 pub past : (m n : ℕ) (js : List ℕ) (x : ℕ) → outside m n js ≡ true → OneOf js x → m ≤ x → n ≤ x
 past m n [] x o h l = absurd h
-past m n (j ∷ []) x o h l = here (one-true _ _ (both-true (leb (suc j) m || leb n j) _ o .0))
-  where
-    here : (leb (suc j) m ≡ true) ⊎ (leb n j ≡ true) → n ≤ x
-    here (inl a) = absurd (omega (arith, leb-true (suc j) m a, h))
-    here (inr a) = omega (arith, leb-true n j a, h)
-past m n (j ∷ i ∷ js) x o (inl h) l = here (one-true _ _ (both-true (leb (suc j) m || leb n j) _ o .0))
-  where
-    here : (leb (suc j) m ≡ true) ⊎ (leb n j ≡ true) → n ≤ x
-    here (inl a) = absurd (omega (arith, leb-true (suc j) m a, h))
-    here (inr a) = omega (arith, leb-true n j a, h)
+past m n (j ∷ []) x o h l = past-one m n j x (both-true (leb (suc j) m || leb n j) _ o .0) h l
+past m n (j ∷ i ∷ js) x o (inl h) l = past-one m n j x (both-true (leb (suc j) m || leb n j) _ o .0) h l
 past m n (j ∷ i ∷ js) x o (inr h) l = past m n (i ∷ js) x (both-true (leb (suc j) m || leb n j) _ o .1) h l
 
+-- what is inferred of the later rules, where the rule is one of them
 pub infers-later : {m n : ℕ} {x : Rule} {P Q : LiteralView} {t w : ℕ} {fresh : Bool} {terms head next : List ℕ} {r : Outcome}
     → (m ≤ placeOf x → n ≤ placeOf x) → Infers n x P Q t w fresh terms head next r → Infers m x P Q t w fresh terms head next r
 infers-later f I = record { room = I .room; answers = λ h. I .answers (f h) }
