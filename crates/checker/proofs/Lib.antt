@@ -1,1 +1,3 @@
+pub mod AssumptionLines
 pub mod Lines
+pub mod TermLines

@@ -1,0 +1,2 @@
+pub mod InferLaws
+pub mod Running

@@ -1,12 +1,13 @@
 // The reply: six numbers in the build host's buffer, or one line of text.
+mod buffer;
+mod text;
+
+pub use buffer::write_numbers;
 use tableau::Reason;
+pub use text::write_line;
 ghost use mathlib.Core.Path.{_≡_};
-ghost use mathlib.Core.List.{[], _∷_, _++_};
-ghost use Prim.Native.Nat.{_+_, _≤_};
-ghost use lib.ListN.{length, take};
-ghost use Rattle.tableau.specs.Basics.{bytes};
-ghost use Rattle.tableau.specs.Reply.{reasonNumber, replyOf, sixNumbers, fourBytes, replyBytes, decimal, yesOrNo, replyLine, bufferLength};
-ghost use Rattle.reply.specs.Verdict.{verdictOf};
+ghost use Rattle.tableau.specs.Reply.{reasonNumber, replyOf};
+ghost use Rattle.reply.specs.Verdict.{verdictOf, replyRecord};
 
 // The counts after a yes.
 pub struct Counts {
@@ -31,4 +32,61 @@ pub struct Reply {
     pub assumptions: usize,
     pub steps: usize,
     pub closings: usize,
+}
+
+fn reason_number(reason: Reason) -> usize
+    ensures { λ r. ⌜ r ≡ reasonNumber reason ⌝ }
+{
+    match reason {
+        Reason::TooLong => 1,
+        Reason::BadShape => 2,
+        Reason::LetterOrder => 3,
+        Reason::UnknownWord => 4,
+        Reason::TreeClosed => 5,
+        Reason::UnusedField => 6,
+        Reason::TooManyTerms => 7,
+        Reason::NoSuchTerm => 8,
+        Reason::WrongSort => 9,
+        Reason::TermRepeated => 10,
+        Reason::NoSuchPlace => 11,
+        Reason::NeedNotMet => 12,
+        Reason::NotFresh => 13,
+        Reason::TermNotMade => 14,
+        Reason::BranchFull => 15,
+        Reason::WaitingFull => 16,
+        Reason::BranchOpen => 17,
+        Reason::BufferLength => 18,
+    }
+}
+
+// After a yes the number and the line are 0, after a no the four counts.
+pub fn reply_of(verdict: Verdict) -> Reply
+    ensures { λ r. ⌜ replyRecord r ≡ replyOf (verdictOf verdict) ⌝ }
+{
+    match verdict {
+        Verdict::Accepted(counts) => {
+            let terms = counts.terms;
+            let assumptions = counts.assumptions;
+            let steps = counts.steps;
+            let closings = counts.closings;
+            Reply {
+                is_yes: true,
+                number: 0,
+                line: 0,
+                terms: terms,
+                assumptions: assumptions,
+                steps: steps,
+                closings: closings,
+            }
+        }
+        Verdict::Refused(reason, line) => Reply {
+            is_yes: false,
+            number: reason_number(reason),
+            line: line,
+            terms: 0,
+            assumptions: 0,
+            steps: 0,
+            closings: 0,
+        },
+    }
 }

@@ -1,0 +1,67 @@
+-- `assumption_lines::one` meets its contract: check 4, then those of the command, then check 15.
+use mathlib.Core.Path.{_≡_, refl, sym, _∙_}
+use Rattle.commands.proofs.Running as running
+use Rattle.checker.proofs.AssumptionLines.{code-small, relation-known, relation-unknown, assumption-unknown, assumption-refused, assumption-pushed}
+use borrow.Author.Needs.{needs}
+use Rattle.checker.proofs.assumption_lines.one.Statement.{statement}
+use Rattle.checker.proofs.assumption_lines.one.Tie as tie
+use Rattle.checker.proofs.assumption_lines.one.Reads as reads
+use Rattle.checker.proofs.assumption_lines.one.Lts as lts
+use Rattle.checker.proofs.assumption_lines.push.Reads as push-reads
+use Rattle.commands.proofs.assuming.assume.Reads as assume-reads
+use Rattle.lines.proofs.relation_of.Reads as relation-of-reads
+
+-- src/assumption_lines.rt:42:42
+relation-of-requires : tie.Need-relation-of-requires
+relation-of-requires c κs = search needs
+
+-- src/assumption_lines.rt:42:30
+enum-known-relation : tie.Need-enum-known-relation
+enum-known-relation c = search needs
+
+-- src/assumption_lines.rt:43:36
+enum-told : tie.Need-enum-told
+enum-told c = search needs
+
+-- src/assumption_lines.rt:43:9
+returns : tie.Need-returns
+returns c table E q = let g = c .before .before .before in assumption-unknown table (g .args .f) (g .pre .1 .1) _ (relation-unknown _ (sym (c .before .before .relation-of .ensures) ∙ c .enum-told .given .1))
+
+-- src/assumption_lines.rt:45:11
+assume-requires : tie.Need-assume-requires
+assume-requires c κs = search needs
+
+-- src/assumption_lines.rt:46:29
+enum-known-reason : tie.Need-enum-known-reason
+enum-known-reason c = search needs
+
+-- src/assumption_lines.rt:47:29
+enum-known-literal : tie.Need-enum-known-literal
+enum-known-literal c = search needs
+
+-- src/assumption_lines.rt:47:41
+push-requires : tie.Need-push-requires
+push-requires c κs = let g = c .before .before .before .before .before .before .before .before .before in let p = g .pre .0 in (g .pre .1 .0, code-small (p .0) _ _ _ (p .1 .few) (sym (c .before .before .before .before .assume .ensures (p .0) (p .1) (p .2)) ∙ c .before .before .literal .given .1))
+
+-- src/assumption_lines.rt:35:1
+returns-2 : tie.Need-returns-2
+returns-2 c table E q = let g = c .before .before .before .before .before .before .before .before in assumption-refused table (g .args .f) (g .pre .1 .1) _ (relation-known _ _ (sym (c .before .before .before .before .before .before .before .relation-of .ensures) ∙ c .before .before .before .before .before .relation .given .1)) _ _ (running.assumption-refused _ _ (sym (c .before .before .before .assume .ensures table E q) ∙ c .before .reason .given .1))
+
+-- src/assumption_lines.rt:35:1
+returns-3 : tie.Need-returns-3
+returns-3 c table E q = let g = c .before .before .before .before .before .before .before .before .before .before in let m = running.assumption-made _ _ (sym (c .before .before .before .before .before .assume .ensures table E q) ∙ c .before .before .before .literal .given .1) in assumption-pushed table (g .args .f) (g .pre .1 .1) _ (relation-known _ _ (sym (c .before .before .before .before .before .before .before .before .before .relation-of .ensures) ∙ c .before .before .before .before .before .before .before .relation .given .1)) _ (c .push .last .0) _ _ (c .push .result) (g .pre .1 .0) (E .few) (m .0) (m .1) (c .push .ensures)
+
+pub one-spec : {M : Type 1} → statement M
+one-spec =
+    tie.close
+    (tie.spec
+    relation-of-requires
+    enum-known-relation
+    enum-told
+    returns
+    assume-requires
+    enum-known-reason
+    enum-known-literal
+    push-requires
+    returns-2
+    returns-3)

@@ -1,0 +1,81 @@
+// The reply as one line of text. Each function writes behind the first `len` bytes and returns how many there are then.
+use crate::Reply;
+ghost use mathlib.Core.Path.{_≡_};
+ghost use mathlib.Core.List.{_∷_};
+ghost use Prim.Native.Nat.{_+_, _≤_};
+ghost use lib.ListN.{length, take};
+ghost use Rattle.tableau.specs.File.{comma};
+ghost use Rattle.tableau.specs.Reply.{decimal, yesOrNo, replyLine};
+ghost use Rattle.reply.specs.Line.{Put};
+ghost use Rattle.reply.specs.Verdict.{replyRecord};
+
+const LF: u8 = 10;
+
+fn put_text(line: &mut [u8; 136], len: usize, text: &[u8]) -> usize
+    requires { ⌜ (len + length (now text) ≤ 136) × (length (now line) ≡ 136) ⌝ }
+    ensures { λ r. ⌜ (r ≡ len + length (now (text .entry))) × Put (now (line .entry)) len (now (text .entry)) (now (line .exit)) r ⌝ }
+{
+    let mut i = 0;
+    while i < text.len() {
+        line[len + i] = text[i];
+        i += 1;
+    }
+    len + i
+}
+
+// The digits are found from the last to the first: those from `pos + 1` on stand, and `rest` is what they leave of the value.
+fn put_decimal(line: &mut [u8; 136], len: usize, value: usize) -> usize
+    requires { ⌜ (len + 20 ≤ 136) × (length (now line) ≡ 136) ⌝ }
+    ensures { λ r. ⌜ (r ≤ len + 20) × Put (now (line .entry)) len (decimal value) (now (line .exit)) r ⌝ }
+{
+    let mut digits = [0; 20];
+    let mut pos = 19;
+    let mut rest = value;
+    while 10 <= rest {
+        digits[pos] = (48 + rest % 10) as u8;
+        rest /= 10;
+        pos -= 1;
+    }
+    digits[pos] = (48 + rest) as u8;
+    put_text(line, len, &digits[pos..])
+}
+
+fn put_field(line: &mut [u8; 136], len: usize, value: usize) -> usize
+    requires { ⌜ (len + 21 ≤ 136) × (length (now line) ≡ 136) ⌝ }
+    ensures { λ r. ⌜ (r ≤ len + 21) × Put (now (line .entry)) len (comma ∷ decimal value) (now (line .exit)) r ⌝ }
+{
+    line[len] = b',';
+    put_decimal(line, len + 1, value)
+}
+
+fn put_answer(line: &mut [u8; 136], yes: bool) -> usize
+    requires { ⌜ length (now line) ≡ 136 ⌝ }
+    ensures { λ r. ⌜ (r ≤ 3) × Put (now (line .entry)) 0 (yesOrNo yes) (now (line .exit)) r ⌝ }
+{
+    if yes {
+        return put_text(line, 0, b"yes");
+    }
+    put_text(line, 0, b"no")
+}
+
+pub fn write_line(reply: Reply, line: &mut [u8; 136]) -> usize
+    requires { ⌜ length (now line) ≡ 136 ⌝ }
+    ensures { λ r. ⌜ (r ≤ 136) × (take r (now (line .exit)) ≡ replyLine (replyRecord reply)) × (length (now (line .exit)) ≡ 136) ⌝ }
+{
+    let is_yes = reply.is_yes;
+    let number = reply.number;
+    let line_number = reply.line;
+    let terms = reply.terms;
+    let assumptions = reply.assumptions;
+    let steps = reply.steps;
+    let closings = reply.closings;
+    let mut len = put_answer(line, is_yes);
+    len = put_field(line, len, number);
+    len = put_field(line, len, line_number);
+    len = put_field(line, len, terms);
+    len = put_field(line, len, assumptions);
+    len = put_field(line, len, steps);
+    len = put_field(line, len, closings);
+    line[len] = LF;
+    len + 1
+}
