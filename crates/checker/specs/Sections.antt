@@ -105,6 +105,14 @@ abbrev pub statusOf : Bool → Tree → Status
 statusOf true t = isClosed
 statusOf false t = isOpen (treeOf unpackLiteral t)
 
+-- k steps are taken and c of them closed; the next line, at the position, is an S line or breaks check 3
+pub record StepsTaken (file : List ℕ) (from n : ℕ) (table : Table) (m : ℕ) (t₀ : Tree) (l₀ : Letter) (t : Tree) (closed : Bool) (at k c : ℕ) : Type 0 where
+  pub letter : Letter
+  pub noTerm : OutOfOrder letter Letter.T file at
+  pub noAssumption : OutOfOrder letter Letter.A file at
+  pub runs : verdictFrom file from (n + m) (passed (stateOf table (isOpen (treeOf unpackLiteral t₀)) l₀ m 0 0))
+      ≡ verdictFrom file at (n + m + k) (passed (stateOf table (statusOf closed t) letter m k c))
+
 abbrev pub StepSection : List ℕ → ℕ → ℕ → Table → ℕ → Tree → Verdict → Type 0
 StepSection file at n table m t v =
     (l : Letter) → OutOfOrder l Letter.T file at → OutOfOrder l Letter.A file at

@@ -3,6 +3,7 @@ use lines::Cursor;
 use tableau::Reason;
 
 mod assumption_lines;
+mod step_lines;
 mod term_lines;
 
 // The result of a line that was read.

@@ -1,0 +1,219 @@
+-- S lines in the specification's run.
+use mathlib.Core.Path.{_≡_, refl, sym, _∙_, ap, subst}
+use mathlib.Core.Bool.{Bool, true, false, cond, _&&_}
+use mathlib.Core.List.{List, [], _∷_}
+use mathlib.Core.Logic.{_⊎_, inl, inr}
+use mathlib.Core.Option.{Option, none, some}
+use Prim.Native.Nat.{ℕ, zero, suc, _+_, _<_, _≤_}
+use native.Mathlib.Omega.{arith}
+use native.Mathlib.Numerals.{add-one}
+use lib.Dec.{leb}
+use lib.ListN.{length}
+use borrow.Author.Tests.{leb-true, lt-leb}
+use denote.Enum.Declared as Declared
+use types.Run.{OneOf}
+use Rattle.tableau.proofs.Letter as letter-type
+use Rattle.tree.proofs.Answer as answer-type
+use Rattle.tableau.specs.declared.Letter.{Letter}
+use Rattle.tableau.specs.declared.Reason.{Reason}
+use Rattle.tableau.specs.declared.Rule.{Rule}
+use Rattle.tableau.specs.Rules.{rule, ruleNames}
+use Rattle.tableau.specs.Terms.{Table}
+use Rattle.tableau.specs.Tree.{Checked, refused, passed, _>>=_, _>>_, Status, isOpen, isClosed}
+use Rattle.tableau.specs.Reply.{some-of, infer, State, rank, inOrder, isClosing, counted, runCommand, Verdict, accept, refuse, atEnd}
+use Rattle.lines.specs.declared.Fields.{Fields}
+use Rattle.lines.specs.declared.LineRead.{LineRead}
+use Rattle.lines.specs.declared.words.RuleFound.{RuleFound}
+use Rattle.lines.specs.Lines.{lineAt}
+use Rattle.lines.specs.Words.{lookupPacked, ruleFound}
+use Rattle.terms.specs.Packing.{unpackLiteral}
+use Rattle.tree.specs.declared.Tree.{Tree}
+use Rattle.tree.specs.declared.Answer.{Answer}
+use Rattle.tree.specs.declared.Outcome.{Outcome}
+use Rattle.tree.specs.State.{treeOf}
+use Rattle.tree.specs.Outcome.{answered}
+use Rattle.tableau.proofs.Bools.{both-true}
+use Rattle.steps.specs.Infers.{placeOf}
+use Rattle.commands.specs.Commands.{stepped, Steps}
+use Rattle.commands.proofs.InferLaws.{run-infer}
+use Rattle.checker.specs.Running.{verdictFrom, packedCommand, runFields}
+use Rattle.checker.specs.Sections.{OutOfOrder, stateOf, closingsOf, closesTree, statusOf, StepsTaken}
+use Rattle.checker.proofs.Lines.{line-here, bad-line, refused-here, at-end}
+use Rattle.checker.proofs.TermLines.{numbers, run-disordered, run-unknown, run-known}
+
+pub rule-known : (o : Option Rule) (x : Rule) → ruleFound o ≡ RuleFound.Known x → o ≡ some x
+rule-known none x e = cc
+rule-known (some y) x e = cc
+
+pub rule-unknown : (o : Option Rule) → ruleFound o ≡ RuleFound.Unknown → o ≡ none
+rule-unknown none e = refl
+rule-unknown (some y) e = cc
+
+-- an S line is never out of order
+steps-last : (l : Letter) → inOrder l Letter.S ≡ true
+unfolding rank
+steps-last Letter.T = refl
+steps-last Letter.A = refl
+steps-last Letter.S = refl
+
+-- any other line is, where T and A lines are
+disordered : (l k : Letter) → OneOf (0 ∷ 1 ∷ []) (Declared.tagOf letter-type.the-type k) → (k ≡ Letter.T → inOrder l Letter.T ≡ false) → (k ≡ Letter.A → inOrder l Letter.A ≡ false)
+    → inOrder l k ≡ false
+disordered l Letter.T h a b = a refl
+disordered l Letter.A h a b = b refl
+disordered l Letter.S (inl e) a b = absurd (omega (arith, e))
+disordered l Letter.S (inr e) a b = absurd (omega (arith, e))
+
+-- the counts after a step
+closings-are : (c : ℕ) (b : Bool) → cond b (suc c) c ≡ c + cond b 1 0
+closings-are c true = sym (add-one c)
+closings-are c false = omega arith
+
+pub closings-most : (x : Rule) → closingsOf x ≤ 1
+closings-most x = go (isClosing x)
+  where
+    go : (b : Bool) → cond b 1 0 ≤ 1
+    go true = omega arith
+    go false = omega arith
+
+-- the rules that close are the last two of the table
+closing-at : (x : Rule) → isClosing x ≡ leb 28 (placeOf x)
+unfolding rule
+closing-at Rule.Eqr = refl
+closing-at Rule.Eql = refl
+closing-at Rule.Ext = refl
+closing-at Rule.Fir = refl
+closing-at Rule.Cpe = refl
+closing-at Rule.Cpi = refl
+closing-at Rule.Cue = refl
+closing-at Rule.Cui = refl
+closing-at Rule.Dfe = refl
+closing-at Rule.Dfi = refl
+closing-at Rule.Sge = refl
+closing-at Rule.Sgi = refl
+closing-at Rule.Cut = refl
+closing-at Rule.All = refl
+closing-at Rule.Nul = refl
+closing-at Rule.Sep = refl
+closing-at Rule.Img = refl
+closing-at Rule.Wit = refl
+closing-at Rule.Ref = refl
+closing-at Rule.Sym = refl
+closing-at Rule.Trn = refl
+closing-at Rule.Sub = refl
+closing-at Rule.Rep = refl
+closing-at Rule.Ler = refl
+closing-at Rule.Let = refl
+closing-at Rule.Lea = refl
+closing-at Rule.Rdh = refl
+closing-at Rule.Rdm = refl
+closing-at Rule.Cls = refl
+closing-at Rule.Emp = refl
+
+-- a number is below what all of a list are below
+unfoldable allBelow : ℕ → List ℕ → Bool
+allBelow n [] = true
+allBelow n (j ∷ js) = leb (suc j) n && allBelow n js
+
+among-below : (n : ℕ) (js : List ℕ) (x : ℕ) → allBelow n js ≡ true → OneOf js x → x < n
+unfolding allBelow
+among-below n [] x o h = absurd h
+among-below n (j ∷ []) x o h = omega (arith, leb-true (suc j) n (both-true (leb (suc j) n) _ o .0), h)
+among-below n (j ∷ i ∷ js) x o (inl h) = omega (arith, leb-true (suc j) n (both-true (leb (suc j) n) _ o .0), h)
+among-below n (j ∷ i ∷ js) x o (inr h) = among-below n (i ∷ js) x (both-true (leb (suc j) n) _ o .1) h
+
+abbrev others : List ℕ
+others = 0 ∷ 1 ∷ 2 ∷ 3 ∷ 4 ∷ 5 ∷ 6 ∷ 7 ∷ 8 ∷ 9 ∷ 10 ∷ 11 ∷ 12 ∷ 13 ∷ 14 ∷ 15 ∷ 16 ∷ 17 ∷ 18 ∷ 19 ∷ 20 ∷ 21 ∷ 22 ∷ 23 ∷ 24 ∷ 25 ∷ 26 ∷ 27 ∷ []
+
+pub not-closing : (x : Rule) → OneOf others (placeOf x) → closingsOf x ≡ 0
+unfolding allBelow
+not-closing x h = ap (λ (b : Bool). cond b 1 0) (closing-at x ∙ lt-leb 28 (placeOf x) (among-below 28 others (placeOf x) refl h))
+
+pub stays-open : (a : Answer) → OneOf (0 ∷ 2 ∷ []) (Declared.tagOf answer-type.the-type a) → closesTree a ≡ false
+stays-open Answer.Open h = refl
+stays-open Answer.Closed (inl e) = absurd (omega (arith, e))
+stays-open Answer.Closed (inr e) = absurd (omega (arith, e))
+stays-open (Answer.Refused r) h = refl
+
+-- an answer that is no refusal
+unrefused : (t : Tree) (a : Answer) → OneOf (0 ∷ 1 ∷ []) (Declared.tagOf answer-type.the-type a) → answered (treeOf unpackLiteral t) a ≡ passed (statusOf (closesTree a) t)
+unrefused t Answer.Open h = refl
+unrefused t Answer.Closed h = refl
+unrefused t (Answer.Refused r) (inl e) = absurd (omega (arith, e))
+unrefused t (Answer.Refused r) (inr e) = absurd (omega (arith, e))
+
+-- THE S LINES of a file: the start, a bad line, a line refused by each of its checks, a line more, the end.
+pub steps-start : (file : List ℕ) (at n : ℕ) (table : Table) (m : ℕ) (t : Tree) (l : Letter) → OutOfOrder l Letter.T file at → OutOfOrder l Letter.A file at
+    → StepsTaken file at n table m t l t false at 0 0
+steps-start file at n table m t l a b = record {
+  letter = l;
+  noTerm = a;
+  noAssumption = b;
+  runs = let z : n + m ≡ n + m + 0 = omega arith in ap (λ (i : ℕ). verdictFrom file at i (passed (stateOf table (isOpen (treeOf unpackLiteral t)) l m 0 0))) z;
+}
+
+module _ {file : List ℕ} {from n : ℕ} {table : Table} {m : ℕ} {t₀ : Tree} {l₀ : Letter} {t : Tree} {closed : Bool} {at k c : ℕ}
+    (s : StepsTaken file from n table m t₀ l₀ t closed at k c) where
+  abbrev before : State
+  before = stateOf table (statusOf closed t) (s .letter) m k c
+
+  abbrev whole : Verdict
+  whole = verdictFrom file from (n + m) (passed (stateOf table (isOpen (treeOf unpackLiteral t₀)) l₀ m 0 0))
+
+  pub steps-bad : at < length file → lineAt file at ≡ LineRead.BadShape → refuse Reason.BadShape (n + m + k + 1) ≡ whole
+  steps-bad h e = sym (rw (add-one (n + m + k)) (s .runs ∙ bad-line file at h e (n + m + k) before))
+
+  pub steps-closed : n ≡ length table → length file ≤ at → closed ≡ true → accept (record { terms = n; assumptions = m; steps = k; closings = c }) ≡ whole
+  steps-closed q h e = ap (λ (i : ℕ). accept (record { terms = i; assumptions = m; steps = k; closings = c })) q ∙ sym (s .runs ∙ at-end file at h (n + m + k) before ∙ ap (λ (b : Bool). atEnd before (statusOf b t) (suc (n + m + k))) e)
+
+  pub steps-open : length file ≤ at → closed ≡ false → refuse Reason.BranchOpen (n + m + k + 1) ≡ whole
+  steps-open h e = sym (rw (add-one (n + m + k)) (s .runs ∙ at-end file at h (n + m + k) before ∙ ap (λ (b : Bool). atEnd before (statusOf b t) (suc (n + m + k))) e))
+
+  module _ (f : Fields) (e : lineAt file at ≡ LineRead.Line f) where
+    refused-by : (r : Reason) → runFields before f ≡ refused r → refuse r (n + m + k + 1) ≡ whole
+    refused-by r h = sym (rw (add-one (n + m + k)) (s .runs ∙ line-here file at f e .runs (n + m + k) before ∙ ap (verdictFrom file (f .next .at) (suc (n + m + k))) h
+        ∙ refused-here file (f .next .at) (suc (n + m + k)) r))
+
+    pub steps-disordered : OneOf (0 ∷ 1 ∷ []) (Declared.tagOf letter-type.the-type (f .letter)) → refuse Reason.LetterOrder (n + m + k + 1) ≡ whole
+    steps-disordered h = refused-by Reason.LetterOrder (run-disordered before f refl (disordered (s .letter) (f .letter) h (s .noTerm f e) (s .noAssumption f e)))
+
+    module _ (q : f .letter ≡ Letter.S) where
+      pub steps-unknown : lookupPacked ruleNames (f .word) ≡ none → refuse Reason.UnknownWord (n + m + k + 1) ≡ whole
+      unfolding packedCommand
+      steps-unknown h = refused-by Reason.UnknownWord (run-unknown before f q (steps-last (s .letter)) (ap (some-of infer) h))
+
+      module _ (x : Rule) (h : lookupPacked ruleNames (f .word) ≡ some x) where
+        runs-as : runFields before f ≡ runCommand before Letter.S (infer x) (numbers f)
+        unfolding packedCommand
+        runs-as = run-known before f q (infer x) (steps-last (s .letter)) (ap (some-of infer) h)
+
+        pub steps-after-closing : closed ≡ true → refuse Reason.TreeClosed (n + m + k + 1) ≡ whole
+        unfolding runCommand
+        steps-after-closing z = refused-by Reason.TreeClosed (runs-as ∙ ap (λ (b : Bool). runCommand (stateOf table (statusOf b t) (s .letter) m k c) Letter.S (infer x) (numbers f)) z)
+
+        module _ (o : Outcome) (z : closed ≡ false) (g : Steps table t x (numbers f) o) where
+          runs-step : runFields before f ≡ (answered (treeOf unpackLiteral (o .tree)) (o .answer) >>= λ u. passed (record { table = table; status = u; letter = Letter.S; counts = counted (before .counts) (infer x) }))
+          runs-step = runs-as ∙ run-infer before (treeOf unpackLiteral t) Letter.S x (numbers f) (ap (λ (b : Bool). statusOf b t) z)
+              ∙ ap (λ (r : Checked Status). r >>= λ u. passed (record { table = table; status = u; letter = Letter.S; counts = counted (before .counts) (infer x) })) (sym (g .result))
+
+          pub steps-refused : (r : Reason) → o .answer ≡ Answer.Refused r → refuse r (n + m + k + 1) ≡ whole
+          steps-refused r a = refused-by r (runs-step ∙ ap (λ (y : Answer). answered (treeOf unpackLiteral (o .tree)) y >>= λ u. passed (record { table = table; status = u; letter = Letter.S; counts = counted (before .counts) (infer x) })) a)
+
+          taken : OneOf (0 ∷ 1 ∷ []) (Declared.tagOf answer-type.the-type (o .answer))
+              → StepsTaken file from n table m t₀ l₀ (o .tree) (closesTree (o .answer)) (f .next .at) (k + 1) (c + closingsOf x)
+          unfolding rank
+          taken a =
+              let l = line-here file at f e in
+              let i : suc (n + m + k) ≡ n + m + (k + 1) = omega arith in
+              record {
+                letter = Letter.S;
+                noTerm = λ f e k. refl;
+                noAssumption = λ f e k. refl;
+                runs = s .runs ∙ l .runs (n + m + k) before
+                    ∙ ap (verdictFrom file (f .next .at) (suc (n + m + k))) (runs-step ∙ ap (λ (r : Checked Status). r >>= λ u. passed (record { table = table; status = u; letter = Letter.S; counts = counted (before .counts) (infer x) })) (unrefused (o .tree) (o .answer) a))
+                    ∙ (λ j. verdictFrom file (f .next .at) (i j) (passed (stateOf table (statusOf (closesTree (o .answer)) (o .tree)) Letter.S m (sym (add-one k) j) (closings-are c (isClosing x) j))));
+              }
+
+          pub steps-more : (b : Bool) (r : ℕ) → OneOf (0 ∷ 1 ∷ []) (Declared.tagOf answer-type.the-type (o .answer)) → b ≡ closesTree (o .answer) → r ≡ closingsOf x
+              → StepsTaken file from n table m t₀ l₀ (o .tree) b (f .next .at) (k + 1) (c + r)
+          steps-more b r a p q = rw (p, q) (taken a)
