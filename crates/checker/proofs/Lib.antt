@@ -2,3 +2,4 @@ pub mod AssumptionLines
 pub mod Lines
 pub mod StepLines
 pub mod TermLines
+pub mod Whole

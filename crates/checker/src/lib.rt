@@ -1,6 +1,19 @@
 // The checker: the lines of a whole file, the build host's call, the reply line.
 use lines::Cursor;
+use reply::Verdict;
 use tableau::Reason;
+use tree::Tree;
+ghost use mathlib.Core.Path.{_≡_};
+ghost use Prim.Native.Nat.{_≤_};
+ghost use lib.ListN.{length, take};
+ghost use Rattle.tableau.specs.Claims.{NoHeap};
+ghost use Rattle.tableau.specs.File.{maxBytes};
+ghost use Rattle.tableau.specs.Reply as specification;
+ghost use Rattle.tableau.specs.declared.Letter.{Letter};
+ghost use Rattle.tableau.specs.Terms.{Table};
+ghost use Rattle.terms.specs.Lines.{arrays, HoldsIn};
+ghost use Rattle.reply.specs.Verdict.{verdictOf};
+ghost use Rattle.checker.specs.Sections.{NoLine, Between, verdictAfterTerms};
 
 mod assumption_lines;
 mod step_lines;
@@ -17,4 +30,77 @@ pub enum LineResult {
 pub enum Section {
     Ended(Cursor, usize),
     Refused(Reason, usize),
+}
+
+// The A and S lines, where n terms are made.
+fn after_terms(
+    file: &[u8],
+    cursor: Cursor,
+    n: usize,
+    terms: &[u64; 601],
+    head: &[u16; 967],
+    next: &[u16; 601],
+    uses: &[u64; 6010],
+) -> Verdict
+    requires { ⌜ ((table : Table) × HoldsIn table (arrays (now terms) (now head) (now next) (now uses)) n) ⌝ }
+    requires { ⌜ Between n (cursor .at) (now file) × NoLine Letter.T (now file) (cursor .at) ⌝ }
+    ensures { λ r. ⌜ ((table : Table) → HoldsIn table (arrays (now (terms .entry)) (now (head .entry)) (now (next .entry)) (now (uses .entry))) n
+        → verdictOf r ≡ verdictAfterTerms (now (file .entry)) (cursor .at) n table) ⌝ }
+{
+    let mut tree = Tree::empty();
+    match assumption_lines::run(file, cursor, n, terms, &mut tree.branch) {
+        Section::Refused(reason, line) => Verdict::Refused(reason, line),
+        Section::Ended(at, m) => {
+            tree.len = m;
+            step_lines::run(file, at, n, m, tree, terms, head, next, uses)
+        }
+    }
+}
+
+// The verdict on a file.
+fn check(file: &[u8]) -> Verdict
+    ensures { λ r. ⌜ verdictOf r ≡ specification.verdict (now (file .entry)) ⌝ }
+{
+    if 60000 < file.len() {
+        return Verdict::Refused(Reason::TooLong, 0);
+    }
+    let mut terms: [u64; 601] = [0; 601];
+    let mut head: [u16; 967] = [0; 967];
+    let mut next: [u16; 601] = [0; 601];
+    let mut uses: [u64; 6010] = [0; 6010];
+    match term_lines::run(file, &mut terms, &mut head, &mut next, &mut uses) {
+        Section::Refused(reason, line) => Verdict::Refused(reason, line),
+        Section::Ended(cursor, n) => after_terms(file, cursor, n, &terms, &head, &next, &uses),
+    }
+}
+
+// The call of a build host: the refusal number, 0 after a yes; the six numbers in the buffer, or the buffer untouched where its length is not 24.
+#[no_mangle]
+pub extern "C" fn tabcheck(file: &[u8], reply: &mut [u8]) -> u32
+    ensures { λ r. ⌜ r ≡ specification.call (now (file .entry)) (now (reply .entry)) .returns ⌝ }
+    ensures { λ r. ⌜ now (reply .exit) ≡ specification.call (now (file .entry)) (now (reply .entry)) .buffer ⌝ }
+    ensures { λ r. ⌜ (r ≡ 0 → NoHeap (now (file .entry))) ⌝ }
+{
+    if reply.len() != 24 {
+        return 18;
+    }
+    let answer = reply::reply_of(check(file));
+    let number = answer.number;
+    reply::write_numbers(answer, reply);
+    number as u32
+}
+
+// The reply line: the first `len` of its bytes.
+pub struct Text {
+    pub bytes: [u8; 136],
+    pub len: usize,
+}
+
+pub fn reply_line(file: &[u8]) -> Text
+    ensures { λ r. ⌜ (r .len ≤ 136) × (take (r .len) (r .bytes) ≡ specification.replyLine (specification.reply (now (file .entry)))) ⌝ }
+{
+    let answer = reply::reply_of(check(file));
+    let mut bytes: [u8; 136] = [0; 136];
+    let len = reply::write_line(answer, &mut bytes);
+    Text { bytes, len }
 }

@@ -130,8 +130,7 @@ loop-again : tie.Need-loop-again Inv-loop μ-loop
 loop-again c =
     let p = c .before .before .before .before .before .before .before .before .before .before .before .before .before .before .before .before .before .before .before .pre .0 in
     let i = c .before .before .before .before .before .before .before .before .before .before .before .before .before .before .before .before .before .loop .inv in
-    let h = line-here _ _ _ (sym (c .before .before .before .before .before .before .before .before .before .before .before .before .before .before .before .read-line .ensures) ∙ c .before .before .before .before .before .before .before .before .before .before .before .before .before .f .given .1) in
-    (
+    let h = line-here _ _ _ (sym (c .before .before .before .before .before .before .before .before .before .before .before .before .before .before .before .read-line .ensures) ∙ c .before .before .before .before .before .before .before .before .before .before .before .before .before .f .given .1) in (
       c .before .before .before .before .step .ensures (p .0) (p .1) .within,
       record { lines = omega (arith, i .1 .lines, h .longer); inside = h .inside; short = i .1 .short },
       omega (arith, i .2, closings-most (c .before .before .before .before .before .before .before .rule .given .0 .0), c .closings .ensures),

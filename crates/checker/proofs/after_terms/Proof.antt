@@ -1,0 +1,78 @@
+-- `after_terms` meets its contract: the A lines, then the S lines on the tree that has their literals.
+use mathlib.Core.Path.{_≡_, refl, sym, _∙_, ap, subst}
+use Prim.Native.Nat.{_+_}
+use lib.ListN.{length}
+use Rattle.tableau.specs.Reply.{State}
+use Rattle.tableau.specs.Terms.{Table}
+use Rattle.tableau.specs.Tree.{Tree, passed}
+use Rattle.terms.specs.Packing.{unpackLiteral}
+use Rattle.checker.specs.Running.{verdictFrom}
+use Rattle.terms.specs.Holds.{Entries}
+use Rattle.tree.specs.declared.Tree as declared
+use Rattle.checker.specs.declared.Section.{Section}
+use Rattle.checker.specs.Sections.{AssumptionSection}
+use Rattle.checker.proofs.Whole.{tree-begins}
+use borrow.Author.Needs.{needs}
+use Rattle.checker.proofs.after_terms.Statement.{statement}
+use Rattle.checker.proofs.after_terms.Tie as tie
+use Rattle.checker.proofs.after_terms.Reads as reads
+use Rattle.checker.proofs.after_terms.Lts as lts
+use Rattle.checker.proofs.assumption_lines.run.Reads as assumption-lines-run-reads
+use Rattle.checker.proofs.step_lines.run.Reads as step-lines-run-reads
+use Rattle.tree.proofs.Tree.empty.Reads as empty-reads
+
+-- the A lines have ended
+assumed : (c : tie.After-known-told2) (table : Table) → Entries table (c .before .before .before .before .before .before .before .args .terms .now) → length table ≡ c .before .before .before .before .before .before .before .args .n
+    → AssumptionSection (c .before .before .before .before .before .before .before .args .file .now) (c .before .before .before .before .before .before .before .args .cursor .at) (c .before .before .before .before .before .before .before .args .n) table (c .before .before .before .run .last .1 .1 .1 .1 .0) (Section.Ended (c .before .at .given .0 .0) (c .before .at .given .0 .1 .0))
+assumed c table E q = subst (AssumptionSection _ _ _ table _) (c .before .at .given .1) (c .before .before .before .run .ensures table E q)
+
+-- src/lib.rt:50:20
+empty-requires : tie.Need-empty-requires
+empty-requires c κs = search needs
+
+-- src/lib.rt:51:11
+run-requires : tie.Need-run-requires
+run-requires c κs = search needs
+
+-- src/lib.rt:52:26
+enum-known-reason : tie.Need-enum-known-reason
+enum-known-reason c = search needs
+
+-- src/lib.rt:53:24
+enum-known-at : tie.Need-enum-known-at
+enum-known-at c = search needs
+
+-- src/lib.rt:55:13
+run-requires-2 : tie.Need-run-requires-2
+run-requires-2 c κs =
+    let p = c .before .before .before .before .before .before .before .pre .0 in
+    let s = assumed c (p .0) (p .1 .searchable .entries) (p .1 .count) in
+    (p, (s .0 .between, record { branch = s .0 .branch; waiting = c .before .before .before .before .before .empty .ensures .0 .waiting }))
+
+-- src/lib.rt:36:1
+returns : tie.Need-returns
+returns c table H = sym (subst (AssumptionSection _ _ _ table _) (c .before .reason .given .1) (c .before .before .before .run .ensures table (H .searchable .entries) (H .count)))
+
+-- src/lib.rt:36:1
+returns-2 : tie.Need-returns-2
+returns-2 c table H =
+    let s = assumed (c .before) table (H .searchable .entries) (H .count) in
+    let m = c .before .before .at .given .0 .1 .0 in
+    let e = c .before .before .before .before .before .before .empty .result in
+    let t : declared.Tree = record { branch = c .before .before .before .before .run .last .1 .1 .1 .1 .0; len = m; waiting = e .waiting; count = e .count } in
+    c .run2 .ensures table H (s .0 .letter) (s .0 .noTerm) (λ f e k. absurd (s .1 f e k))
+    ∙ ap (λ (σ : State). verdictFrom (c .before .before .before .before .before .before .before .before .args .file .now) (c .before .before .at .given .0 .0 .at) (c .before .before .before .before .before .before .before .before .args .n + m) (passed σ))
+    (tree-begins table (s .0 .letter) t m (s .0 .branch) refl (ap (λ (τ : Tree). τ .waiting) (c .before .before .before .before .before .before .empty .ensures .1 unpackLiteral)))
+    ∙ sym (s .0 .runs)
+
+pub after-terms-spec : {M : Type 1} → statement M
+after-terms-spec =
+    tie.close
+    (tie.spec
+    empty-requires
+    run-requires
+    enum-known-reason
+    enum-known-at
+    run-requires-2
+    returns
+    returns-2)
