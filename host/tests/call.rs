@@ -6,6 +6,7 @@ mod runner;
 
 use cases::{all, Case};
 use host::call::{check, tabcheck, REPLY_BYTES};
+use host::independent;
 use std::hint::black_box;
 
 fn reply_line(numbers: [u32; 6]) -> String {
@@ -83,7 +84,8 @@ fn other_buffer_lengths() {
     }
 }
 
-/// One file of two, with the numbers that the call must give for each.
+/// A right file and its damaged neighbour, each a case by its name with the six
+/// numbers that it must get.
 struct Pair {
     right: (&'static str, [u32; 6]),
     wrong: (&'static str, [u32; 6]),
@@ -152,6 +154,31 @@ fn each_old_failing_and_its_damaged_neighbour() {
             wrong: ("failings: sgi, no case outside all", [12, 8, 0, 0, 0, 0]),
         },
     ]);
+}
+
+/// The file with one byte made another, which often is right in another place.
+fn damaged(file: &[u8], random: &mut u32) -> Vec<u8> {
+    let mut next = |below: usize| {
+        *random = random.wrapping_mul(1_664_525).wrapping_add(1_013_904_223);
+        (*random >> 8) as usize % below
+    };
+    let mut damaged = file.to_vec();
+    damaged[next(file.len())] = b"0123456789,\nTAS"[next(15)];
+    damaged
+}
+
+/// Beside the replies worked out by hand: two checkers written apart agree.
+#[test]
+fn damaged_files_get_the_independent_checkers_reply() {
+    let mut random = 1;
+    for case in all().iter().filter(|case| !case.file.is_empty()) {
+        for _ in 0..20 {
+            let file = damaged(&case.file, &mut random);
+            let independent = independent::reply_line(&independent::check(&file));
+            let text = String::from_utf8_lossy(&file);
+            assert_eq!(check_line(&file), independent, "{}:\n{text}", case.name);
+        }
+    }
 }
 
 #[test]
