@@ -49,6 +49,12 @@ fn count(file: &[u8], start: &str) -> usize {
         .count()
 }
 
+/// The count that the documents give.
+#[test]
+fn there_are_1_565_files() {
+    assert_eq!(all().len(), 1_565);
+}
+
 #[test]
 fn names_are_unique() {
     let mut names = HashSet::new();
@@ -113,5 +119,89 @@ fn every_number_is_given() {
     let given: HashSet<usize> = saying(false).iter().map(|row| row.1[0]).collect();
     for number in 1..=17 {
         assert!(given.contains(&number), "{number}");
+    }
+}
+
+/// The refusal numbers that a well shaped S line with this rule can get. 3, 7
+/// and 10 are for other lines, and no rule uses all four fields.
+fn numbers_of(rule: &str) -> Vec<usize> {
+    let is = |rules: &[&str]| rules.contains(&rule);
+    let uses_a_term = is(&[
+        "ext", "fir", "cpi", "cui", "dfi", "sgi", "cut", "img", "wit", "ref", "sub", "ler", "rdh",
+        "rdm",
+    ]);
+    let uses_no_place = is(&["fir", "sgi", "cut", "ref", "ler", "rdh", "rdm"]);
+    let given = [
+        (5, true),
+        (6, true),
+        (8, uses_a_term),
+        (9, is(&["cut", "ler"])),
+        (11, !uses_no_place),
+        (12, !is(&["fir", "cut", "ref", "ler"])),
+        (13, is(&["ext", "fir", "wit"])),
+        (14, is(&["fir", "sgi", "all", "nul", "img", "wit", "rdm"])),
+        (15, !is(&["cls", "emp"])),
+        (16, is(&["ext", "cue", "sgi", "cut", "img", "rdm"])),
+    ];
+    given.iter().filter(|row| row.1).map(|row| row.0).collect()
+}
+
+/// The rules on refused S lines, with the numbers that refuse them.
+fn refused_rules() -> HashSet<(String, usize)> {
+    let mut refused = HashSet::new();
+    for (case, [number, line, ..]) in saying(false) {
+        // These come before the rule is known, or stand on no line.
+        if [1, 2, 4, 17].contains(&number) {
+            continue;
+        }
+        let mut lines = case.file.split(|&byte| byte == b'\n');
+        let text = lines.nth(line - 1).expect(case.name);
+        if let Some(step) = text.strip_prefix(b"S,") {
+            let rule = String::from_utf8_lossy(&step[..3]);
+            refused.insert((rule.into_owned(), number));
+        }
+    }
+    refused
+}
+
+#[test]
+fn every_rule_is_refused_by_each_number_it_can_get() {
+    let mut expected = HashSet::new();
+    for rule in RULES {
+        expected.extend(
+            numbers_of(rule)
+                .into_iter()
+                .map(|number| (rule.into(), number)),
+        );
+    }
+    let refused = refused_rules();
+    let wrong: Vec<_> = refused.symmetric_difference(&expected).collect();
+    assert!(wrong.is_empty(), "{wrong:?}");
+}
+
+/// The cuts before the first closing: each leaves one alternative waiting.
+fn open_cuts(file: &[u8]) -> usize {
+    let lines = file.split(|&byte| byte == b'\n');
+    lines
+        .take_while(|line| !line.starts_with(b"S,cls,") && !line.starts_with(b"S,emp,"))
+        .filter(|line| line.starts_with(b"S,cut,"))
+        .count()
+}
+
+#[test]
+fn every_limit_is_reached_and_passed_by_one() {
+    type Limit = (usize, usize, fn(&[u8]) -> usize);
+    let limits: [Limit; 4] = [
+        (1, 60_000, |file| file.len()),
+        (7, 600, |file| count(file, "T,")),
+        (15, 1_000, |file| count(file, "A,")),
+        (16, 200, open_cuts),
+    ];
+    for (number, limit, size) in limits {
+        let most = saying(true).iter().map(|row| size(&row.0.file)).max();
+        assert_eq!(most, Some(limit), "accepted, for number {number}");
+        let refused = saying(false);
+        let above = refused.iter().filter(|row| size(&row.0.file) == limit + 1);
+        assert!(above.into_iter().any(|row| row.1[0] == number), "{number}");
     }
 }

@@ -1,14 +1,9 @@
 mod cases;
+mod runner;
+
+use host::independent::{check, reply_line};
 
 #[test]
 fn the_independent_checker_gives_each_reply() {
-    let mut wrong = 0;
-    for case in cases::all() {
-        let reply = host::independent::reply_line(&host::independent::check(&case.file));
-        if reply.trim_end_matches('\n') != case.reply {
-            println!("{}: expected {}, got {}", case.name, case.reply, reply.trim_end());
-            wrong += 1;
-        }
-    }
-    assert_eq!(wrong, 0);
+    runner::expect_replies(|file| reply_line(&check(file)));
 }

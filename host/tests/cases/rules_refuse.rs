@@ -147,6 +147,7 @@ pub fn cases() -> Vec<Case> {
         rdm(),
         cls(),
         emp(),
+        tree_closed(),
         term_missing(),
         branch_full(),
         branch_fills(),
@@ -784,6 +785,21 @@ fn emp() -> Vec<Case> {
         ("S,emp,1,0,0,0", N12),  // a variable
         ("S,emp,22,0,0,0", N12), // eq
     ])
+}
+
+/// A right step of each rule after the closing on line 73.
+fn tree_closed() -> Vec<Case> {
+    let closing = [CLOSE, "S,emp,20,0,0,0"];
+    let steps = ADDING.iter().map(|row| row.0).chain(closing);
+    steps
+        .map(|step| {
+            case(
+                &format!("bench, closed: {step}"),
+                lines(&bench(37, 0, &[CLOSE, step])),
+                "no,5,74,0,0,0,0",
+            )
+        })
+        .collect()
 }
 
 /// The line of a term that no other line uses, made another term.

@@ -1,0 +1,40 @@
+//! The proved checker, called from Rust.
+
+/// "a reply buffer of 24 bytes, six numbers of four bytes each, low byte
+/// first"
+pub const REPLY_BYTES: usize = 24;
+
+mod library {
+    extern "C" {
+        /// `include/tabcheck.h` says what the numbers are, and what a caller
+        /// guarantees.
+        pub fn tabcheck(file: *const u8, file_len: usize, reply: *mut u8, reply_len: usize) -> u32;
+    }
+}
+
+/// Checks the file and returns the refusal number, 0 after a yes. The reply
+/// buffer gets the six numbers; one that has not `REPLY_BYTES` bytes stays as
+/// it is, and the number is 18.
+pub fn tabcheck(file: &[u8], reply: &mut [u8]) -> u32 {
+    // SAFETY: two slices are valid for their lengths, and do not overlap, since
+    // one of them is mutable. The call keeps neither.
+    unsafe { library::tabcheck(file.as_ptr(), file.len(), reply.as_mut_ptr(), reply.len()) }
+}
+
+/// The six numbers of the file's reply: refusal number, line, T lines, A lines,
+/// S lines, closings.
+pub fn check(file: &[u8]) -> [u32; 6] {
+    let mut reply = [0; REPLY_BYTES];
+    let number = tabcheck(file, &mut reply);
+    let numbers = numbers(&reply);
+    assert_eq!(number, numbers[0], "the call returns the first number");
+    numbers
+}
+
+fn numbers(reply: &[u8; REPLY_BYTES]) -> [u32; 6] {
+    let mut numbers = [0; 6];
+    for (number, bytes) in numbers.iter_mut().zip(reply.chunks_exact(4)) {
+        *number = u32::from_le_bytes([bytes[0], bytes[1], bytes[2], bytes[3]]);
+    }
+    numbers
+}
