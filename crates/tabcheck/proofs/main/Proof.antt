@@ -8,55 +8,28 @@ use Rattle.tabcheck.specs.Input.{Fits}
 use Rattle.tabcheck.proofs.main.Statement.{statement}
 use Rattle.tabcheck.proofs.main.Tie as tie
 
-slice-aggregate-read-input : tie.Need-slice-aggregate-read-input
-slice-aggregate-read-input c = search needs
-
-read-input-requires : tie.Need-read-input-requires
-read-input-requires c κs = search needs
-
-enum-known-input : tie.Need-enum-known-input
-enum-known-input c = search needs
-
-enum-told : tie.Need-enum-told
-enum-told c = search needs
-
-slice-aggregate-write-all : tie.Need-slice-aggregate-write-all
-slice-aggregate-write-all c = search needs
-
-write-all-requires : tie.Need-write-all-requires
-write-all-requires c κs = search needs
-
-returns : tie.Need-returns
-returns c = search needs
-
-array-share-prefix-space : tie.Need-array-share-prefix-space
-array-share-prefix-space c =
+within : tie.Need-array-share-prefix-space
+within c =
     let read = c .before .before .before .before .read-input in
     subst (λ (x : Input). Fits x (length (read .last .0))) (c .before .input .given .1) (read .ensures)
 
-slice-aggregate-write-reply : tie.Need-slice-aggregate-write-reply
-slice-aggregate-write-reply c =
+counted : tie.Need-slice-aggregate-write-reply
+counted c =
     let read = c .before .before .before .before .before .read-input in
-    sym (length-take-le _ (read .last .0) (array-share-prefix-space (c .before)))
-
-write-reply-requires : tie.Need-write-reply-requires
-write-reply-requires c κs = search needs
-
-returns-2 : tie.Need-returns-2
-returns-2 c = search needs
+    sym (length-take-le _ (read .last .0) (within (c .before)))
 
 pub main-spec : {M : Type 1} → statement M
 main-spec =
     tie.close
     (tie.spec
-    slice-aggregate-read-input
-    read-input-requires
-    enum-known-input
-    enum-told
-    slice-aggregate-write-all
-    write-all-requires
-    returns
-    array-share-prefix-space
-    slice-aggregate-write-reply
-    write-reply-requires
-    returns-2)
+    (λ c. search needs)
+    (λ c κs. search needs)
+    (λ c. search needs)
+    (λ c. search needs)
+    (λ c. search needs)
+    (λ c κs. search needs)
+    (λ c. search needs)
+    within
+    counted
+    (λ c κs. search needs)
+    (λ c. search needs))
