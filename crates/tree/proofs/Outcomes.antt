@@ -5,7 +5,7 @@ use mathlib.Core.Bool.{true, false}
 use mathlib.Core.List.{List, [], _∷_, map, map-append}
 use native.Mathlib.Decide.{decLe}
 use native.Mathlib.Omega.{arith}
-use borrow.Author.Tests.{le-leb, lt-leb, lt-ltb, le-ltb}
+use borrow.Author.Tests.{le-leb, lt-leb}
 use lib.ListN.{length, take, getD, length-map}
 use lib.Seq.{length-take-le}
 use Rattle.tableau.specs.declared.Reason.{Reason}
@@ -16,7 +16,7 @@ use Rattle.tree.specs.declared.Tree.{Tree}
 use Rattle.tree.specs.declared.Answer.{Answer}
 use Rattle.tree.specs.declared.Outcome.{Outcome}
 use Rattle.tree.specs.State.{codesOf, cutOf, unpacked, Appended, treeOf, Within}
-use Rattle.tree.specs.Outcome.{grown, assumed, Gives}
+use Rattle.tree.specs.Outcome.{grown, Gives}
 use Rattle.tree.proofs.Arrays.{take-min, take-map}
 use Rattle.tree.proofs.Waiting.{Pushed, stack-length, stack-pop}
 
@@ -56,24 +56,6 @@ top t = getD (t .waiting) (t .count - 1) 0
 module _ (t : Tree) (w : Within t) where
   pub branch-length : (f : ℕ → Literal) → length (treeOf f t .branch) ≡ t .len
   branch-length f = length-map (take (t .len) (t .branch)) f ∙ length-take-le (t .len) (t .branch) (omega arith)
-
-  -- AN A LINE
-  module _ (x : ℕ) where
-    abbrev pub Assumes : Outcome → Type 0
-    Assumes = Gives t (λ f τ. assumed τ (f x))
-
-    pub assume-full : maxPlaces ≤ t .len → Assumes record { tree = t; answer = Answer.Refused Reason.BranchFull }
-    unfolding assumed
-    assume-full r = record { within = w; result = λ f. rw (branch-length f, le-ltb _ _ r); kept = refl }
-
-    pub assume-open : (t′ : Tree) → t .len < maxPlaces → Appended (t .branch) (t .len) (x ∷ []) (t′ .branch) (t′ .len)
-        → Pushed (t .waiting) (t .count) (t .len) [] (t′ .waiting) (t′ .count) → Assumes record { tree = t′; answer = Answer.Open }
-    unfolding assumed
-    assume-open t′ r b p = record {
-      within = record { branch = b .branch; waiting = p .stack };
-      result = λ f. rw (branch-length f, lt-ltb _ _ r, b .codes, map-append f (take (t .len) (t .branch)) (x ∷ []), p .waiting f);
-      kept = tt;
-    }
 
   -- A STEP with the alternatives a and ks
   module _ (a : Alternative) (ks : List Alternative) (s : Short (a ∷ ks)) where

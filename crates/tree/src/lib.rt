@@ -7,7 +7,7 @@ ghost use Prim.Native.Nat.{ℕ, _+_, _≤_, _<_, min, max};
 ghost use Rattle.tableau.specs.Terms.{Literal};
 ghost use Rattle.tableau.specs.Tree.{maxPlaces, root, passed, close};
 ghost use Rattle.tree.specs.State.{codeLimit, codesOf, Holds, packed, cutOf, unpacked, IsBranch, HasPlace, IsAt, Appended, treeOf, Within};
-ghost use Rattle.tree.specs.Outcome.{assumed, grown, Gives};
+ghost use Rattle.tree.specs.Outcome.{grown, Gives};
 use tableau::Place;
 use tableau::Reason;
 
@@ -176,26 +176,6 @@ impl Tree {
         }
         branch[len + 2] = a.third;
         len + 3
-    }
-
-    // The literal of an A line, with check 15.
-    pub fn push(mut self, literal: u32) -> Outcome
-        requires { ⌜ Within self × (literal < codeLimit) ⌝ }
-        ensures { λ r. ⌜ Gives self (λ f τ. assumed τ (f literal)) r ⌝ }
-    {
-        let len = self.len;
-        if Self::PLACES <= len {
-            return Outcome {
-                tree: self,
-                answer: Answer::Refused(Reason::BranchFull),
-            };
-        }
-        self.branch[len] = literal;
-        self.len = len + 1;
-        Outcome {
-            tree: self,
-            answer: Answer::Open,
-        }
     }
 
     // A step with one alternative, with check 15.
