@@ -28,12 +28,13 @@ use Rattle.terms.specs.Packing.{unpackLiteral}
 use Rattle.terms.specs.Lines.{useOf, firstFailing, checks}
 use Rattle.terms.proofs.FieldUse as use-type
 use Rattle.terms.proofs.ViewLaws.{absent, not-among}
-use Rattle.terms.proofs.LineLaws.{command-steps, made-term}
+use Rattle.terms.proofs.LineLaws.{made-term}
 use Rattle.tree.specs.State.{IsBranch}
 use Rattle.tree.specs.Outcome.{grown}
 use Rattle.rules.specs.Answer.{answer}
 use Rattle.steps.specs.Reading.{branchOf, ReadAt}
 use Rattle.steps.specs.Infers.{PlaceGiven, TermGiven, Given, placeOf}
+use Rattle.commands.proofs.Running.{run-open}
 use Rattle.commands.specs.Commands.{fieldChecks, located, inferred, stepped, anyFresh, freshKind, asksFresh}
 
 -- FRESHNESS: a conclusion that does not ask for it
@@ -220,10 +221,9 @@ then-bind : {A B : Type 0} (m : Checked (Unit {0})) (n : Checked A) (g : A → C
 then-bind (refused r) n g = refl
 then-bind (passed x) n g = refl
 
-regroup : {A B C : Type 0} (m n : Checked (Unit {0})) (o : Checked A) (g : A → Checked B) (h : B → Checked C) → (m >> (n >> ((o >>= g) >>= h))) ≡ ((((m >> n) >> o) >>= g) >>= h)
-regroup (refused r) n o g h = refl
-regroup (passed x) (refused r) o g h = refl
-regroup (passed x) (passed y) o g h = refl
+regroup : {A B C : Type 0} (m : Checked (Unit {0})) (o : Checked A) (g : A → Checked B) (h : B → Checked C) → (m >> ((o >>= g) >>= h)) ≡ (((m >> o) >>= g) >>= h)
+regroup (refused r) o g h = refl
+regroup (passed x) o g h = refl
 
 -- what comes after checks 12 to 14 comes after the last of them
 ending-bind : {B : Type 0} (f : Bool) (o : Option Conclusion) (g : List (List Literal) → Checked B)
@@ -242,13 +242,12 @@ step-grown table τ x k = sym (then-bind (require (every (onBranch (τ .branch))
 -- an S line on an open tree is its checks 6 to 16, and the state after them
 pub run-infer : (σ : State) (τ : Tree) (l : Letter) (x : Rule) (k : Four ℕ) → σ .status ≡ isOpen τ
     → runCommand σ l (infer x) k ≡ (stepped (σ .table) τ x k >>= λ s. passed (record { table = σ .table; status = s; letter = l; counts = counted (σ .counts) (infer x) }))
-unfolding effect stepped inferred fieldChecks
+unfolding effect stepped inferred
 run-infer σ τ l x k h =
     let after : Status → Checked State = λ s. passed (record { table = σ .table; status = s; letter = l; counts = counted (σ .counts) (infer x) }) in
-    command-steps σ l (infer x) k
-    ∙ rw h (ap (λ (m : Checked State). require (every zeroIfUnused (ruleFields x) k) Reason.UnusedField >> (checks (σ .table) (infer x) k >> m))
-    (bind-bind (step (σ .table) τ x k) _ _ ∙ ap (λ (m : Checked Status). m >>= after) (step-grown (σ .table) τ x k))
-    ∙ regroup (require (every zeroIfUnused (ruleFields x) k) Reason.UnusedField) (checks (σ .table) (infer x) k) (located (σ .table) (τ .branch) x k) (grown τ) after)
+    run-open σ τ l (infer x) k h
+    ∙ ap (λ (m : Checked State). fieldChecks (σ .table) (infer x) k >> m) (bind-bind (step (σ .table) τ x k) _ _ ∙ ap (λ (m : Checked Status). m >>= after) (step-grown (σ .table) τ x k))
+    ∙ regroup (fieldChecks (σ .table) (infer x) k) (located (σ .table) (τ .branch) x k) (grown τ) after
 
 -- check 11 of a line, from what it comes to
 pub located-by : (table : Table) (B : List Literal) (x : Rule) (k : Four ℕ) {on : Bool} → every (onBranch B) (ruleFields x) k ≡ on

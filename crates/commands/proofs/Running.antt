@@ -48,7 +48,7 @@ known-first true r x y f = refl
 known-first false r x y f = refl
 
 -- a line on an open tree: checks 6 to 10, then its effect
-run-open : (σ : State) (τ : Tree) (l : Letter) (c : Command) (k : Four ℕ) → σ .status ≡ isOpen τ
+pub run-open : (σ : State) (τ : Tree) (l : Letter) (c : Command) (k : Four ℕ) → σ .status ≡ isOpen τ
     → runCommand σ l c k
     ≡ (fieldChecks (σ .table) c k >>
     (effect (σ .table) τ c k >>= λ e. passed (record { table = e .0; status = e .1; letter = l; counts = counted (σ .counts) c })))
