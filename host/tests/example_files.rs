@@ -1,0 +1,169 @@
+//! The files of examples/ and their damaged neighbours get the replies that
+//! examples/README.md works out by hand.
+
+use std::collections::BTreeSet;
+use std::fs;
+use std::path::{Path, PathBuf};
+
+use host::independent::TermWord;
+use host::meaning::{assumptions, Heap, Value, Values, Variable};
+use host::{call, independent};
+
+const PAGE: &str = include_str!("../../examples/README.md");
+
+fn folder() -> PathBuf {
+    Path::new(env!("CARGO_MANIFEST_DIR")).join("../examples")
+}
+
+fn example(name: &str) -> String {
+    fs::read_to_string(folder().join(name)).expect(name)
+}
+
+/// The rows of the page's table with these columns; the backquotes are left
+/// out.
+fn rows<const N: usize>(columns: [&str; N]) -> Vec<[String; N]> {
+    let heading = format!("| {} |\n|{}\n", columns.join(" | "), "---|".repeat(N));
+    let (_, table) = PAGE.split_once(&heading).expect(&heading);
+    let lines = table.lines().take_while(|line| line.starts_with('|'));
+    let rows: Vec<_> = lines.map(cells).collect();
+    assert!(!rows.is_empty(), "{heading}");
+    rows
+}
+
+fn cells<const N: usize>(row: &str) -> [String; N] {
+    let inner = row
+        .strip_prefix("| ")
+        .and_then(|row| row.strip_suffix(" |"));
+    let cells = inner.expect(row).split(" | ");
+    let cells: Vec<String> = cells.map(|cell| cell.replace('`', "")).collect();
+    cells.try_into().expect(row)
+}
+
+/// File, claim, reply.
+fn files() -> Vec<[String; 3]> {
+    rows(["File", "Claim", "Reply"])
+}
+
+/// File, edit, why it is refused, reply.
+fn edits() -> Vec<[String; 4]> {
+    rows(["File", "Edit", "Why it is refused", "Reply"])
+}
+
+/// The reply lines of the proved checker and of the independent one.
+fn replies(file: &str) -> [String; 2] {
+    let numbers = call::check(file.as_bytes());
+    let word = if numbers[0] == 0 { "yes" } else { "no" };
+    let numbers = numbers.map(|number| number.to_string()).join(",");
+    let other = independent::check(file.as_bytes());
+    [
+        format!("{word},{numbers}\n"),
+        independent::reply_line(&other),
+    ]
+}
+
+fn expect(file: &str, reply: &str, about: &str) {
+    let reply = format!("{reply}\n");
+    assert_eq!(replies(file), [reply.clone(), reply], "{about}");
+}
+
+/// What `sed` makes of the file, for the three kinds of edit that the page
+/// uses.
+fn edited(file: &str, edit: &str) -> String {
+    let digits = edit.find(|c: char| !c.is_ascii_digit()).expect(edit);
+    let (line, command) = edit.split_at(digits);
+    let at = line.parse::<usize>().expect(edit) - 1;
+    let mut lines: Vec<&str> = file.lines().collect();
+    match command {
+        "d" => {
+            lines.remove(at);
+        }
+        "p" => lines.insert(at, lines[at]),
+        _ => {
+            let new = command.strip_prefix("s/.*/");
+            lines[at] = new.and_then(|new| new.strip_suffix('/')).expect(edit);
+        }
+    }
+    lines.iter().map(|line| format!("{line}\n")).collect()
+}
+
+#[test]
+fn a_row_for_every_file_and_a_file_for_every_row() {
+    let entries = fs::read_dir(folder()).unwrap();
+    let mut there: Vec<String> = entries
+        .map(|entry| entry.unwrap().file_name().into_string().unwrap())
+        .filter(|name| name != "README.md")
+        .collect();
+    there.sort();
+    let mut named: Vec<String> = files().into_iter().map(|[name, ..]| name).collect();
+    named.sort();
+    assert_eq!(named, there);
+}
+
+/// The claims, the terms and the drawings of a file stand under its heading.
+#[test]
+fn a_section_for_every_file() {
+    let sections = PAGE.lines().filter_map(|line| line.strip_prefix("### "));
+    let named = files().into_iter().map(|[name, ..]| name);
+    let sections: Vec<String> = sections.map(|name| format!("{name}.tab")).collect();
+    assert_eq!(sections, named.collect::<Vec<_>>());
+}
+
+#[test]
+fn every_file_gets_its_reply() {
+    for [name, _, reply] in files() {
+        expect(&example(&name), &reply, &name);
+    }
+}
+
+#[test]
+fn every_accepted_file_has_a_refused_neighbour() {
+    let edits = edits();
+    for [name, _, reply] in files() {
+        let edited = edits.iter().any(|[edited, ..]| *edited == name);
+        assert_eq!(edited, reply.starts_with("yes,"), "{name}");
+    }
+    for [name, edit, _, reply] in edits {
+        assert!(reply.starts_with("no,"), "{name} {edit}");
+        expect(&edited(&example(&name), &edit), &reply, &edit);
+    }
+}
+
+#[test]
+fn the_missing_case_is_all_that_is_missing() {
+    let whole = example("acknowledgement_spares_last_jog.tab");
+    let part = example("acknowledgement_third_case_missing.tab");
+    let missing = whole.strip_prefix(&part).unwrap();
+    assert_eq!(missing.lines().count(), 4);
+}
+
+/// References nul, x = 1 and j = 2; fields ack = 0 and done = 1; x.ack is j.
+#[test]
+fn the_routine_can_hit_the_record() {
+    let heap = Heap {
+        references: 3,
+        fields: 2,
+        classes: 1,
+        order: vec![vec![true]],
+        allocated: vec![false, true, true],
+        typ: vec![0; 3],
+        dty: vec![0; 2],
+    };
+    let before = vec![vec![0, 0], vec![2, 0], vec![0, 0]];
+    let values = [
+        (TermWord::Rfv, 1, Value::Reference(1)),
+        (TermWord::Rfv, 2, Value::Reference(2)),
+        (TermWord::Rfv, 3, Value::Reference(1)),
+        (TermWord::Rgv, 1, Value::Region(BTreeSet::from([1]))),
+        (TermWord::Arv, 1, Value::HeapValue(before)),
+        (TermWord::Fnv, 1, Value::Field(0)),
+        (TermWord::Fnv, 2, Value::Field(1)),
+        (TermWord::Fnv, 3, Value::Field(1)),
+    ];
+    let given = values.map(|(word, name, value)| (Variable { word, name }, value));
+    let values = Values {
+        given: given.into(),
+    };
+    let holds = |name| assumptions(example(name).as_bytes(), &heap, &values);
+    assert_eq!(holds("acknowledgement_hits_last_jog.tab"), Some(true));
+    assert_eq!(holds("acknowledgement_spares_last_jog.tab"), Some(false));
+}
