@@ -24,8 +24,14 @@ pub fn tabcheck(file: &[u8], reply: &mut [u8]) -> u32 {
 /// The six numbers of the file's reply: refusal number, line, T lines, A lines,
 /// S lines, closings.
 pub fn check(file: &[u8]) -> [u32; 6] {
+    through_buffer(tabcheck, file)
+}
+
+/// The six numbers that a call writes into a reply buffer. The call must
+/// return the first of them.
+pub fn through_buffer(call: fn(&[u8], &mut [u8]) -> u32, file: &[u8]) -> [u32; 6] {
     let mut reply = [0; REPLY_BYTES];
-    let number = tabcheck(file, &mut reply);
+    let number = call(file, &mut reply);
     let numbers = numbers(&reply);
     assert_eq!(number, numbers[0], "the call returns the first number");
     numbers

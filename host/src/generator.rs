@@ -1,0 +1,123 @@
+//! Files for the checkers, made from a seed: closed tableaux that use every
+//! rule, their damaged neighbours, files at the limits, and noise. What is
+//! expected of a file comes from how it was made, never from a checker.
+
+mod builder;
+mod closable;
+mod damage;
+mod derivations;
+mod draft;
+mod exact_damage;
+pub mod full_tables;
+mod heap_refutations;
+mod identities;
+mod limits;
+mod near_misses;
+mod noise;
+mod planted;
+mod refutations;
+mod rules;
+mod tableau;
+
+use crate::random::Random;
+
+use builder::Builder;
+use draft::MOST_WAITING;
+
+pub use damage::neighbour;
+pub use exact_damage::RULES;
+pub use tableau::Tableau;
+
+/// What is known of the reply to a file.
+#[derive(Debug, Clone, Copy, PartialEq, Eq)]
+pub enum Expected {
+    /// Number, line, terms, assumptions, steps, closings.
+    Reply([u32; 6]),
+    /// Some refusal.
+    Refused,
+    /// Nothing; only that all checkers agree.
+    Unknown,
+}
+
+/// The reply that refuses a file.
+pub fn refusal(number: u32, line: usize) -> Expected {
+    Expected::Reply([number, line as u32, 0, 0, 0, 0])
+}
+
+/// A file and what is known of its reply.
+#[derive(Debug, Clone)]
+pub struct Sample {
+    /// How it was made.
+    pub kind: &'static str,
+    pub bytes: Vec<u8>,
+    pub expected: Expected,
+}
+
+/// How many batches there are to one with files at the limits.
+const BATCHES_PER_LIMIT: u64 = 100;
+const DAMAGED_PER_TABLEAU: usize = 8;
+const NOISE_PER_TABLEAU: usize = 2;
+const NEAR_MISSES_PER_TABLEAU: usize = 2;
+
+/// The samples of one batch: a closed tableau, damaged neighbours, noise,
+/// single steps, and now and then the files at the limits.
+pub fn batch(seed: u64, batch: u64) -> Vec<Sample> {
+    let mut random = Random::of_batch(seed, batch);
+    let tableau = closed_tableau(&mut random);
+    let mut samples = vec![accepted("closed tableau", &tableau)];
+    for _ in 0..DAMAGED_PER_TABLEAU {
+        samples.push(neighbour(&tableau, &mut random));
+    }
+    for _ in 0..NOISE_PER_TABLEAU {
+        samples.push(noise::sample(&tableau, &mut random));
+    }
+    for _ in 0..NEAR_MISSES_PER_TABLEAU {
+        samples.push(near_misses::sample(&mut random));
+    }
+    if batch.is_multiple_of(BATCHES_PER_LIMIT) {
+        samples.extend(limits::samples(&mut random));
+    }
+    samples
+}
+
+fn accepted(kind: &'static str, tableau: &Tableau) -> Sample {
+    Sample {
+        kind,
+        bytes: tableau.bytes(),
+        expected: Expected::Reply(tableau.reply()),
+    }
+}
+
+/// A closed tableau so small that many heaps can be tried on its assumptions.
+pub fn small_tableau(random: &mut Random) -> Tableau {
+    let budget = random.below(8);
+    let depth = random.below(2);
+    let mut builder = Builder::new(random, budget, depth);
+    builder.close_branch(1);
+    let draft = builder.draft;
+    tableau::shuffled(&draft, random)
+}
+
+/// A closed tableau, mostly small, now and then large, or with as many
+/// alternatives waiting as there may be.
+fn closed_tableau(random: &mut Random) -> Tableau {
+    let (budget, depth) = match random.below(20) {
+        0..=11 => (random.below(30), random.below(3)),
+        12..=17 => (random.below(120), random.below(4)),
+        18 => (random.below(60), 6),
+        _ => (random.below(800), random.below(4)),
+    };
+    let height = match random.below(40) {
+        0 => MOST_WAITING,
+        1 => random.below(MOST_WAITING),
+        _ => 0,
+    };
+    let nesting = random.below(4);
+    let mut builder = Builder::new(random, budget, depth);
+    builder.tower(height);
+    while !builder.draft.is_closed() {
+        builder.close_branch(nesting);
+    }
+    let draft = builder.draft;
+    tableau::shuffled(&draft, random)
+}

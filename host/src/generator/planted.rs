@@ -1,0 +1,136 @@
+//! Damage by lines planted into a closed tableau: errors in freshness and in
+//! `sub` that few random changes would hit. Each is refused at a known line.
+
+use crate::random::Random;
+
+use super::draft::{MOST_TERMS, MOST_WAITING};
+use super::exact_damage::{some_line, Damaged};
+use super::refusal;
+use super::tableau::{plain_line, text, Entry, Line, Tableau};
+
+const NONE: Entry = Entry::Unused;
+/// More terms than any of these plants.
+const SPARE_TERMS: usize = 5;
+
+/// The lines of a tableau with more planted.
+struct Planted {
+    lines: Vec<Line>,
+    terms: usize,
+    new_terms: usize,
+}
+
+impl Planted {
+    fn new(tableau: &Tableau) -> Option<Planted> {
+        let room = tableau.terms + SPARE_TERMS <= MOST_TERMS;
+        room.then(|| Planted {
+            lines: tableau.lines.clone(),
+            terms: tableau.terms,
+            new_terms: 0,
+        })
+    }
+
+    /// This term, which is planted as the last one if it is new.
+    fn term(&mut self, word: &'static str, argument: Entry) -> Entry {
+        let line = plain_line('T', word, [argument, NONE, NONE, NONE]);
+        let terms = self.terms + self.new_terms;
+        let known = self.lines[..terms].iter().position(|old| *old == line);
+        let index = known.unwrap_or_else(|| {
+            self.lines.insert(terms, line);
+            self.new_terms += 1;
+            terms
+        });
+        Entry::Term(index as u32 + 1)
+    }
+
+    /// Plants a step before the line that had this index. Gives the number of
+    /// the planted line.
+    fn step(&mut self, before: usize, rule: &'static str, entries: [Entry; 4]) -> usize {
+        let index = before + self.new_terms;
+        self.lines.insert(index, plain_line('S', rule, entries));
+        index + 1
+    }
+
+    fn refused(&self, number: u32, line: usize) -> Damaged {
+        Some((text(&self.lines), refusal(number, line)))
+    }
+}
+
+/// The place of an assumption a eq b, with a and b.
+fn equation(tableau: &Tableau, random: &mut Random) -> Option<(Entry, u32, u32)> {
+    let is_equation = |line: &Line| line.letter == 'A' && line.word == "eq";
+    let index = some_line(tableau, random, is_equation)?;
+    let [left, right, ..] = tableau.lines[index].entries.map(Entry::number);
+    let place = (index - tableau.terms) as u32 + 1;
+    Some((Entry::Place(place), left, right))
+}
+
+/// `sub` as the first step, where it may not be.
+fn refused_sub(tableau: &Tableau, mut planted: Planted, entries: [Entry; 4]) -> Damaged {
+    let line = planted.step(tableau.terms + tableau.assumptions, "sub", entries);
+    planted.refused(12, line)
+}
+
+/// `sub` on two variables whose names are the numbers of equal terms.
+pub fn names_taken_for_terms(tableau: &Tableau, random: &mut Random) -> Damaged {
+    let (place, a, b) = equation(tableau, random)?;
+    let mut planted = Planted::new(tableau)?;
+    let word = random.pick(&["rfv", "rgv", "arv", "fnv", "clv"]);
+    let t = planted.term(word, Entry::Name(a));
+    let w = planted.term(word, Entry::Name(b));
+    refused_sub(tableau, planted, [place, NONE, t, w])
+}
+
+/// `sub` on a term that has no arguments and itself.
+pub fn no_arguments(tableau: &Tableau, random: &mut Random) -> Damaged {
+    let (place, ..) = equation(tableau, random)?;
+    let mut planted = Planted::new(tableau)?;
+    let word = random.pick(&["nul", "emp", "all"]);
+    let t = planted.term(word, NONE);
+    refused_sub(tableau, planted, [place, NONE, t, t])
+}
+
+/// A step that takes a term as fresh which is no reference variable.
+pub fn no_variable(tableau: &Tableau, random: &mut Random) -> Damaged {
+    let index = some_line(tableau, random, Line::takes_fresh)?;
+    let is_other = |line: &Line| line.letter == 'T' && line.word != "rfv";
+    let other = some_line(tableau, random, is_other)?;
+    let mut lines = tableau.lines.clone();
+    lines[index].entries[3] = Entry::Term(other as u32 + 1);
+    Some((text(&lines), refusal(13, index + 1)))
+}
+
+/// A step that takes w as fresh, with w, where one more alternative may wait.
+fn taking_fresh(tableau: &Tableau, random: &mut Random) -> Option<(usize, Entry)> {
+    let index = some_line(tableau, random, Line::takes_fresh)?;
+    let room = tableau.waiting_before(index) < MOST_WAITING;
+    room.then(|| (index, tableau.lines[index].entries[3]))
+}
+
+/// Before w is taken as fresh, a cut brings it in, inside a term on the right.
+pub fn inside_on_the_right(tableau: &Tableau, random: &mut Random) -> Damaged {
+    let (index, w) = taking_fresh(tableau, random)?;
+    let mut planted = Planted::new(tableau)?;
+    let nul = planted.term("nul", NONE);
+    let sin = planted.term("sin", w);
+    let line = planted.step(index, "cut", [NONE, NONE, nul, sin]);
+    planted.refused(13, line + 1)
+}
+
+/// The same, inside a term that is on both sides.
+pub fn inside_on_both_sides(tableau: &Tableau, random: &mut Random) -> Damaged {
+    let (index, w) = taking_fresh(tableau, random)?;
+    let mut planted = Planted::new(tableau)?;
+    let typ = planted.term("typ", w);
+    let rule = random.pick(&["ref", "ler"]);
+    let line = planted.step(index, rule, [NONE, NONE, typ, NONE]);
+    planted.refused(13, line + 1)
+}
+
+/// The same, with w itself as the left side.
+pub fn on_the_left(tableau: &Tableau, random: &mut Random) -> Damaged {
+    let (index, w) = taking_fresh(tableau, random)?;
+    let mut planted = Planted::new(tableau)?;
+    let all = planted.term("all", NONE);
+    let line = planted.step(index, "cut", [NONE, NONE, w, all]);
+    planted.refused(13, line + 1)
+}

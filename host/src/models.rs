@@ -1,0 +1,209 @@
+//! Looks for small finite heaps that make all assumptions of a file true.
+
+use std::collections::BTreeSet;
+
+use crate::independent::{read, takes_name, Literal, Term, TermWord};
+use crate::meaning::{literal_true, values_of_terms, Heap, Value, Values, Variable};
+use crate::random::Random;
+
+/// Where the numbers come from that a heap and values are made of.
+trait Choices {
+    /// A number from 0 up to the bound, the bound left out.
+    fn below(&mut self, bound: usize) -> usize;
+}
+
+impl Choices for Random {
+    fn below(&mut self, bound: usize) -> usize {
+        Random::below(self, bound)
+    }
+}
+
+/// Goes through all choices in turn: each digit counts one choice up to its
+/// bound, the last one fastest.
+#[derive(Default)]
+struct Odometer {
+    digits: Vec<(usize, usize)>,
+    position: usize,
+}
+
+impl Choices for Odometer {
+    fn below(&mut self, bound: usize) -> usize {
+        if self.position == self.digits.len() {
+            self.digits.push((0, bound));
+        }
+        self.position += 1;
+        self.digits[self.position - 1].0
+    }
+}
+
+impl Odometer {
+    /// Goes on to the next choices; false when there are no more.
+    fn advance(&mut self) -> bool {
+        self.position = 0;
+        while let Some((digit, bound)) = self.digits.pop() {
+            if digit + 1 < bound {
+                self.digits.push((digit + 1, bound));
+                return true;
+            }
+        }
+        false
+    }
+}
+
+/// How many references (`nul` among them), fields and classes there are.
+struct Size {
+    references: usize,
+    fields: usize,
+    classes: usize,
+}
+
+/// What a search through heaps came to.
+pub struct Search {
+    pub found: usize,
+    pub tried: usize,
+    /// Whether it went through all there are.
+    pub complete: bool,
+}
+
+/// The terms and assumptions of a file.
+pub struct Question {
+    terms: Vec<Term>,
+    assumptions: Vec<Literal>,
+}
+
+impl Question {
+    /// `None` when the T and A lines are not well formed.
+    pub fn of_file(file: &[u8]) -> Option<Question> {
+        let (terms, assumptions) = read(file)?;
+        Some(Question { terms, assumptions })
+    }
+
+    /// Of so many heaps and values at random, those that are a model.
+    pub fn random_models(&self, tries: usize, random: &mut Random) -> usize {
+        let mut found = 0;
+        for _ in 0..tries {
+            let size = Size {
+                references: 2 + random.below(3),
+                fields: 1 + random.below(2),
+                classes: 1 + random.below(3),
+            };
+            found += usize::from(self.is_model(&size, random));
+        }
+        found
+    }
+
+    /// Goes through all heaps with one reference beside `nul`, one field and
+    /// at most two classes, and all values, but no more than `most` of them
+    /// for each number of classes.
+    pub fn all_models(&self, most: usize) -> Search {
+        let mut search = Search {
+            found: 0,
+            tried: 0,
+            complete: true,
+        };
+        for classes in 1..=2 {
+            let size = Size {
+                references: 2,
+                fields: 1,
+                classes,
+            };
+            self.search(&size, most, &mut search);
+        }
+        search
+    }
+
+    fn search(&self, size: &Size, most: usize, search: &mut Search) {
+        let mut odometer = Odometer::default();
+        for _ in 0..most {
+            search.found += usize::from(self.is_model(size, &mut odometer));
+            search.tried += 1;
+            if !odometer.advance() {
+                return;
+            }
+        }
+        search.complete = false;
+    }
+
+    /// Whether all assumptions are true in the heap and values that the
+    /// choices make.
+    fn is_model(&self, size: &Size, choices: &mut impl Choices) -> bool {
+        let heap = heap(size, choices);
+        let values = self.values(&heap, choices);
+        assert!(heap.is_finite_heap() && values.fit(&heap));
+        let known = values_of_terms(&self.terms, &heap, &values).expect("terms have values");
+        self.assumptions.iter().all(|literal| {
+            literal_true(literal, &known, &heap).expect("assumptions are true or false")
+        })
+    }
+
+    fn values(&self, heap: &Heap, choices: &mut impl Choices) -> Values {
+        let mut given = Vec::new();
+        for term in &self.terms {
+            if takes_name(term.word) {
+                let variable = Variable {
+                    word: term.word,
+                    name: term.arguments[0],
+                };
+                given.push((variable, value(term.word, heap, choices)));
+            }
+        }
+        Values { given }
+    }
+}
+
+fn list(choices: &mut impl Choices, length: usize, bound: usize) -> Vec<usize> {
+    (0..length).map(|_| choices.below(bound)).collect()
+}
+
+fn heap(size: &Size, choices: &mut impl Choices) -> Heap {
+    let Size {
+        references,
+        fields,
+        classes,
+    } = *size;
+    let mut allocated = vec![false; references];
+    // At least one reference is allocated, and `nul` is not.
+    allocated[1 + choices.below(references - 1)] = true;
+    for one in allocated.iter_mut().skip(1) {
+        *one = *one || choices.below(2) == 0;
+    }
+    Heap {
+        references,
+        fields,
+        classes,
+        order: order(classes, choices),
+        allocated,
+        typ: list(choices, references, classes),
+        dty: list(choices, fields, classes),
+    }
+}
+
+/// A partial order: by size, none at all, or all above class 0.
+fn order(classes: usize, choices: &mut impl Choices) -> Vec<Vec<bool>> {
+    let kind = if classes == 1 { 0 } else { choices.below(3) };
+    let below = |a: usize, b: usize| match kind {
+        0 => a <= b,
+        1 => a == b,
+        _ => a == b || a == 0,
+    };
+    let row = |a: usize| (0..classes).map(|b| below(a, b)).collect();
+    (0..classes).map(row).collect()
+}
+
+fn value(word: TermWord, heap: &Heap, choices: &mut impl Choices) -> Value {
+    match word {
+        TermWord::Rfv => Value::Reference(choices.below(heap.references)),
+        TermWord::Rgv => {
+            let members = heap.all().into_iter();
+            let members: BTreeSet<usize> = members.filter(|_| choices.below(2) == 0).collect();
+            Value::Region(members)
+        }
+        TermWord::Arv => {
+            let rows = 0..heap.references;
+            let table = rows.map(|_| list(choices, heap.fields, heap.references));
+            Value::HeapValue(table.collect())
+        }
+        TermWord::Fnv => Value::Field(choices.below(heap.fields)),
+        _ => Value::Class(choices.below(heap.classes)),
+    }
+}

@@ -1,0 +1,143 @@
+//! Compares the checkers on files made by the generator, and shows that the
+//! comparison finds checkers that are wrong.
+
+use host::checkers::{plain_rust, Checker, Numbers, CHECKERS};
+use host::comparison::compare;
+use host::generator::RULES;
+use host::soundness::try_meaning;
+
+const FILES: usize = 20_000;
+const SMALL_TABLEAUX: usize = 600;
+const SEED: u64 = 20_040_404;
+
+/// The rules with no need of their own but a sort or a fresh variable.
+const WITHOUT_NEEDS: [&str; 4] = ["fir", "cut", "ref", "ler"];
+const WITH_FRESH: [&str; 3] = ["ext", "fir", "wit"];
+/// The rules that add a term which no field or premise names.
+const WITH_LOOKUP: [&str; 7] = ["fir", "sgi", "all", "nul", "img", "wit", "rdm"];
+
+#[test]
+fn checkers_agree() {
+    let summary = match compare(CHECKERS, FILES, SEED) {
+        Ok(summary) => summary,
+        Err(difference) => panic!(
+            "{}, known {:?}, replies {:?}:\n{}",
+            difference.sample.kind,
+            difference.sample.expected,
+            difference.replies,
+            String::from_utf8_lossy(&difference.sample.bytes)
+        ),
+    };
+    print!("{summary}");
+    assert!(summary.files >= FILES);
+    assert!(summary.accepted >= FILES / 10);
+    assert_eq!(summary.rules_missing(), Vec::<&str>::new());
+    assert_eq!(summary.refusals_missing(), Vec::<u32>::new());
+    let mut with_needs = RULES.to_vec();
+    with_needs.retain(|rule| !WITHOUT_NEEDS.contains(rule));
+    assert_eq!(summary.never_refused(&with_needs, 12), Vec::<&str>::new());
+    assert_eq!(summary.never_refused(&WITH_FRESH, 13), Vec::<&str>::new());
+    assert_eq!(summary.never_refused(&WITH_LOOKUP, 14), Vec::<&str>::new());
+}
+
+#[test]
+fn accepted_files_have_no_model() {
+    for checker in CHECKERS {
+        let trials = match try_meaning(*checker, SMALL_TABLEAUX, SEED) {
+            Ok(trials) => trials,
+            Err(file) => panic!("a model of\n{}", String::from_utf8_lossy(&file)),
+        };
+        print!("{}: {trials}", checker.0);
+        assert_eq!(trials.accepted, SMALL_TABLEAUX);
+        assert_eq!(trials.rules.len(), RULES.len());
+        assert!(trials.damaged_accepted > 0);
+        assert!(trials.complete > SMALL_TABLEAUX / 2);
+        // Otherwise the heaps that are tried would say little.
+        assert!(trials.changed_with_model > trials.changed / 5);
+    }
+}
+
+// ---------------------------------------------------------------------------
+// Checkers that are wrong
+// ---------------------------------------------------------------------------
+
+fn yes_to_all(file: &[u8]) -> Numbers {
+    let count = |start: &str| {
+        let lines = file.split(|byte| *byte == b'\n');
+        let found = lines.filter(|line| line.starts_with(start.as_bytes()));
+        found.count() as u32
+    };
+    let closings = count("S,cls,") + count("S,emp,");
+    [0, 0, count("T"), count("A"), count("S"), closings]
+}
+
+fn no_to_all(_: &[u8]) -> Numbers {
+    [17, 1, 0, 0, 0, 0]
+}
+
+fn too_long_early(file: &[u8]) -> Numbers {
+    if file.len() > 59_999 {
+        return [1, 0, 0, 0, 0, 0];
+    }
+    plain_rust(file)
+}
+
+fn line_from_0(file: &[u8]) -> Numbers {
+    let mut reply = plain_rust(file);
+    reply[1] = reply[1].saturating_sub(1);
+    reply
+}
+
+fn closings_missing(file: &[u8]) -> Numbers {
+    let mut reply = plain_rust(file);
+    if reply[0] == 0 {
+        reply[5] = 1;
+    }
+    reply
+}
+
+/// Takes a tree with branches open for closed.
+fn open_accepted(file: &[u8]) -> Numbers {
+    match plain_rust(file) {
+        [17, ..] => yes_to_all(file),
+        reply => reply,
+    }
+}
+
+/// A file with 200 alternatives waiting has too many.
+fn one_less_waits(file: &[u8]) -> Numbers {
+    let reply = plain_rust(file);
+    let cuts = |text: &[u8]| text.starts_with(b"S,cut,");
+    let lines: Vec<&[u8]> = file.split(|byte| *byte == b'\n').collect();
+    let run = lines.chunk_by(|a, b| cuts(a) && cuts(b));
+    if reply[0] == 0 && run.into_iter().any(|run| run.len() >= 200) {
+        return [16, 1, 0, 0, 0, 0];
+    }
+    reply
+}
+
+const WRONG: [Checker; 7] = [
+    ("yes to all", yes_to_all),
+    ("no to all", no_to_all),
+    ("60,000 bytes are too many", too_long_early),
+    ("lines from 0", line_from_0),
+    ("closings invented", closings_missing),
+    ("an open tree taken for closed", open_accepted),
+    ("200 waiting are too many", one_less_waits),
+];
+
+/// Alone against what is known beforehand, and beside the plain checker.
+#[test]
+fn wrong_checkers_are_found() {
+    for wrong in WRONG {
+        assert!(compare(&[wrong], FILES, SEED).is_err(), "{}", wrong.0);
+        let both = [("plain Rust", plain_rust as _), wrong];
+        assert!(compare(&both, FILES, SEED).is_err(), "{}", wrong.0);
+    }
+}
+
+#[test]
+fn a_checker_that_accepts_too_much_is_found_by_the_meaning() {
+    assert!(try_meaning(("yes to all", yes_to_all), SMALL_TABLEAUX, SEED).is_err());
+    assert!(try_meaning(("open trees", open_accepted), SMALL_TABLEAUX, SEED).is_err());
+}

@@ -1,0 +1,161 @@
+//! The generator's files have what they are made for. All is read from the
+//! text of the files; no checker is run.
+
+use std::collections::{BTreeSet, HashSet};
+
+use host::generator::{batch, Expected};
+
+const BATCHES: u64 = 300;
+const SEED: u64 = 7;
+
+/// A line's letter, word and numbers.
+type Line = (String, String, [usize; 4]);
+
+fn lines(file: &[u8]) -> Vec<Line> {
+    let text = std::str::from_utf8(file).expect("an accepted file is ASCII");
+    text.lines()
+        .map(|line| {
+            let fields: Vec<&str> = line.split(',').collect();
+            let number = |index: usize| fields[index].parse().expect("a number");
+            let numbers = [number(2), number(3), number(4), number(5)];
+            (fields[0].to_string(), fields[1].to_string(), numbers)
+        })
+        .collect()
+}
+
+fn accepted_files() -> Vec<Vec<Line>> {
+    let samples = (0..BATCHES).flat_map(|number| batch(SEED, number));
+    samples
+        .filter(|sample| matches!(sample.expected, Expected::Reply([0, ..])))
+        .map(|sample| lines(&sample.bytes))
+        .collect()
+}
+
+/// How many alternatives begin to wait at a step, as document 01 has it.
+fn pushes(rule: &str) -> usize {
+    match rule {
+        "ext" | "cue" | "sgi" | "cut" | "rdm" => 1,
+        "img" => 2,
+        _ => 0,
+    }
+}
+
+fn most_waiting(file: &[Line]) -> usize {
+    let (mut waiting, mut most) = (0, 0);
+    for (letter, word, _) in file {
+        if letter != "S" {
+            continue;
+        }
+        waiting += pushes(word);
+        most = most.max(waiting);
+        if word == "cls" || word == "emp" {
+            waiting = waiting.saturating_sub(1);
+        }
+    }
+    most
+}
+
+fn deepest_term(file: &[Line]) -> usize {
+    let mut depths = vec![0];
+    for (letter, word, numbers) in file {
+        if letter == "T" {
+            let named = matches!(word.as_str(), "rfv" | "rgv" | "arv" | "fnv" | "clv");
+            let inside = if named { &[0; 4] } else { numbers };
+            let depth = 1 + inside.iter().map(|number| depths[*number]).max().unwrap();
+            depths.push(depth);
+        }
+    }
+    depths.into_iter().max().unwrap()
+}
+
+/// Whether a step takes a variable as fresh that another has taken before.
+fn takes_again(file: &[Line]) -> bool {
+    let mut taken = HashSet::new();
+    file.iter().any(|(letter, word, numbers)| {
+        let takes = letter == "S" && matches!(word.as_str(), "ext" | "fir" | "wit");
+        takes && !taken.insert(numbers[3])
+    })
+}
+
+fn digits(number: usize) -> usize {
+    number.to_string().len()
+}
+
+#[test]
+fn accepted_files_are_varied() {
+    let files = accepted_files();
+    let count = |asked: &dyn Fn(&[Line]) -> bool| files.iter().filter(|file| asked(file)).count();
+    assert!(count(&|file| most_waiting(file) == 200) >= 10);
+    assert!(count(&|file| (4..200).contains(&most_waiting(file))) >= 30);
+    assert!(count(&takes_again) >= 20);
+    assert!(count(&|file| deepest_term(file) >= 6) >= 10);
+    assert!(count(&|file| file.len() < 20) >= 50);
+    assert!(count(&|file| file.len() > 300) >= 10);
+}
+
+#[test]
+fn names_and_places_of_every_length() {
+    let (mut names, mut places) = (BTreeSet::new(), BTreeSet::new());
+    for (letter, word, numbers) in accepted_files().into_iter().flatten() {
+        let named = matches!(word.as_str(), "rfv" | "rgv" | "arv" | "fnv" | "clv");
+        if letter == "T" && named {
+            names.insert(digits(numbers[0]));
+        }
+        if letter == "S" && numbers[0] > 0 {
+            places.insert(digits(numbers[0]));
+        }
+    }
+    assert_eq!(names, BTreeSet::from([1, 2, 3, 4]));
+    assert!(places.is_superset(&BTreeSet::from([1, 2, 3])));
+    let ends_at_1000 = |line: &Line| line.1 == "cls" && line.2[1] == 1_000;
+    assert!(accepted_files().iter().flatten().any(ends_at_1000));
+}
+
+/// Every kind of damage, of noise and of file at a limit.
+#[test]
+fn every_kind_is_made() {
+    let samples = (0..BATCHES).flat_map(|number| batch(SEED, number));
+    let kinds: BTreeSet<&str> = samples.map(|sample| sample.kind).collect();
+    for kind in [
+        "closed tableau",
+        "an alternative left out",
+        "two alternatives exchanged",
+        "a fresh variable taken twice",
+        "a term looked up left out",
+        "a number changed",
+        "a line dropped",
+        "a line doubled",
+        "two lines exchanged",
+        "a byte changed",
+        "a byte dropped",
+        "a byte doubled",
+        "two bytes exchanged",
+        "bytes at random",
+        "steps at random",
+        "60,000 bytes",
+        "60,001 bytes",
+        "600 terms",
+        "601 terms",
+        "1,000 assumptions",
+        "1,001 assumptions",
+        "1,000 places",
+        "1,001 places",
+        "200 wait",
+        "201 wait",
+        "200 wait after img",
+        "201 wait after img",
+    ] {
+        assert!(kinds.contains(kind), "{kind}");
+    }
+}
+
+/// A seed makes the same files again, another seed others.
+#[test]
+fn seeds_decide() {
+    let bytes = |seed: u64, number: u64| -> Vec<Vec<u8>> {
+        batch(seed, number).into_iter().map(|s| s.bytes).collect()
+    };
+    assert_eq!(bytes(1, 5), bytes(1, 5));
+    assert_ne!(bytes(1, 5), bytes(2, 5));
+    assert_ne!(bytes(1, 5), bytes(1, 6));
+}
