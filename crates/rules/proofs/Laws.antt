@@ -14,8 +14,9 @@ use Rattle.tableau.specs.declared.Operator.{Operator}
 use Rattle.tableau.specs.declared.Relation.{Relation}
 use Rattle.tableau.specs.declared.Sort.{Sort}
 use Rattle.tableau.specs.Basics.{Four, four, guard, every}
-use Rattle.tableau.specs.Terms.{TermNo, Table, Term, variable, apply, literal, operatorIndex, relationIndex, sameOperator, sameRelation, sameSort, arguments, sortIndex, numberOf, at, written}
+use Rattle.tableau.specs.Terms.{TermNo, Table, Term, Literal, variable, apply, literal, operatorIndex, relationIndex, sameOperator, sameRelation, sameSort, arguments, sortIndex, numberOf, at, written}
 use Rattle.tableau.specs.Rules.{rule}
+use Rattle.tableau.specs.Tree.{passed}
 use Rattle.tableau.specs.Steps.{argumentsOf, fits, fitsLiteral, met, made, madeLiterals, madeAlternatives, concludeRows, conclude, agree, takesTerms, congruent}
 use Rattle.tableau.proofs.Bools.{dec, clash}
 use Rattle.tableau.proofs.Match.{same-operator}
@@ -30,7 +31,8 @@ use Rattle.terms.proofs.LiteralView as literal-view
 use Rattle.terms.specs.Packing.{viewOf, viewApply, literalOf, number, packLiteral, wordAt, packTerm, unpackTerm, unpackFields, Packable}
 use Rattle.tree.specs.declared.Alternative.{Alternative}
 use Rattle.tree.specs.State.{Holds}
-use Rattle.rules.specs.Answer.{answer, relationOf, leftOf, rightOf, FoundAs, Small, SmallFound, PackedAt, takesArguments}
+use Rattle.rules.specs.declared.outcome.Outcome.{Outcome}
+use Rattle.rules.specs.Answer.{answer, Builds, Forms, relationOf, leftOf, rightOf, FoundAs, Small, SmallFound, PackedAt, takesArguments}
 use Rattle.tableau.specs.declared.Word.{Word}
 use Rattle.terms.proofs.ViewLaws.{absent, not-among, operator-tag}
 use Rattle.terms.proofs.PackingLaws.{unpack-pack}
@@ -165,10 +167,10 @@ this-operator o (apply o′ k) x q h =
 abbrev Arguments1 : Operator → Term → TermNumber → Type 0
 Arguments1 o e a = (b c d : ℕ) × (argumentsOf o e ≡ some (four (a .0) b c d))
 
-abbrev Arguments2 : Operator → Term → TermNumber → TermNumber → Type 0
+abbrev pub Arguments2 : Operator → Term → TermNumber → TermNumber → Type 0
 Arguments2 o e a b = (c d : ℕ) × (argumentsOf o e ≡ some (four (a .0) (b .0) c d))
 
-abbrev Arguments3 : Operator → Term → TermNumber → TermNumber → TermNumber → Type 0
+abbrev pub Arguments3 : Operator → Term → TermNumber → TermNumber → TermNumber → Type 0
 Arguments3 o e a b c = (d : ℕ) × (argumentsOf o e ≡ some (four (a .0) (b .0) (c .0) d))
 
 pub is-emp : (e : Term) → viewOf e ≡ TermView.Emp → (k : Four TermNo) × (argumentsOf Operator.Emp e ≡ some k)
@@ -184,47 +186,39 @@ is-sin e a q =
     let a′ : number (K .0 .a) ≡ a = cc (K .2) in
     (K .0 .b, K .0 .c, K .0 .d, K .1 ∙ (λ i. some (four (a′ i .0) (K .0 .b) (K .0 .c) (K .0 .d))))
 
+two-arguments : (o : Operator) (e : Term) (x : TermView) (a b : TermNumber) → viewOf e ≡ x → Declared.tagOf term-view.the-type x ≡ suc (operatorIndex o)
+    → ((k : Four TermNo) → viewApply o k ≡ x → (number (k .a) ≡ a) × (number (k .b) ≡ b)) → Arguments2 o e a b
+two-arguments o e x a b q h f =
+    let K = this-operator o e x q h in
+    let g = f (K .0) (K .2) in
+    (K .0 .c, K .0 .d, K .1 ∙ (λ i. some (four (g .0 i .0) (g .1 i .0) (K .0 .c) (K .0 .d))))
+
 pub is-cup : (e : Term) (a b : TermNumber) → viewOf e ≡ TermView.Cup a b → Arguments2 Operator.Cup e a b
 unfolding operatorIndex viewApply
-is-cup e a b q =
-    let K = this-operator Operator.Cup e (TermView.Cup a b) q refl in
-    let a′ : number (K .0 .a) ≡ a = cc (K .2) in
-    let b′ : number (K .0 .b) ≡ b = cc (K .2) in
-    (K .0 .c, K .0 .d, K .1 ∙ (λ i. some (four (a′ i .0) (b′ i .0) (K .0 .c) (K .0 .d))))
+is-cup e a b q = two-arguments Operator.Cup e _ a b q refl (λ k h. ((cc), (cc)))
 
 pub is-cap : (e : Term) (a b : TermNumber) → viewOf e ≡ TermView.Cap a b → Arguments2 Operator.Cap e a b
 unfolding operatorIndex viewApply
-is-cap e a b q =
-    let K = this-operator Operator.Cap e (TermView.Cap a b) q refl in
-    let a′ : number (K .0 .a) ≡ a = cc (K .2) in
-    let b′ : number (K .0 .b) ≡ b = cc (K .2) in
-    (K .0 .c, K .0 .d, K .1 ∙ (λ i. some (four (a′ i .0) (b′ i .0) (K .0 .c) (K .0 .d))))
+is-cap e a b q = two-arguments Operator.Cap e _ a b q refl (λ k h. ((cc), (cc)))
 
 pub is-dif : (e : Term) (a b : TermNumber) → viewOf e ≡ TermView.Dif a b → Arguments2 Operator.Dif e a b
 unfolding operatorIndex viewApply
-is-dif e a b q =
-    let K = this-operator Operator.Dif e (TermView.Dif a b) q refl in
-    let a′ : number (K .0 .a) ≡ a = cc (K .2) in
-    let b′ : number (K .0 .b) ≡ b = cc (K .2) in
-    (K .0 .c, K .0 .d, K .1 ∙ (λ i. some (four (a′ i .0) (b′ i .0) (K .0 .c) (K .0 .d))))
+is-dif e a b q = two-arguments Operator.Dif e _ a b q refl (λ k h. ((cc), (cc)))
+
+three-arguments : (o : Operator) (e : Term) (x : TermView) (a b c : TermNumber) → viewOf e ≡ x → Declared.tagOf term-view.the-type x ≡ suc (operatorIndex o)
+    → ((k : Four TermNo) → viewApply o k ≡ x → (number (k .a) ≡ a) × (number (k .b) ≡ b) × (number (k .c) ≡ c)) → Arguments3 o e a b c
+three-arguments o e x a b c q h f =
+    let K = this-operator o e x q h in
+    let g = f (K .0) (K .2) in
+    (K .0 .d, K .1 ∙ (λ i. some (four (g .0 i .0) (g .1 i .0) (g .2 i .0) (K .0 .d))))
 
 pub is-rea : (e : Term) (a b c : TermNumber) → viewOf e ≡ TermView.Rea a b c → Arguments3 Operator.Rea e a b c
 unfolding operatorIndex viewApply
-is-rea e a b c q =
-    let K = this-operator Operator.Rea e (TermView.Rea a b c) q refl in
-    let a′ : number (K .0 .a) ≡ a = cc (K .2) in
-    let b′ : number (K .0 .b) ≡ b = cc (K .2) in
-    let c′ : number (K .0 .c) ≡ c = cc (K .2) in
-    (K .0 .d, K .1 ∙ (λ i. some (four (a′ i .0) (b′ i .0) (c′ i .0) (K .0 .d))))
+is-rea e a b c q = three-arguments Operator.Rea e _ a b c q refl (λ k h. ((cc), (cc), (cc)))
 
 pub is-img : (e : Term) (a b c : TermNumber) → viewOf e ≡ TermView.Img a b c → Arguments3 Operator.Img e a b c
 unfolding operatorIndex viewApply
-is-img e a b c q =
-    let K = this-operator Operator.Img e (TermView.Img a b c) q refl in
-    let a′ : number (K .0 .a) ≡ a = cc (K .2) in
-    let b′ : number (K .0 .b) ≡ b = cc (K .2) in
-    let c′ : number (K .0 .c) ≡ c = cc (K .2) in
-    (K .0 .d, K .1 ∙ (λ i. some (four (a′ i .0) (b′ i .0) (c′ i .0) (K .0 .d))))
+is-img e a b c q = three-arguments Operator.Img e _ a b c q refl (λ k h. ((cc), (cc), (cc)))
 
 pub is-wri : (e : Term) (a b c d : TermNumber) → viewOf e ≡ TermView.Wri a b c d → argumentsOf Operator.Wri e ≡ some (four (a .0) (b .0) (c .0) (d .0))
 unfolding operatorIndex viewApply
@@ -239,6 +233,17 @@ is-wri e a b c d q =
 -- AN ALTERNATIVE of at most n codes has at most n + k
 pub holds-more : (n : ℕ) {m : ℕ} {a : Alternative} → m ≤ n → Holds m a → Holds n a
 holds-more n h k = record { count = omega arith; first = k .first; second = k .second; third = k .third }
+
+-- what an outcome of alternatives adds, by what they are
+pub adds : {n : ℕ} {small : Type 0} {k : Alternative} {ls : List Literal} → n ≤ 3 → Forms n small k ls → Builds small (Outcome.Adds k) (ls ∷ [])
+adds h f = record { room = holds-more 3 h (f .holds); adds = λ s. ap (λ l. passed (l ∷ [])) (f .is s) }
+
+pub splits : {m n : ℕ} {small S T : Type 0} {k l : Alternative} {ks ls : List Literal} → m ≤ 3 → n ≤ 2 → (small → S × T) → Forms m S k ks → Forms n T l ls
+    → Builds small (Outcome.Splits k l) (ks ∷ ls ∷ [])
+splits h i s f g = record {
+  room = (holds-more 3 h (f .holds), holds-more 2 i (g .holds));
+  adds = λ z i. passed (f .is (s z .0) i ∷ g .is (s z .1) i ∷ []);
+}
 
 -- The answer of a rule, computed: to unfold this is to unfold all that runs a row.
 unfoldable pub computing : Type 0

@@ -9,21 +9,12 @@ use Rattle.rules.proofs.Laws.{computing, by-sides, has-relation, not-eq
 use Rattle.rules.proofs.equality.rep.Statement.{statement}
 use Rattle.rules.proofs.equality.rep.Tie as tie
 
-enum-known-q : tie.Need-enum-known-q
-enum-known-q c = search needs
-
 -- q is not a eq b
 returns : tie.Need-returns
 unfolding computing concludeRep
 returns c =
     let g = c .before .args in
     record { room = tt; answers = λ table h fresh. rw (by-sides (g .p), by-sides (g .q), not-eq (g .q) (c .match .keys2)) }
-
-left-requires : tie.Need-left-requires
-left-requires c κs = search needs
-
-right-requires : tie.Need-right-requires
-right-requires c κs = search needs
 
 -- the left side is not a
 returns-2 : tie.Need-returns-2
@@ -35,12 +26,6 @@ returns-2 c =
     let i = has-relation Relation.Eq (a .1) refl in
     let n = ne-eqb _ _ (λ e. c .if2 .taken (d .before .left .ensures ∙ e ∙ ap leftOf (a .1))) in
     record { room = tt; answers = λ table h fresh. rw (by-sides (g .p), by-sides (g .q), i, c .before .before .before .if1 .taken, n) }
-
-relation-requires : tie.Need-relation-requires
-relation-requires c κs = search needs
-
-adds-one-requires : tie.Need-adds-one-requires
-adds-one-requires c κs = search needs
 
 -- b on the left
 returns-3 : tie.Need-returns-3
@@ -71,12 +56,6 @@ returns-4 c =
     let i = has-relation Relation.Eq (a .1) refl in
     let n = ne-eqb _ _ (λ e. c .if4 .taken (d .right .ensures ∙ e ∙ ap leftOf (a .1))) in
     record { room = tt; answers = λ table h fresh. rw (by-sides (g .p), by-sides (g .q), i, c .before .before .before .if3 .taken, n) }
-
-relation-requires-2 : tie.Need-relation-requires-2
-relation-requires-2 c κs = search needs
-
-adds-one-requires-2 : tie.Need-adds-one-requires-2
-adds-one-requires-2 c κs = search needs
 
 -- b on the right
 returns-5 : tie.Need-returns-5
@@ -114,16 +93,16 @@ pub rep-spec : {M : Type 1} → statement M
 rep-spec =
     tie.close
     (tie.spec
-    enum-known-q
+    (λ c. search needs)
     returns
-    left-requires
-    right-requires
+    (λ c κs. search needs)
+    (λ c κs. search needs)
     returns-2
-    relation-requires
-    adds-one-requires
+    (λ c κs. search needs)
+    (λ c κs. search needs)
     returns-3
     returns-4
-    relation-requires-2
-    adds-one-requires-2
+    (λ c κs. search needs)
+    (λ c κs. search needs)
     returns-5
     returns-6)

@@ -38,18 +38,12 @@ answer-packed {table} {p} {a} {b} {t} {w} {x} {y} fresh e h k =
     rw (by-sides p, has-relation Relation.Eq e refl, l, r, congruent-packed (a .0) (b .0) h k)
     (⊎-elim (λ z. rw z) (λ z. rw z) (dec (Test a b x y)))
 
-enum-known-p : tie.Need-enum-known-p
-enum-known-p c = search needs
-
 -- p is not a eq b
 returns : tie.Need-returns
 unfolding computing concludeSub
 returns c =
     let p = c .before .args .p in
     record { room = tt; answers = λ table h fresh. rw (by-sides p, not-eq p (c .match .keys2)) }
-
-takes-terms-requires : tie.Need-takes-terms-requires
-takes-terms-requires c κs = search needs
 
 -- the word of t takes no terms
 returns-2 : tie.Need-returns-2
@@ -72,9 +66,6 @@ returns-3 c =
       answers = λ table h fresh. answer-packed fresh (a .1) (h .3) (h .4) ∙ rw (e, ne-eqb _ _ (c .if2 .taken));
     }
 
-agree-requires : tie.Need-agree-requires
-agree-requires c κs = search needs
-
 -- the first arguments do not agree
 returns-4 : tie.Need-returns-4
 returns-4 c =
@@ -86,9 +77,6 @@ returns-4 c =
       room = tt;
       answers = λ table h fresh. answer-packed fresh (a .1) (h .3) (h .4) ∙ rw (e, f, test-fails (c .before .agree .ensures) (c .if3 .taken));
     }
-
-agree-requires-2 : tie.Need-agree-requires-2
-agree-requires-2 c κs = search needs
 
 -- the second arguments do not agree
 returns-5 : tie.Need-returns-5
@@ -102,9 +90,6 @@ returns-5 c =
       room = tt;
       answers = λ table h fresh. answer-packed fresh (a .1) (h .3) (h .4) ∙ rw (e, f, q₁, test-fails (c .before .agree2 .ensures) (c .if4 .taken));
     }
-
-agree-requires-3 : tie.Need-agree-requires-3
-agree-requires-3 c κs = search needs
 
 -- the third arguments do not agree
 returns-6 : tie.Need-returns-6
@@ -121,9 +106,6 @@ returns-6 c =
       answers = λ table h fresh. answer-packed fresh (a .1) (h .3) (h .4) ∙ rw (e, f, q₁, q₂, n);
     }
 
-agree-requires-4 : tie.Need-agree-requires-4
-agree-requires-4 c κs = search needs
-
 -- the fourth arguments do not agree
 returns-7 : tie.Need-returns-7
 returns-7 c =
@@ -139,9 +121,6 @@ returns-7 c =
       room = tt;
       answers = λ table h fresh. answer-packed fresh (a .1) (h .3) (h .4) ∙ rw (e, f, q₁, q₂, q₃, n);
     }
-
-adds-one-requires : tie.Need-adds-one-requires
-adds-one-requires c κs = search needs
 
 -- t eq w
 returns-8 : tie.Need-returns-8
@@ -163,18 +142,18 @@ pub sub-spec : {M : Type 1} → statement M
 sub-spec =
     tie.close
     (tie.spec
-    enum-known-p
+    (λ c. search needs)
     returns
-    takes-terms-requires
+    (λ c κs. search needs)
     returns-2
     returns-3
-    agree-requires
+    (λ c κs. search needs)
     returns-4
-    agree-requires-2
+    (λ c κs. search needs)
     returns-5
-    agree-requires-3
+    (λ c κs. search needs)
     returns-6
-    agree-requires-4
+    (λ c κs. search needs)
     returns-7
-    adds-one-requires
+    (λ c κs. search needs)
     returns-8)

@@ -8,18 +8,6 @@ use Rattle.rules.proofs.Laws.{by-sides, computing, other-relation}
 use Rattle.rules.proofs.equality.sym.Statement.{statement}
 use Rattle.rules.proofs.equality.sym.Tie as tie
 
-enum-known-p : tie.Need-enum-known-p
-enum-known-p c = search needs
-
-adds-one-requires : tie.Need-adds-one-requires
-adds-one-requires c κs = search needs
-
-enum-known-p-2 : tie.Need-enum-known-p-2
-enum-known-p-2 c = search needs
-
-adds-one-requires-2 : tie.Need-adds-one-requires-2
-adds-one-requires-2 c κs = search needs
-
 -- p is a eq b
 returns : tie.Need-returns
 unfolding computing
@@ -57,10 +45,10 @@ pub sym-spec : {M : Type 1} → statement M
 sym-spec =
     tie.close
     (tie.spec
-    enum-known-p
-    adds-one-requires
-    enum-known-p-2
-    adds-one-requires-2
+    (λ c. search needs)
+    (λ c κs. search needs)
+    (λ c. search needs)
+    (λ c κs. search needs)
     returns
     returns-2
     returns-3)

@@ -1,34 +1,12 @@
 -- `lea` answers what its row says.
 use borrow.Author.Needs.{needs}
 use borrow.Author.Tests.{eq-eqb, ne-eqb}
-use mathlib.Core.Path.{sym, subst}
+use mathlib.Core.Path.{refl, sym, subst}
 use Rattle.rules.specs.Answer.{SmallLiteral}
-use Rattle.rules.proofs.Laws.{by-sides, computing, not-le}
+use Rattle.rules.proofs.Laws.{computing, not-le}
+use Rattle.rules.proofs.Rows.{other-p, other-q}
 use Rattle.rules.proofs.order.lea.Statement.{statement}
 use Rattle.rules.proofs.order.lea.Tie as tie
-
-enum-known-p : tie.Need-enum-known-p
-enum-known-p c = search needs
-
--- p is not a le b
-returns : tie.Need-returns
-unfolding computing
-returns c =
-    let p = c .before .args .p in
-    let e = not-le p (c .match .keys2) in
-    record { room = tt; answers = λ table h fresh. rw (by-sides p, e) }
-
-enum-known-q : tie.Need-enum-known-q
-enum-known-q c = search needs
-
--- q is not b le a
-returns-2 : tie.Need-returns-2
-unfolding computing
-returns-2 c =
-    let q = c .before .before .before .before .args .q in
-    let p = c .before .before .p .given in
-    let e = not-le q (c .match2 .keys2) in
-    record { room = tt; answers = λ table h fresh. rw (p .1, by-sides q, e) }
 
 -- q's left side is not b
 returns-3 : tie.Need-returns-3
@@ -51,9 +29,6 @@ returns-4 c =
     let f = ne-eqb _ _ (c .if2 .taken) in
     record { room = tt; answers = λ table h fresh. rw (p .1, q .1, e, f) }
 
-adds-one-requires : tie.Need-adds-one-requires
-adds-one-requires c κs = search needs
-
 -- all is met
 returns-5 : tie.Need-returns-5
 unfolding computing
@@ -69,14 +44,17 @@ returns-5 c =
     }
 
 pub lea-spec : {M : Type 1} → statement M
+unfolding computing
 lea-spec =
     tie.close
     (tie.spec
-    enum-known-p
-    returns
-    enum-known-q
-    returns-2
+    (λ c. search needs)
+    -- p is not a le b
+    (λ c. other-p (c .before .args .p) refl not-le (c .match .keys2))
+    (λ c. search needs)
+    -- q is not b le a
+    (λ c. other-q (c .before .before .before .before .args .q) refl (c .before .before .p .given .1) (λ table. refl) not-le (c .match2 .keys2))
     returns-3
     returns-4
-    adds-one-requires
+    (λ c κs. search needs)
     returns-5)

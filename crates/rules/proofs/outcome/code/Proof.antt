@@ -9,15 +9,7 @@ use Rattle.rules.proofs.Laws.{code-small, mod-small}
 use borrow.Author.Needs.{needs}
 use Rattle.rules.proofs.outcome.code.Statement.{statement}
 use Rattle.rules.proofs.outcome.code.Tie as tie
-use Rattle.rules.proofs.outcome.code.Reads as reads
-use Rattle.rules.proofs.outcome.code.Lts as lts
-use Rattle.terms.proofs.packing.pack_sides.Reads as pack-sides-reads
 
--- src/outcome.rt:31:5
-pack-sides-requires : tie.Need-pack-sides-requires
-pack-sides-requires c κs = search needs
-
--- src/outcome.rt:25:1
 returns : tie.Need-returns
 returns c =
     let l = c .before .before .before .before .before .args .l in (
@@ -28,4 +20,4 @@ returns c =
     )
 
 pub code-spec : {M : Type 1} → statement M
-code-spec = tie.close (tie.spec pack-sides-requires returns)
+code-spec = tie.close (tie.spec (λ c κs. search needs) returns)

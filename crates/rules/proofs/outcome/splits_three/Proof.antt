@@ -5,23 +5,7 @@ use Rattle.rules.proofs.Laws.{holds-more}
 use borrow.Author.Needs.{needs}
 use Rattle.rules.proofs.outcome.splits_three.Statement.{statement}
 use Rattle.rules.proofs.outcome.splits_three.Tie as tie
-use Rattle.rules.proofs.outcome.splits_three.Reads as reads
-use Rattle.rules.proofs.outcome.splits_three.Lts as lts
-use Rattle.rules.proofs.outcome.one.Reads as one-reads
 
--- src/outcome.rt:96:26
-one-requires : tie.Need-one-requires
-one-requires c κs = search needs
-
--- src/outcome.rt:96:34
-one-requires-2 : tie.Need-one-requires-2
-one-requires-2 c κs = search needs
-
--- src/outcome.rt:96:42
-one-requires-3 : tie.Need-one-requires-3
-one-requires-3 c κs = search needs
-
--- src/outcome.rt:93:1
 returns : tie.Need-returns
 returns c = record {
   room = (
@@ -33,4 +17,4 @@ returns c = record {
 }
 
 pub splits-three-spec : {M : Type 1} → statement M
-splits-three-spec = tie.close (tie.spec one-requires one-requires-2 one-requires-3 returns)
+splits-three-spec = tie.close (tie.spec (λ c κs. search needs) (λ c κs. search needs) (λ c κs. search needs) returns)

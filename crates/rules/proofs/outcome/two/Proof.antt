@@ -4,24 +4,7 @@ use Rattle.terms.specs.Packing.{unpackLiteral}
 use borrow.Author.Needs.{needs}
 use Rattle.rules.proofs.outcome.two.Statement.{statement}
 use Rattle.rules.proofs.outcome.two.Tie as tie
-use Rattle.rules.proofs.outcome.two.Reads as reads
-use Rattle.rules.proofs.outcome.two.Lts as lts
-use Rattle.rules.proofs.outcome.code.Reads as code-reads
-use Rattle.tree.proofs.Alternative.two.Reads as two-reads
 
--- src/outcome.rt:42:22
-code-requires : tie.Need-code-requires
-code-requires c κs = search needs
-
--- src/outcome.rt:42:31
-code-requires-2 : tie.Need-code-requires-2
-code-requires-2 c κs = search needs
-
--- src/outcome.rt:42:5
-two-requires : tie.Need-two-requires
-two-requires c κs = search needs
-
--- src/outcome.rt:39:1
 returns : tie.Need-returns
 returns c = record {
   holds = c .two .ensures .0;
@@ -30,4 +13,4 @@ returns c = record {
 }
 
 pub two-spec : {M : Type 1} → statement M
-two-spec = tie.close (tie.spec code-requires code-requires-2 two-requires returns)
+two-spec = tie.close (tie.spec (λ c κs. search needs) (λ c κs. search needs) (λ c κs. search needs) returns)

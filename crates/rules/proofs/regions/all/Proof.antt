@@ -1,54 +1,29 @@
 -- `all` answers what its row says.
 use borrow.Author.Needs.{needs}
-use mathlib.Core.Path.{sym, subst}
-use Rattle.rules.specs.Answer.{SmallLiteral}
-use Rattle.rules.proofs.Laws.{by-sides, computing, found-at, found-small, found-nothing, not-in}
+use mathlib.Core.Path.{refl}
+use Rattle.rules.proofs.Laws.{computing, not-in}
+use Rattle.rules.proofs.Rows.{named, not-named, other-p}
 use Rattle.rules.proofs.regions.all.Statement.{statement}
 use Rattle.rules.proofs.regions.all.Tie as tie
 
-enum-known-p : tie.Need-enum-known-p
-enum-known-p c = search needs
-
--- p is not u in r
-returns : tie.Need-returns
-unfolding computing
-returns c =
-    let p = c .before .args .p in
-    let e = not-in p (c .match .keys2) in
-    record { room = tt; answers = λ table h fresh. rw (by-sides p, e) }
-
-enum-known-all : tie.Need-enum-known-all
-enum-known-all c = search needs
-
-enum-told : tie.Need-enum-told
-enum-told c = search needs
-
--- `all` does not stand in the table
-returns-2 : tie.Need-returns-2
-unfolding computing
-returns-2 c =
-    let p = c .before .before .before .p .given in
-    record { room = tt; answers = λ table h fresh. rw (p .1, found-nothing (h .1) (c .enum-told .given .1)) }
-
-adds-one-requires : tie.Need-adds-one-requires
-adds-one-requires c κs = search needs
-
--- all is met
+-- u in r, and `all` stands in the table
 returns-3 : tie.Need-returns-3
 unfolding computing
 returns-3 c =
-    let p = c .before .before .before .before .before .p .given in
-    let f = c .before .before .all .given in
-    record {
-      room = c .adds-one .ensures .room;
-      answers = λ table h fresh.
-          let sp = subst SmallLiteral (p .1) (h .0) in
-          let n = found-at (h .1) (f .1) in
-          let sn = found-small (h .1) (f .1) in
-          rw (p .1, n) (sym (c .adds-one .ensures .adds (sp .0, sn)));
-    }
+    let p = c .before .before .before .before .before .p .given .1 in
+    named refl refl p (λ table h. h) (c .before .before .all .given .1) (c .adds-one .ensures)
 
 pub all-spec : {M : Type 1} → statement M
+unfolding computing
 all-spec =
     tie.close
-    (tie.spec enum-known-p returns enum-known-all enum-told returns-2 adds-one-requires returns-3)
+    (tie.spec
+    (λ c. search needs)
+    -- p is not u in r
+    (λ c. other-p (c .before .args .p) refl not-in (c .match .keys2))
+    (λ c. search needs)
+    (λ c. search needs)
+    -- `all` does not stand in the table
+    (λ c. not-named refl refl (c .before .before .before .p .given .1) (λ table h. h) (c .enum-told .given .1))
+    (λ c κs. search needs)
+    returns-3)

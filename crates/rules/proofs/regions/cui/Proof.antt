@@ -7,18 +7,12 @@ use Rattle.rules.proofs.Laws.{computing, by-sides, not-in, not-cup, is-
 use Rattle.rules.proofs.regions.cui.Statement.{statement}
 use Rattle.rules.proofs.regions.cui.Tie as tie
 
-enum-known-p : tie.Need-enum-known-p
-enum-known-p c = search needs
-
 -- p is not u in r
 returns : tie.Need-returns
 unfolding computing
 returns c =
     let p = c .before .args .p in
     record { room = tt; answers = λ table h fresh. rw (by-sides p, not-in p (c .match .keys2)) }
-
-enum-known-x : tie.Need-enum-known-x
-enum-known-x c = search needs
 
 -- t is not cup(a,b)
 returns-2 : tie.Need-returns-2
@@ -30,9 +24,6 @@ returns-2 c =
       room = tt;
       answers = λ table h fresh. rw (p .1, not-cup (at table (g .t .0)) (g .x) (h .2 .is) (c .match2 .keys2));
     }
-
-adds-one-requires : tie.Need-adds-one-requires
-adds-one-requires c κs = search needs
 
 -- r is a
 returns-3 : tie.Need-returns-3
@@ -66,9 +57,6 @@ returns-4 c =
           rw (p .1, K .2, ne-eqb _ _ (c .before .before .before .if1 .left), ne-eqb _ _ (c .if2 .taken));
     }
 
-adds-one-requires-2 : tie.Need-adds-one-requires-2
-adds-one-requires-2 c κs = search needs
-
 -- r is b, and not a
 returns-5 : tie.Need-returns-5
 unfolding computing
@@ -90,12 +78,12 @@ pub cui-spec : {M : Type 1} → statement M
 cui-spec =
     tie.close
     (tie.spec
-    enum-known-p
+    (λ c. search needs)
     returns
-    enum-known-x
+    (λ c. search needs)
     returns-2
-    adds-one-requires
+    (λ c κs. search needs)
     returns-3
     returns-4
-    adds-one-requires-2
+    (λ c κs. search needs)
     returns-5)

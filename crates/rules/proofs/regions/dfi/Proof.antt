@@ -1,136 +1,76 @@
 -- `dfi` answers what its row says.
 use borrow.Author.Needs.{needs}
-use borrow.Author.Tests.{eq-eqb, ne-eqb}
-use mathlib.Core.Path.{sym, _∙_, subst}
-use lib.Dec.{eqb}
-use Rattle.tableau.specs.Terms.{at}
-use Rattle.rules.specs.Answer.{SmallLiteral}
-use Rattle.rules.proofs.Laws.{by-sides, by-test, computing, is-dif, not-dif, not-in, not-ni}
+use mathlib.Core.Path.{refl, ap}
+use Rattle.terms.specs.Packing.{literalOf}
+use Rattle.rules.proofs.Laws.{computing, is-dif, not-dif, not-in, not-ni}
+use Rattle.rules.proofs.Rows.{joined, other-first, other-member, other-p, other-q, other-second, other-term}
 use Rattle.rules.proofs.regions.dfi.Statement.{statement}
 use Rattle.rules.proofs.regions.dfi.Tie as tie
-
-enum-known-p : tie.Need-enum-known-p
-enum-known-p c = search needs
-
--- p is not u in r
-returns : tie.Need-returns
-unfolding computing
-returns c =
-    let p = c .before .args .p in
-    let e = not-in p (c .match .keys2) in
-    record { room = tt; answers = λ table h fresh. rw (by-sides p, e) }
-
-enum-known-q : tie.Need-enum-known-q
-enum-known-q c = search needs
-
--- q is not v ni s
-returns-2 : tie.Need-returns-2
-unfolding computing
-returns-2 c =
-    let q = c .before .before .before .before .args .q in
-    let p = c .before .before .p .given in
-    let e = not-ni q (c .match2 .keys2) in
-    record { room = tt; answers = λ table h fresh. rw (p .1, by-sides q, e) }
-
-enum-known-x : tie.Need-enum-known-x
-enum-known-x c = search needs
 
 -- t is not dif(a,b), whether u is v or not
 returns-3 : tie.Need-returns-3
 unfolding computing
 returns-3 c =
-    let g = c .before .before .before .before .before .before .before .args in
-    let p = c .before .before .before .before .before .p .given in
-    let q = c .before .before .q .given in
-    record {
-      room = tt;
-      answers = λ table h fresh.
-          let e = not-dif (at table (g .t .0)) (g .x) (h .3 .is) (c .match3 .keys2) in
-          by-test (eqb (p .0 .0 .0) (q .0 .0 .0)) (λ f. rw (p .1, q .1, f, e)) (λ f. rw (p .1, q .1, f));
-    }
+    let k = c .before .before in
+    let p = k .before .before .before .p .given .1 in
+    other-term refl refl (ap literalOf p) (ap literalOf (k .q .given .1)) (λ table h. h .3) not-dif (c .match3 .keys2)
 
 -- u is not v
 returns-4 : tie.Need-returns-4
 unfolding computing
 returns-4 c =
-    let d = c .before .before .before .before .before .before .before in
-    let p = d .before .before .before .p .given in
-    let q = d .q .given in
-    let e = ne-eqb _ _ (c .if1 .taken) in
-    record { room = tt; answers = λ table h fresh. rw (p .1, q .1, e) }
+    let k = c .before .before .before .before .before .before .before in
+    let p = k .before .before .before .p .given .1 in
+    other-member refl refl (ap literalOf p) (ap literalOf (k .q .given .1)) (c .if1 .taken)
 
 -- r is not a
 returns-5 : tie.Need-returns-5
 unfolding computing
 returns-5 c =
-    let d = c .before .before .before .before .before .before .before in
-    let g = d .before .before .before .before .before .before .before .before .args in
-    let p = d .before .before .before .before .before .before .p .given in
-    let q = d .before .before .before .q .given in
-    let x = d .x .given in
-    let e = eq-eqb _ _ (c .before .before .before .if1 .left) in
-    let f = ne-eqb _ _ (c .if2 .taken) in
-    record {
-      room = tt;
-      answers = λ table h fresh.
-          let K = is-dif (at table (g .t .0)) _ _ (h .3 .is ∙ x .1) in
-          rw (p .1, q .1, e, K .2, f);
-    }
+    let b = c .before .before .before in
+    let k = b .before .before .before .before .before .before .before in
+    let p = k .before .before .before .p .given .1 in
+    other-first refl refl (ap literalOf p) (ap literalOf (k .q .given .1))
+    (λ e. is-dif e _ _) (b .if1 .left) (b .before .before .before .before .x .given .1) (λ table h. h .3) (c .if2 .taken)
 
 -- s is not b
 returns-6 : tie.Need-returns-6
 unfolding computing
 returns-6 c =
-    let d = c .before .before .before .before .before .before .before .before .before .before in
-    let g = d .before .before .before .before .before .before .before .before .args in
-    let p = d .before .before .before .before .before .before .p .given in
-    let q = d .before .before .before .q .given in
-    let x = d .x .given in
-    let e = eq-eqb _ _ (c .before .before .before .before .before .before .if1 .left) in
-    let f = eq-eqb _ _ (c .before .before .before .if2 .left) in
-    let i = ne-eqb _ _ (c .if3 .taken) in
-    record {
-      room = tt;
-      answers = λ table h fresh.
-          let K = is-dif (at table (g .t .0)) _ _ (h .3 .is ∙ x .1) in
-          rw (p .1, q .1, e, K .2, f, i);
-    }
+    let d = c .before .before .before in
+    let b = d .before .before .before in
+    let k = b .before .before .before .before .before .before .before in
+    let p = k .before .before .before .p .given .1 in
+    other-second refl refl (ap literalOf p) (ap literalOf (k .q .given .1))
+    (λ e. is-dif e _ _) (b .if1 .left) (b .before .before .before .before .x .given .1) (λ table h. h .3) (d .if2 .left) (c .if3 .taken)
 
-adds-one-requires : tie.Need-adds-one-requires
-adds-one-requires c κs = search needs
-
--- all is met
+-- u in r, u ni s, and t is dif(r,s)
 returns-7 : tie.Need-returns-7
 unfolding computing
 returns-7 c =
-    let d = c .before .before .before .before .before .before .before .before .before .before .before in
-    let g = d .before .before .before .before .before .before .before .before .args in
-    let p = d .before .before .before .before .before .before .p .given in
-    let q = d .before .before .before .q .given in
-    let x = d .x .given in
-    let e = eq-eqb _ _ (c .before .before .before .before .before .before .before .if1 .left) in
-    let f = eq-eqb _ _ (c .before .before .before .before .if2 .left) in
-    let i = eq-eqb _ _ (c .before .if3 .left) in
-    record {
-      room = c .adds-one .ensures .room;
-      answers = λ table h fresh.
-          let K = is-dif (at table (g .t .0)) _ _ (h .3 .is ∙ x .1) in
-          let sp = subst SmallLiteral (p .1) (h .0) in
-          rw (p .1, q .1, e, K .2, f, i) (sym (c .adds-one .ensures .adds (sp .0, h .2)));
-    }
+    let d = c .before .before .before .before in
+    let b = d .before .before .before in
+    let k = b .before .before .before .before .before .before .before in
+    let p = k .before .before .before .p .given .1 in
+    joined refl refl (ap literalOf p) (ap literalOf (k .q .given .1))
+    (λ e. is-dif e _ _) (b .if1 .left) (b .before .before .before .before .x .given .1) (λ table h. h .3) (d .if2 .left) (c .before .if3 .left)
+    (c .adds-one .ensures) (λ table h. ((rw p at (h .0)) .0, h .2))
 
 pub dfi-spec : {M : Type 1} → statement M
+unfolding computing
 dfi-spec =
     tie.close
     (tie.spec
-    enum-known-p
-    returns
-    enum-known-q
-    returns-2
-    enum-known-x
+    (λ c. search needs)
+    -- p is not u in r
+    (λ c. other-p (c .before .args .p) refl not-in (c .match .keys2))
+    (λ c. search needs)
+    -- q is not v ni s
+    (λ c. other-q (c .before .before .before .before .args .q) refl (c .before .before .p .given .1) (λ table. refl) not-ni (c .match2 .keys2))
+    (λ c. search needs)
     returns-3
     returns-4
     returns-5
     returns-6
-    adds-one-requires
+    (λ c κs. search needs)
     returns-7)

@@ -7,18 +7,12 @@ use Rattle.rules.proofs.Laws.{computing, by-sides, not-ne, has-sort, no
 use Rattle.rules.proofs.regions.ext.Statement.{statement}
 use Rattle.rules.proofs.regions.ext.Tie as tie
 
-enum-known-p : tie.Need-enum-known-p
-enum-known-p c = search needs
-
 -- p is not r ne s
 returns : tie.Need-returns
 unfolding computing
 returns c =
     let p = c .before .args .p in
     record { room = tt; answers = λ table h. rw (by-sides p, not-ne p (c .match .keys2)) }
-
-enum-told : tie.Need-enum-told
-enum-told c = search needs
 
 -- r is no region
 returns-2 : tie.Need-returns-2
@@ -31,9 +25,6 @@ returns-2 c =
           let h′ = rw (p .1) at h in
           rw (p .1, not-region (h′ .2) (c .match2 .keys2));
     }
-
-enum-told-2 : tie.Need-enum-told-2
-enum-told-2 c = search needs
 
 -- s is no region
 returns-3 : tie.Need-returns-3
@@ -64,9 +55,6 @@ returns-4 c =
           rw (p .1, has-sort Sort.Region (h′ .2), has-sort Sort.Region (h′ .3), f);
     }
 
-splits-two-two-requires : tie.Need-splits-two-two-requires
-splits-two-two-requires c κs = search needs
-
 -- r ne s, and w is fresh
 returns-5 : tie.Need-returns-5
 unfolding computing
@@ -91,12 +79,12 @@ pub ext-spec : {M : Type 1} → statement M
 ext-spec =
     tie.close
     (tie.spec
-    enum-known-p
+    (λ c. search needs)
     returns
-    enum-told
+    (λ c. search needs)
     returns-2
-    enum-told-2
+    (λ c. search needs)
     returns-3
     returns-4
-    splits-two-two-requires
+    (λ c κs. search needs)
     returns-5)

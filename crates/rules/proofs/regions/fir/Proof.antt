@@ -13,12 +13,6 @@ returns c =
     let f = not-true (c .before .args .fresh) (c .if1 .taken) in
     record { room = tt; answers = λ table h. rw f }
 
-enum-known-all : tie.Need-enum-known-all
-enum-known-all c = search needs
-
-enum-told : tie.Need-enum-told
-enum-told c = search needs
-
 -- all is no term of the table
 returns-2 : tie.Need-returns-2
 unfolding computing
@@ -31,9 +25,6 @@ returns-2 c =
           let h′ = rw (c .enum-told .given .1) at h in
           rw (f, found-nothing (h′ .1) refl);
     }
-
-adds-one-requires : tie.Need-adds-one-requires
-adds-one-requires c κs = search needs
 
 -- w is fresh, and all is a term
 returns-3 : tie.Need-returns-3
@@ -50,4 +41,4 @@ returns-3 c =
 
 pub fir-spec : {M : Type 1} → statement M
 fir-spec =
-    tie.close (tie.spec returns enum-known-all enum-told returns-2 adds-one-requires returns-3)
+    tie.close (tie.spec returns (λ c. search needs) (λ c. search needs) returns-2 (λ c κs. search needs) returns-3)

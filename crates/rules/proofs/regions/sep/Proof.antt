@@ -1,34 +1,12 @@
 -- `sep` answers what its row says.
 use borrow.Author.Needs.{needs}
 use borrow.Author.Tests.{eq-eqb, ne-eqb}
-use mathlib.Core.Path.{sym, subst}
+use mathlib.Core.Path.{refl, sym, subst}
 use Rattle.rules.specs.Answer.{SmallLiteral}
-use Rattle.rules.proofs.Laws.{by-sides, computing, not-in, not-ni}
+use Rattle.rules.proofs.Laws.{computing, not-in, not-ni}
+use Rattle.rules.proofs.Rows.{other-p, other-q}
 use Rattle.rules.proofs.regions.sep.Statement.{statement}
 use Rattle.rules.proofs.regions.sep.Tie as tie
-
-enum-known-p : tie.Need-enum-known-p
-enum-known-p c = search needs
-
--- p is not u in r
-returns : tie.Need-returns
-unfolding computing
-returns c =
-    let p = c .before .args .p in
-    let e = not-in p (c .match .keys2) in
-    record { room = tt; answers = λ table h fresh. rw (by-sides p, e) }
-
-enum-known-q : tie.Need-enum-known-q
-enum-known-q c = search needs
-
--- q is not v ni r
-returns-2 : tie.Need-returns-2
-unfolding computing
-returns-2 c =
-    let q = c .before .before .before .before .args .q in
-    let p = c .before .before .p .given in
-    let e = not-ni q (c .match2 .keys2) in
-    record { room = tt; answers = λ table h fresh. rw (p .1, by-sides q, e) }
 
 -- q's right side is not r
 returns-3 : tie.Need-returns-3
@@ -39,9 +17,6 @@ returns-3 c =
     let q = d .q .given in
     let e = ne-eqb _ _ (c .if1 .taken) in
     record { room = tt; answers = λ table h fresh. rw (p .1, q .1, e) }
-
-adds-one-requires : tie.Need-adds-one-requires
-adds-one-requires c κs = search needs
 
 -- all is met
 returns-4 : tie.Need-returns-4
@@ -60,6 +35,16 @@ returns-4 c =
     }
 
 pub sep-spec : {M : Type 1} → statement M
+unfolding computing
 sep-spec =
     tie.close
-    (tie.spec enum-known-p returns enum-known-q returns-2 returns-3 adds-one-requires returns-4)
+    (tie.spec
+    (λ c. search needs)
+    -- p is not u in r
+    (λ c. other-p (c .before .args .p) refl not-in (c .match .keys2))
+    (λ c. search needs)
+    -- q is not v ni r
+    (λ c. other-q (c .before .before .before .before .args .q) refl (c .before .before .p .given .1) (λ table. refl) not-ni (c .match2 .keys2))
+    returns-3
+    (λ c κs. search needs)
+    returns-4)

@@ -1,27 +1,12 @@
 -- `sgi` answers what its row says.
 use borrow.Author.Needs.{needs}
-use mathlib.Core.Path.{sym, _∙_, subst}
+use mathlib.Core.Path.{_∙_, refl, sym, subst}
 use Rattle.tableau.specs.Terms.{at}
 use Rattle.rules.specs.Answer.{SmallView}
 use Rattle.rules.proofs.Laws.{computing, found-at, found-small, found-nothing, is-sin, not-sin}
+use Rattle.rules.proofs.Rows.{other-t}
 use Rattle.rules.proofs.regions.sgi.Statement.{statement}
 use Rattle.rules.proofs.regions.sgi.Tie as tie
-
-enum-known-x : tie.Need-enum-known-x
-enum-known-x c = search needs
-
--- t is not sin(u)
-returns : tie.Need-returns
-unfolding computing
-returns c =
-    let g = c .before .args in
-    record { room = tt; answers = λ table h fresh. rw (not-sin (at table (g .t .0)) (g .x) (h .1 .is) (c .match .keys2)) }
-
-enum-known-all : tie.Need-enum-known-all
-enum-known-all c = search needs
-
-enum-told : tie.Need-enum-told
-enum-told c = search needs
 
 -- `all` does not stand in the table
 returns-2 : tie.Need-returns-2
@@ -35,9 +20,6 @@ returns-2 c =
           let K = is-sin (at table (g .t .0)) _ (h .1 .is ∙ x .1) in
           rw (K .3, found-nothing (h .2) (c .enum-told .given .1));
     }
-
-splits-requires : tie.Need-splits-requires
-splits-requires c κs = search needs
 
 -- all is met
 returns-3 : tie.Need-returns-3
@@ -57,6 +39,15 @@ returns-3 c =
     }
 
 pub sgi-spec : {M : Type 1} → statement M
+unfolding computing
 sgi-spec =
     tie.close
-    (tie.spec enum-known-x returns enum-known-all enum-told returns-2 splits-requires returns-3)
+    (tie.spec
+    (λ c. search needs)
+    -- t is not sin(u)
+    (λ c. other-t refl (λ table h. h .1) not-sin (c .match .keys2))
+    (λ c. search needs)
+    (λ c. search needs)
+    returns-2
+    (λ c κs. search needs)
+    returns-3)
