@@ -37,12 +37,13 @@ use Rattle.checker.proofs.Lines.{line-here, bad-line, refused-here}
 use Rattle.checker.proofs.TermLines.{numbers, run-unknown, run-known}
 
 -- one code more behind the first of an array is one literal more on the branch
-pub pushed : (b b′ : List ℕ) (len n code : ℕ) (codes : List ℕ) → len < maxPlaces → Appended b len codes b′ n → codes ≡ code ∷ [] → Pushed b len code b′ LineResult.Passed
-pushed b b′ len n code codes room h e =
+pub pushed : (b b′ : List ℕ) (len n code : ℕ) (codes : List ℕ) → Appended b len codes b′ n → codes ≡ code ∷ [] → Pushed b len code b′ LineResult.Passed
+pushed b b′ len n code codes h e =
     let q : n ≡ len + 1 = h .count ∙ ap (λ (ks : List ℕ). len + length ks) e in (
-      room,
+      omega (arith, q, h .branch .room),
       subst (IsBranch b′) q (h .branch),
-      ap (λ (i : ℕ). map unpackLiteral (take i b′)) (sym q) ∙ ap (map unpackLiteral) (h .codes ∙ ap (λ (ks : List ℕ). take len b ++ ks) e) ∙ map-append unpackLiteral (take len b) (code ∷ []),
+      ap (λ (i : ℕ). map unpackLiteral (take i b′)) (sym q) ∙ ap (map unpackLiteral) (h .codes ∙ ap (λ (ks : List ℕ). take len b ++ ks) e)
+          ∙ map-append unpackLiteral (take len b) (code ∷ []),
     )
 
 -- AN A LINE

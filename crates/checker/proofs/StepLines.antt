@@ -36,8 +36,9 @@ use Rattle.tableau.proofs.Bools.{both-true}
 use Rattle.steps.specs.Infers.{placeOf}
 use Rattle.commands.specs.Commands.{stepped, Steps}
 use Rattle.commands.proofs.InferLaws.{run-infer}
+use Rattle.checker.specs.declared.step_lines.StepRead.{StepRead}
 use Rattle.checker.specs.Running.{verdictFrom, packedCommand, runFields}
-use Rattle.checker.specs.Sections.{OutOfOrder, stateOf, closingsOf, closesTree, statusOf, StepsTaken}
+use Rattle.checker.specs.Sections.{OutOfOrder, IsStep, StepLine, stateOf, closingsOf, closesTree, statusOf, StepsTaken}
 use Rattle.checker.proofs.Lines.{line-here, bad-line, refused-here, at-end}
 use Rattle.checker.proofs.TermLines.{numbers, run-disordered, run-unknown, run-known}
 
@@ -142,6 +143,32 @@ unrefused t Answer.Closed h = refl
 unrefused t (Answer.Refused r) (inl e) = absurd (omega (arith, e))
 unrefused t (Answer.Refused r) (inr e) = absurd (omega (arith, e))
 
+-- CHECKS 2 TO 5 of a line that breaks one of them
+module _ (file : List ℕ) (at i : ℕ) (σ : State) where
+  refused-by : (f : Fields) → lineAt file at ≡ LineRead.Line f → (r : Reason) → runFields σ f ≡ refused r → verdictFrom file at i (passed σ) ≡ refuse r (i + 1)
+  refused-by f e r h = rw (add-one i) (line-here file at f e .runs i σ ∙ ap (verdictFrom file (f .next .at) (suc i)) h ∙ refused-here file (f .next .at) (suc i) r)
+
+  pub bad : at < length file → lineAt file at ≡ LineRead.BadShape → verdictFrom file at i (passed σ) ≡ refuse Reason.BadShape (i + 1)
+  bad h e = rw (add-one i) (bad-line file at h e i σ)
+
+  module _ (f : Fields) (e : lineAt file at ≡ LineRead.Line f) where
+    pub disordered-line : OneOf (0 ∷ 1 ∷ []) (Declared.tagOf letter-type.the-type (f .letter)) → OutOfOrder (σ .letter) Letter.T file at → OutOfOrder (σ .letter) Letter.A file at
+        → verdictFrom file at i (passed σ) ≡ refuse Reason.LetterOrder (i + 1)
+    disordered-line h a b = refused-by f e Reason.LetterOrder (run-disordered σ f refl (disordered (σ .letter) (f .letter) h (a f e) (b f e)))
+
+    pub unknown-line : f .letter ≡ Letter.S → lookupPacked ruleNames (f .word) ≡ none → verdictFrom file at i (passed σ) ≡ refuse Reason.UnknownWord (i + 1)
+    unfolding packedCommand
+    unknown-line q h = refused-by f e Reason.UnknownWord (run-unknown σ f q (steps-last (σ .letter)) (ap (some-of infer) h))
+
+  module _ (x : Rule) (f : Fields) (w : IsStep file at x f) where
+    runs-as : runFields σ f ≡ runCommand σ Letter.S (infer x) (numbers f)
+    unfolding packedCommand
+    runs-as = run-known σ f (w .letter) (infer x) (steps-last (σ .letter)) (ap (some-of infer) (w .known))
+
+    pub closed-line : σ .status ≡ isClosed → verdictFrom file at i (passed σ) ≡ refuse Reason.TreeClosed (i + 1)
+    unfolding runCommand
+    closed-line z = refused-by f (w .read) Reason.TreeClosed (runs-as ∙ rw z)
+
 -- THE S LINES of a file: the start, a bad line, a line refused by each of its checks, a line more, the end.
 pub steps-start : (file : List ℕ) (at n : ℕ) (table : Table) (m : ℕ) (t : Tree) (l : Letter) → OutOfOrder l Letter.T file at → OutOfOrder l Letter.A file at
     → StepsTaken file at n table m t l t false at 0 0
@@ -160,8 +187,8 @@ module _ {file : List ℕ} {from n : ℕ} {table : Table} {m : ℕ} {t₀ : Tree
   abbrev whole : Verdict
   whole = verdictFrom file from (n + m) (passed (stateOf table (isOpen (treeOf unpackLiteral t₀)) l₀ m 0 0))
 
-  pub steps-bad : at < length file → lineAt file at ≡ LineRead.BadShape → refuse Reason.BadShape (n + m + k + 1) ≡ whole
-  steps-bad h e = sym (rw (add-one (n + m + k)) (s .runs ∙ bad-line file at h e (n + m + k) before))
+  pub steps-read : (r : Reason) → StepLine file at closed (StepRead.Refused r) → refuse r (n + m + k + 1) ≡ whole
+  steps-read r h = sym (s .runs ∙ h (n + m + k) before (s .noTerm) (s .noAssumption) (λ e. ap (λ (b : Bool). statusOf b t) e))
 
   pub steps-closed : n ≡ length table → length file ≤ at → closed ≡ true → accept (record { terms = n; assumptions = m; steps = k; closings = c }) ≡ whole
   steps-closed q h e = ap (λ (i : ℕ). accept (record { terms = i; assumptions = m; steps = k; closings = c })) q ∙ sym (s .runs ∙ at-end file at h (n + m + k) before ∙ ap (λ (b : Bool). atEnd before (statusOf b t) (suc (n + m + k))) e)
@@ -169,51 +196,34 @@ module _ {file : List ℕ} {from n : ℕ} {table : Table} {m : ℕ} {t₀ : Tree
   pub steps-open : length file ≤ at → closed ≡ false → refuse Reason.BranchOpen (n + m + k + 1) ≡ whole
   steps-open h e = sym (rw (add-one (n + m + k)) (s .runs ∙ at-end file at h (n + m + k) before ∙ ap (λ (b : Bool). atEnd before (statusOf b t) (suc (n + m + k))) e))
 
-  module _ (f : Fields) (e : lineAt file at ≡ LineRead.Line f) where
-    refused-by : (r : Reason) → runFields before f ≡ refused r → refuse r (n + m + k + 1) ≡ whole
-    refused-by r h = sym (rw (add-one (n + m + k)) (s .runs ∙ line-here file at f e .runs (n + m + k) before ∙ ap (verdictFrom file (f .next .at) (suc (n + m + k))) h
-        ∙ refused-here file (f .next .at) (suc (n + m + k)) r))
+  module _ (x : Rule) (f : Fields) (w : IsStep file at x f) where
+    -- the state after the step, by the status of the tree
+    abbrev after : Status → Checked State
+    after u = passed (record { table = table; status = u; letter = Letter.S; counts = counted (before .counts) (infer x) })
 
-    pub steps-disordered : OneOf (0 ∷ 1 ∷ []) (Declared.tagOf letter-type.the-type (f .letter)) → refuse Reason.LetterOrder (n + m + k + 1) ≡ whole
-    steps-disordered h = refused-by Reason.LetterOrder (run-disordered before f refl (disordered (s .letter) (f .letter) h (s .noTerm f e) (s .noAssumption f e)))
+    module _ (o : Outcome) (z : closed ≡ false) (g : Steps table t x (numbers f) o) where
+      runs-step : runFields before f ≡ (answered (treeOf unpackLiteral (o .tree)) (o .answer) >>= after)
+      runs-step = runs-as file at (n + m + k) before x f w ∙ run-infer before (treeOf unpackLiteral t) Letter.S x (numbers f) (ap (λ (b : Bool). statusOf b t) z)
+          ∙ ap (λ (r : Checked Status). r >>= after) (sym (g .result))
 
-    module _ (q : f .letter ≡ Letter.S) where
-      pub steps-unknown : lookupPacked ruleNames (f .word) ≡ none → refuse Reason.UnknownWord (n + m + k + 1) ≡ whole
-      unfolding packedCommand
-      steps-unknown h = refused-by Reason.UnknownWord (run-unknown before f q (steps-last (s .letter)) (ap (some-of infer) h))
+      pub steps-refused : (r : Reason) → o .answer ≡ Answer.Refused r → refuse r (n + m + k + 1) ≡ whole
+      steps-refused r a = sym (s .runs ∙ refused-by file at (n + m + k) before f (w .read) r (runs-step ∙ ap (λ (y : Answer). answered (treeOf unpackLiteral (o .tree)) y >>= after) a))
 
-      module _ (x : Rule) (h : lookupPacked ruleNames (f .word) ≡ some x) where
-        runs-as : runFields before f ≡ runCommand before Letter.S (infer x) (numbers f)
-        unfolding packedCommand
-        runs-as = run-known before f q (infer x) (steps-last (s .letter)) (ap (some-of infer) h)
+      taken : OneOf (0 ∷ 1 ∷ []) (Declared.tagOf answer-type.the-type (o .answer))
+          → StepsTaken file from n table m t₀ l₀ (o .tree) (closesTree (o .answer)) (f .next .at) (k + 1) (c + closingsOf x)
+      unfolding rank
+      taken a =
+          let i : suc (n + m + k) ≡ n + m + (k + 1) = omega arith in
+          record {
+            letter = Letter.S;
+            noTerm = λ f e k. refl;
+            noAssumption = λ f e k. refl;
+            runs = s .runs ∙ line-here file at f (w .read) .runs (n + m + k) before
+                ∙ ap (verdictFrom file (f .next .at) (suc (n + m + k))) (runs-step ∙ ap (λ (r : Checked Status). r >>= after) (unrefused (o .tree) (o .answer) a))
+                ∙ (λ j. verdictFrom file (f .next .at) (i j)
+                (passed (stateOf table (statusOf (closesTree (o .answer)) (o .tree)) Letter.S m (sym (add-one k) j) (closings-are c (isClosing x) j))));
+          }
 
-        pub steps-after-closing : closed ≡ true → refuse Reason.TreeClosed (n + m + k + 1) ≡ whole
-        unfolding runCommand
-        steps-after-closing z = refused-by Reason.TreeClosed (runs-as ∙ ap (λ (b : Bool). runCommand (stateOf table (statusOf b t) (s .letter) m k c) Letter.S (infer x) (numbers f)) z)
-
-        module _ (o : Outcome) (z : closed ≡ false) (g : Steps table t x (numbers f) o) where
-          runs-step : runFields before f ≡ (answered (treeOf unpackLiteral (o .tree)) (o .answer) >>= λ u. passed (record { table = table; status = u; letter = Letter.S; counts = counted (before .counts) (infer x) }))
-          runs-step = runs-as ∙ run-infer before (treeOf unpackLiteral t) Letter.S x (numbers f) (ap (λ (b : Bool). statusOf b t) z)
-              ∙ ap (λ (r : Checked Status). r >>= λ u. passed (record { table = table; status = u; letter = Letter.S; counts = counted (before .counts) (infer x) })) (sym (g .result))
-
-          pub steps-refused : (r : Reason) → o .answer ≡ Answer.Refused r → refuse r (n + m + k + 1) ≡ whole
-          steps-refused r a = refused-by r (runs-step ∙ ap (λ (y : Answer). answered (treeOf unpackLiteral (o .tree)) y >>= λ u. passed (record { table = table; status = u; letter = Letter.S; counts = counted (before .counts) (infer x) })) a)
-
-          taken : OneOf (0 ∷ 1 ∷ []) (Declared.tagOf answer-type.the-type (o .answer))
-              → StepsTaken file from n table m t₀ l₀ (o .tree) (closesTree (o .answer)) (f .next .at) (k + 1) (c + closingsOf x)
-          unfolding rank
-          taken a =
-              let l = line-here file at f e in
-              let i : suc (n + m + k) ≡ n + m + (k + 1) = omega arith in
-              record {
-                letter = Letter.S;
-                noTerm = λ f e k. refl;
-                noAssumption = λ f e k. refl;
-                runs = s .runs ∙ l .runs (n + m + k) before
-                    ∙ ap (verdictFrom file (f .next .at) (suc (n + m + k))) (runs-step ∙ ap (λ (r : Checked Status). r >>= λ u. passed (record { table = table; status = u; letter = Letter.S; counts = counted (before .counts) (infer x) })) (unrefused (o .tree) (o .answer) a))
-                    ∙ (λ j. verdictFrom file (f .next .at) (i j) (passed (stateOf table (statusOf (closesTree (o .answer)) (o .tree)) Letter.S m (sym (add-one k) j) (closings-are c (isClosing x) j))));
-              }
-
-          pub steps-more : (b : Bool) (r : ℕ) → OneOf (0 ∷ 1 ∷ []) (Declared.tagOf answer-type.the-type (o .answer)) → b ≡ closesTree (o .answer) → r ≡ closingsOf x
-              → StepsTaken file from n table m t₀ l₀ (o .tree) b (f .next .at) (k + 1) (c + r)
-          steps-more b r a p q = rw (p, q) (taken a)
+      pub steps-more : (b : Bool) (r : ℕ) → OneOf (0 ∷ 1 ∷ []) (Declared.tagOf answer-type.the-type (o .answer)) → b ≡ closesTree (o .answer) → r ≡ closingsOf x
+          → StepsTaken file from n table m t₀ l₀ (o .tree) b (f .next .at) (k + 1) (c + r)
+      steps-more b r a p q = rw (p, q) (taken a)

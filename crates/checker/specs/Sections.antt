@@ -2,18 +2,21 @@
 use mathlib.Core.Path.{_≡_}
 use mathlib.Core.Bool.{Bool, true, false, cond}
 use mathlib.Core.List.{List, [], _∷_, _++_}
+use mathlib.Core.Option.{some}
 use Prim.Native.Nat.{ℕ, _+_, _<_, _≤_}
 use lib.ListN.{length}
 use Rattle.tableau.specs.declared.Letter.{Letter}
 use Rattle.tableau.specs.declared.Reason.{Reason}
 use Rattle.tableau.specs.declared.Rule.{Rule}
 use Rattle.tableau.specs.File.{maxBytes}
+use Rattle.tableau.specs.Rules.{ruleNames}
 use Rattle.tableau.specs.Terms.{Table, Literal}
 use Rattle.tableau.specs.Tree.{refused, passed, Status, isOpen, isClosed, root, maxPlaces}
 use Rattle.tableau.specs.Reply.{State, start, inOrder, isClosing, Verdict, refuse}
 use Rattle.lines.specs.declared.Fields.{Fields}
 use Rattle.lines.specs.declared.LineRead.{LineRead}
 use Rattle.lines.specs.Lines.{lineAt}
+use Rattle.lines.specs.Words.{lookupPacked}
 use Rattle.terms.specs.declared.Making.{Making}
 use Rattle.terms.specs.Packing.{unpackLiteral}
 use Rattle.terms.specs.Lines.{Arrays, HoldsIn}
@@ -23,6 +26,7 @@ use Rattle.tree.specs.State.{IsBranch, treeOf}
 use Rattle.steps.specs.Reading.{branchOf}
 use Rattle.checker.specs.declared.LineResult.{LineResult}
 use Rattle.checker.specs.declared.Section.{Section}
+use Rattle.checker.specs.declared.step_lines.StepRead.{StepRead}
 use Rattle.checker.specs.Running.{verdictFrom, runFields}
 
 -- i lines are read, and the next begins at the position
@@ -104,6 +108,18 @@ closesTree (Answer.Refused r) = false
 abbrev pub statusOf : Bool → Tree → Status
 statusOf true t = isClosed
 statusOf false t = isOpen (treeOf unpackLiteral t)
+
+-- An S line with a known rule on an open tree; or what the specification's run refuses, wherever it stands before the line.
+pub record IsStep (file : List ℕ) (at : ℕ) (x : Rule) (f : Fields) : Type 0 where
+  pub read : lineAt file at ≡ LineRead.Line f
+  pub letter : f .letter ≡ Letter.S
+  pub known : lookupPacked ruleNames (f .word) ≡ some x
+
+abbrev pub StepLine : List ℕ → ℕ → Bool → StepRead → Type 0
+StepLine file at closed (StepRead.Step x f) = IsStep file at x f × (closed ≡ false)
+StepLine file at closed (StepRead.Refused r) =
+    (i : ℕ) (σ : State) → OutOfOrder (σ .letter) Letter.T file at → OutOfOrder (σ .letter) Letter.A file at → (closed ≡ true → σ .status ≡ isClosed)
+    → verdictFrom file at i (passed σ) ≡ refuse r (i + 1)
 
 -- k steps are taken and c of them closed; the next line, at the position, is an S line or breaks check 3
 pub record StepsTaken (file : List ℕ) (from n : ℕ) (table : Table) (m : ℕ) (t₀ : Tree) (l₀ : Letter) (t : Tree) (closed : Bool) (at k c : ℕ) : Type 0 where

@@ -10,6 +10,7 @@ use tableau::Letter;
 use tableau::Reason;
 use terms::Assumption;
 use tree::Alternative;
+use tree::Extended;
 use tree::Tree;
 ghost use mathlib.Core.Path.{_≡_};
 ghost use Prim.Native.Nat.{_<_, _≤_};
@@ -24,11 +25,10 @@ fn push(branch: &mut [u32; 1000], len: usize, literal: u32) -> LineResult
     requires { ⌜ IsBranch (now branch) len × (literal < codeLimit) ⌝ }
     ensures { λ r. ⌜ Pushed (now (branch .entry)) len literal (now (branch .exit)) r ⌝ }
 {
-    if Tree::PLACES <= len {
-        return LineResult::Refused(Reason::BranchFull);
+    match Tree::extend(branch, len, Alternative::one(literal)) {
+        Extended::To(_) => LineResult::Passed,
+        Extended::Full => LineResult::Refused(Reason::BranchFull),
     }
-    let _ = Tree::append(branch, len, Alternative::one(literal));
-    LineResult::Passed
 }
 
 // Checks 4, 6, 8, 9 and 15 of an A line, where n terms are made and len literals are on the branch.

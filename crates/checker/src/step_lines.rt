@@ -1,23 +1,27 @@
 // S lines.
-use commands::inferring::step;
+use commands::inferring::infer;
 use lines::Cursor;
+use lines::Fields;
 use lines::LineRead;
 use lines::RuleFound;
 use reply::Counts;
 use reply::Verdict;
+use rules::outcome::Outcome;
+use steps::growth::grow;
 use tableau::Letter;
 use tableau::Reason;
 use tableau::Rule;
 use tree::Answer;
+use tree::Extended;
 use tree::Tree;
 ghost use mathlib.Core.Path.{_≡_};
-ghost use Prim.Native.Nat.{_+_};
-ghost use Rattle.tableau.specs.Reply.{isClosing};
+ghost use Prim.Native.Nat.{_+_, _<_};
+ghost use lib.ListN.{length};
 ghost use Rattle.tableau.specs.Terms.{Table};
 ghost use Rattle.terms.specs.Lines.{arrays, HoldsIn};
 ghost use Rattle.tree.specs.State.{Within};
 ghost use Rattle.reply.specs.Verdict.{verdictOf};
-ghost use Rattle.checker.specs.Sections.{Between, StepSection, closingsOf, closesTree};
+ghost use Rattle.checker.specs.Sections.{Between, StepLine, StepSection, closingsOf, closesTree};
 
 // `cls` and `emp` close.
 fn closings(rule: Rule) -> usize
@@ -37,6 +41,34 @@ fn is_closed(answer: Answer) -> bool
         Answer::Closed => true,
         _ => false,
     }
+}
+
+// An S line whose rule is known, or the first of the checks 2 to 5 that it breaks.
+enum StepRead {
+    Step(Rule, Fields),
+    Refused(Reason),
+}
+
+// Checks 2 to 5 of the line that begins at the position.
+fn read_step(file: &[u8], at: usize, closed: bool) -> StepRead
+    requires { ⌜ at < length (now file) ⌝ }
+    ensures { λ r. ⌜ StepLine (now (file .entry)) at closed r ⌝ }
+{
+    let LineRead::Line(f) = lines::read_line(file, Cursor { at }) else {
+        return StepRead::Refused(Reason::BadShape);
+    };
+    let letter = f.letter;
+    let Letter::S = letter else {
+        return StepRead::Refused(Reason::LetterOrder);
+    };
+    let word = f.word;
+    let RuleFound::Known(rule) = lines::rule_of(word) else {
+        return StepRead::Refused(Reason::UnknownWord);
+    };
+    if closed {
+        return StepRead::Refused(Reason::TreeClosed);
+    }
+    StepRead::Step(rule, f)
 }
 
 pub fn run(
@@ -61,30 +93,46 @@ pub fn run(
     let mut closed = false;
     while at < file.len() {
         let line = n + m + steps + 1;
-        let LineRead::Line(f) = lines::read_line(file, Cursor { at }) else {
-            return Verdict::Refused(Reason::BadShape, line);
-        };
-        let letter = f.letter;
-        let Letter::S = letter else {
-            return Verdict::Refused(Reason::LetterOrder, line);
-        };
-        let word = f.word;
-        let RuleFound::Known(rule) = lines::rule_of(word) else {
-            return Verdict::Refused(Reason::UnknownWord, line);
-        };
-        if closed {
-            return Verdict::Refused(Reason::TreeClosed, line);
+        match read_step(file, at, closed) {
+            StepRead::Refused(reason) => {
+                return Verdict::Refused(reason, line);
+            }
+            StepRead::Step(rule, f) => {
+                let len = tree.len;
+                let outcome = infer(
+                    rule,
+                    f.a,
+                    f.b,
+                    f.c,
+                    f.d,
+                    &tree.branch,
+                    len,
+                    terms,
+                    head,
+                    next,
+                    uses,
+                    n,
+                );
+                at = f.next.at;
+                steps += 1;
+                closed_count += closings(rule);
+                // A method would copy the tree.
+                if let Outcome::Adds(a) = outcome {
+                    let Extended::To(more) = Tree::extend(&mut tree.branch, len, a) else {
+                        return Verdict::Refused(Reason::BranchFull, line);
+                    };
+                    tree.len = more;
+                    continue;
+                }
+                let grown = grow(tree, outcome);
+                let answer = grown.answer;
+                if let Answer::Refused(reason) = answer {
+                    return Verdict::Refused(reason, line);
+                }
+                closed = is_closed(answer);
+                tree = grown.tree;
+            }
         }
-        let outcome = step(tree, rule, f.a, f.b, f.c, f.d, terms, head, next, uses, n);
-        let answer = outcome.answer;
-        if let Answer::Refused(reason) = answer {
-            return Verdict::Refused(reason, line);
-        }
-        closed = is_closed(answer);
-        tree = outcome.tree;
-        steps += 1;
-        closed_count += closings(rule);
-        at = f.next.at;
     }
     if closed {
         return Verdict::Accepted(Counts {

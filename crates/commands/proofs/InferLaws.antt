@@ -1,7 +1,7 @@
 -- S lines: when the freshness of w matters, what a rule is given, and how the specification's checks of a line are grouped.
 use mathlib.Core.Path.{_≡_, refl, sym, _∙_, ap}
 use mathlib.Core.Bool.{Bool, true, false, _&&_, _||_, not, cond}
-use mathlib.Core.List.{List, [], _∷_}
+use mathlib.Core.List.{List, [], _∷_, map}
 use mathlib.Core.Option.{Option, none, some}
 use Prim.Native.Nat.{ℕ, _≤_}
 use native.Mathlib.Omega.{arith}
@@ -29,13 +29,18 @@ use Rattle.terms.specs.Lines.{useOf, firstFailing, checks}
 use Rattle.terms.proofs.FieldUse as use-type
 use Rattle.terms.proofs.ViewLaws.{absent, not-among}
 use Rattle.terms.proofs.LineLaws.{made-term}
-use Rattle.tree.specs.State.{IsBranch}
-use Rattle.tree.specs.Outcome.{grown}
-use Rattle.rules.specs.Answer.{answer}
+use Rattle.tree.specs.declared.Alternative.{Alternative}
+use Rattle.tree.specs.declared.Tree as declared
+use Rattle.tree.specs.declared.Outcome as after
+use Rattle.tree.specs.State.{IsBranch, codesOf, treeOf}
+use Rattle.tree.specs.Outcome.{grown, Gives}
+use Rattle.rules.specs.declared.outcome.Outcome.{Outcome}
+use Rattle.rules.specs.Answer.{answer, answerOf}
+use Rattle.steps.specs.Grows.{Grows}
 use Rattle.steps.specs.Reading.{branchOf, ReadAt}
 use Rattle.steps.specs.Infers.{PlaceGiven, TermGiven, Given, placeOf}
 use Rattle.commands.proofs.Running.{run-open}
-use Rattle.commands.specs.Commands.{fieldChecks, located, inferred, stepped, anyFresh, freshKind, asksFresh}
+use Rattle.commands.specs.Commands.{fieldChecks, located, inferred, stepped, Steps, anyFresh, freshKind, asksFresh}
 
 -- FRESHNESS: a conclusion that does not ask for it
 abbrev Unasked : Option Conclusion → Type 0
@@ -261,3 +266,20 @@ pub inferred-by : (table : Table) (B : List Literal) (x : Rule) (k : Four ℕ) {
     → inferred table B x k ≡ ((require six Reason.UnusedField >> firstFailing true eight (nine && true) true) >> located table B x k)
 unfolding inferred fieldChecks checks
 inferred-by table B x k e₆ e₈ e₉ = λ i. (require (e₆ i) Reason.UnusedField >> firstFailing true (e₈ i) (e₉ i && true) true) >> located table B x k
+
+-- WHAT A STEP MAKES OF THE TREE, where an outcome is the line's answer: as the methods of the tree grow it, or by one alternative added in place
+module _ (table : Table) (t : declared.Tree) (x : Rule) (k : Four ℕ) where
+  pub grows : (r : Outcome) → answerOf r ≡ inferred table (branchOf (t .branch) (t .len)) x k → (o : after.Outcome) → Grows t r o → Steps table t x k o
+  unfolding stepped
+  grows r e o g = record {
+    within = g .within;
+    result = g .result ∙ ap (λ (m : Checked (List (List Literal))). m >>= grown (treeOf unpackLiteral t)) e;
+  }
+
+  pub adds : (a : Alternative) → answerOf (Outcome.Adds a) ≡ inferred table (branchOf (t .branch) (t .len)) x k → (o : after.Outcome)
+      → Gives t (λ f τ. grown τ (map (map f) (codesOf a ∷ []))) o → Steps table t x k o
+  unfolding stepped
+  adds a e o g = record {
+    within = g .within;
+    result = g .result unpackLiteral ∙ ap (λ (m : Checked (List (List Literal))). m >>= grown (treeOf unpackLiteral t)) e;
+  }

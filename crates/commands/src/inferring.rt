@@ -1,7 +1,6 @@
 // S lines.
 use rules::outcome::Outcome;
 use steps::first;
-use steps::growth;
 use steps::reading;
 use tableau::Place;
 use tableau::Reason;
@@ -12,6 +11,7 @@ use terms::FieldUse;
 use terms::Fields;
 use terms::lines::of_sorts;
 use terms::lines::terms_or_names;
+use terms::lines::uses_of;
 use tree::Tree;
 ghost use mathlib.Core.Path.{_≡_};
 ghost use mathlib.Core.Bool.{true};
@@ -23,16 +23,10 @@ ghost use Rattle.tableau.specs.Rules.{ruleFields};
 ghost use Rattle.tableau.specs.Terms.{Table, Literal};
 ghost use Rattle.tableau.specs.Tree.{onBranch};
 ghost use Rattle.terms.specs.Lines.{useOf, usesOf, arrays, HoldsIn};
-ghost use Rattle.tree.specs.State.{IsBranch, Within};
+ghost use Rattle.tree.specs.State.{IsBranch};
 ghost use Rattle.rules.specs.Answer.{Room, answerOf};
 ghost use Rattle.steps.specs.Reading.{branchOf};
-ghost use Rattle.commands.specs.Commands.{Freshness, Steps, located, inferred, asksFresh};
-
-fn uses_of(a: FieldUse, b: FieldUse, c: FieldUse, d: FieldUse) -> Fields
-    ensures { λ r. ⌜ usesOf r ≡ four (useOf a) (useOf b) (useOf c) (useOf d) ⌝ }
-{
-    Fields { a, b, c, d }
-}
+ghost use Rattle.commands.specs.Commands.{Freshness, located, inferred, asksFresh};
 
 // What the fields of a rule hold: places p and q, terms t and w.
 fn rule_fields(rule: Rule) -> Fields
@@ -211,41 +205,4 @@ pub fn infer(
         return Outcome::Refused(Reason::WrongSort);
     }
     conclude(rule, a, b, c, d, branch, len, terms, head, next, uses, n)
-}
-
-// An S line on an open tree: checks 6 to 16.
-pub fn step(
-    tree: Tree,
-    rule: Rule,
-    a: usize,
-    b: usize,
-    c: usize,
-    d: usize,
-    terms: &[u64; 601],
-    head: &[u16; 967],
-    next: &[u16; 601],
-    uses: &[u64; 6010],
-    n: usize,
-) -> tree::Outcome
-    requires { ⌜ ((table : Table) × HoldsIn table (arrays (now terms) (now head) (now next) (now uses)) n) ⌝ }
-    requires { ⌜ Within tree ⌝ }
-    ensures { λ r. ⌜ ((table : Table) → HoldsIn table (arrays (now (terms .entry)) (now (head .entry)) (now (next .entry)) (now (uses .entry))) n
-        → Steps table tree rule (four a b c d) r) ⌝ }
-{
-    let len = tree.len;
-    let outcome = infer(
-        rule,
-        a,
-        b,
-        c,
-        d,
-        &tree.branch,
-        len,
-        terms,
-        head,
-        next,
-        uses,
-        n,
-    );
-    growth::grow(tree, outcome)
 }

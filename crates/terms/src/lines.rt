@@ -24,6 +24,13 @@ ghost use Rattle.terms.specs.Packing.{nameLimit};
 ghost use Rattle.terms.specs.Holds.{Entries, hashOf, Noted};
 ghost use Rattle.terms.specs.Lines.{useOf, usesOf, asTerm, checks, arrays, HoldsIn, MakesTerm, assumptionOf};
 
+// What the fields hold, in their order.
+pub fn uses_of(a: FieldUse, b: FieldUse, c: FieldUse, d: FieldUse) -> Fields
+    ensures { λ r. ⌜ usesOf r ≡ four (useOf a) (useOf b) (useOf c) (useOf d) ⌝ }
+{
+    Fields { a, b, c, d }
+}
+
 // What the fields of an operator hold.
 fn arguments(operator: Operator) -> Fields
     ensures { λ r. ⌜ usesOf r ≡ arguments operator ⌝ }
@@ -34,78 +41,18 @@ fn arguments(operator: Operator) -> Fields
     let heap = FieldUse::Of(Sort::Heap);
     let field = FieldUse::Of(Sort::Field);
     match operator {
-        Operator::Nul => Fields {
-            a: none,
-            b: none,
-            c: none,
-            d: none,
-        },
-        Operator::Rea => Fields {
-            a: heap,
-            b: reference,
-            c: field,
-            d: none,
-        },
-        Operator::Emp => Fields {
-            a: none,
-            b: none,
-            c: none,
-            d: none,
-        },
-        Operator::All => Fields {
-            a: none,
-            b: none,
-            c: none,
-            d: none,
-        },
-        Operator::Cup => Fields {
-            a: region,
-            b: region,
-            c: none,
-            d: none,
-        },
-        Operator::Cap => Fields {
-            a: region,
-            b: region,
-            c: none,
-            d: none,
-        },
-        Operator::Dif => Fields {
-            a: region,
-            b: region,
-            c: none,
-            d: none,
-        },
-        Operator::Sin => Fields {
-            a: reference,
-            b: none,
-            c: none,
-            d: none,
-        },
-        Operator::Img => Fields {
-            a: heap,
-            b: region,
-            c: field,
-            d: none,
-        },
-        Operator::Wri => Fields {
-            a: heap,
-            b: reference,
-            c: field,
-            d: reference,
-        },
-        Operator::Typ => Fields {
-            a: reference,
-            b: none,
-            c: none,
-            d: none,
-        },
-        Operator::Dty => Fields {
-            a: field,
-            b: none,
-            c: none,
-            d: none,
-        },
+        Operator::Nul => uses_of(none, none, none, none),
+        Operator::Rea => uses_of(heap, reference, field, none),
+        Operator::Emp => uses_of(none, none, none, none),
+        Operator::All => uses_of(none, none, none, none),
+        Operator::Cup => uses_of(region, region, none, none),
+        Operator::Cap => uses_of(region, region, none, none),
+        Operator::Dif => uses_of(region, region, none, none),
+        Operator::Sin => uses_of(reference, none, none, none),
+        Operator::Img => uses_of(heap, region, field, none),
+        Operator::Wri => uses_of(heap, reference, field, reference),
+        Operator::Typ => uses_of(reference, none, none, none),
+        Operator::Dty => uses_of(field, none, none, none),
     }
 }
 
@@ -116,12 +63,7 @@ pub fn word_fields(word: Word) -> Fields
         Word::Variable(_) => {
             let name = FieldUse::Name;
             let none = FieldUse::Unused;
-            Fields {
-                a: name,
-                b: none,
-                c: none,
-                d: none,
-            }
+            uses_of(name, none, none, none)
         }
         Word::Operation(o) => arguments(o),
     }
@@ -136,42 +78,12 @@ pub fn sides(relation: Relation) -> Fields
     let class = FieldUse::Of(Sort::Class);
     let term = FieldUse::Term;
     match relation {
-        Relation::In => Fields {
-            a: reference,
-            b: region,
-            c: none,
-            d: none,
-        },
-        Relation::Ni => Fields {
-            a: reference,
-            b: region,
-            c: none,
-            d: none,
-        },
-        Relation::Eq => Fields {
-            a: term,
-            b: term,
-            c: none,
-            d: none,
-        },
-        Relation::Ne => Fields {
-            a: term,
-            b: term,
-            c: none,
-            d: none,
-        },
-        Relation::Le => Fields {
-            a: class,
-            b: class,
-            c: none,
-            d: none,
-        },
-        Relation::Nl => Fields {
-            a: class,
-            b: class,
-            c: none,
-            d: none,
-        },
+        Relation::In => uses_of(reference, region, none, none),
+        Relation::Ni => uses_of(reference, region, none, none),
+        Relation::Eq => uses_of(term, term, none, none),
+        Relation::Ne => uses_of(term, term, none, none),
+        Relation::Le => uses_of(class, class, none, none),
+        Relation::Nl => uses_of(class, class, none, none),
     }
 }
 

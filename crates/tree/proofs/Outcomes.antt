@@ -1,6 +1,6 @@
 -- Laws of the outcomes: what is to be shown of the arrays for a method to give what the specification says.
 use Prim.Native.Nat.{ℕ, _+_, _-_, _≤_, _<_, min, max}
-use mathlib.Core.Path.{_≡_, refl, _∙_}
+use mathlib.Core.Path.{_≡_, refl, sym, _∙_, subst}
 use mathlib.Core.Bool.{true, false}
 use mathlib.Core.List.{List, [], _∷_, map, map-append}
 use native.Mathlib.Decide.{decLe}
@@ -12,13 +12,14 @@ use Rattle.tableau.specs.declared.Reason.{Reason}
 use Rattle.tableau.specs.Terms.{Literal}
 use Rattle.tableau.specs.Tree.{maxPlaces, maxWaiting, passed, roomOnBranch, roomToWait, close, grow}
 use Rattle.tree.specs.declared.Alternative.{Alternative}
+use Rattle.tree.specs.declared.Extended.{Extended}
 use Rattle.tree.specs.declared.Tree.{Tree}
 use Rattle.tree.specs.declared.Answer.{Answer}
 use Rattle.tree.specs.declared.Outcome.{Outcome}
-use Rattle.tree.specs.State.{codesOf, cutOf, unpacked, Appended, treeOf, Within}
-use Rattle.tree.specs.Outcome.{grown, Gives}
+use Rattle.tree.specs.State.{Holds, codesOf, cutOf, unpacked, Appended, treeOf, Within}
+use Rattle.tree.specs.Outcome.{grown, Gives, Extends}
 use Rattle.tree.proofs.Arrays.{take-min, take-map}
-use Rattle.tree.proofs.Waiting.{Pushed, stack-length, stack-pop}
+use Rattle.tree.proofs.Waiting.{Pushed, push-none, stack-length, stack-pop}
 
 -- CHECK 15, by the count of the longest alternative.
 abbrev pub longest : List Alternative → ℕ
@@ -95,6 +96,22 @@ module _ (t : Tree) (w : Within t) where
             );
         kept = tt;
       }
+
+  -- ONE ALTERNATIVE, added in place
+  module _ (a : Alternative) (h : Holds 3 a) (b : List ℕ) where
+    abbrev with : ℕ → Answer → Outcome
+    with n r = record { tree = record { branch = b; len = n; waiting = t .waiting; count = t .count }; answer = r }
+
+    abbrev Adds : Outcome → Type 0
+    Adds = Gives t (λ f τ. grown τ (map (map f) (codesOf a ∷ [])))
+
+    pub extend-open : (n : ℕ) → Extends (t .branch) (t .len) a b (Extended.To n) → Adds (with n Answer.Open)
+    extend-open n e = grow-open a [] (omega arith) (omega (arith, e .0)) _ (omega arith) (e .1) (push-none _ (w .waiting))
+
+    pub extend-full : Extends (t .branch) (t .len) a b Extended.Full → Adds (with (t .len) (Answer.Refused Reason.BranchFull))
+    extend-full e =
+        subst (λ (x : List ℕ). Adds (record { tree = record { branch = x; len = t .len; waiting = t .waiting; count = t .count }; answer = Answer.Refused Reason.BranchFull }))
+        (sym (e .1)) (branch-full a [] (omega arith) (omega (arith, e .0)))
 
   -- A CLOSING
   abbrev pub Closes : Outcome → Type 0

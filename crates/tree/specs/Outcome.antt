@@ -1,7 +1,7 @@
 -- The checks 15 and 16 with what follows them, and what a method hands back.
 use mathlib.Core.Path.{_≡_}
 use mathlib.Core.List.{List, []}
-use Prim.Native.Nat.{ℕ}
+use Prim.Native.Nat.{ℕ, _+_, _≤_, _<_}
 use lib.Dec.{ltb}
 use lib.ListN.{length}
 use Rattle.tableau.specs.declared.Reason.{Reason}
@@ -9,10 +9,12 @@ use Rattle.tableau.specs.Terms.{Literal}
 use Rattle.tableau.specs.Tree as specification
 use Rattle.tableau.specs.Tree.{Checked, refused, passed, _>>_, require, Status, isOpen, isClosed, roomOnBranch, roomToWait, grow, maxPlaces}
 use Rattle.tableau.specs.Reply.{added}
+use Rattle.tree.specs.declared.Alternative.{Alternative}
+use Rattle.tree.specs.declared.Extended.{Extended}
 use Rattle.tree.specs.declared.Tree.{Tree}
 use Rattle.tree.specs.declared.Answer.{Answer}
 use Rattle.tree.specs.declared.Outcome.{Outcome}
-use Rattle.tree.specs.State.{treeOf, Within}
+use Rattle.tree.specs.State.{codesOf, Appended, treeOf, Within}
 
 -- a step's checks 15 and 16 on its alternatives, and the tree after them
 unfoldable pub grown : specification.Tree → List (List Literal) → Checked Status
@@ -43,3 +45,8 @@ pub record Gives (t : Tree) (g : (ℕ → Literal) → specification.Tree → Ch
   pub within : Within (o .tree)
   pub result : (f : ℕ → Literal) → answered (treeOf f (o .tree)) (o .answer) ≡ g f (treeOf f t)
   pub kept : Kept (o .answer) t (o .tree)
+
+-- An alternative added in place to a branch of n codes: all of it, or, where it has no room, nothing.
+abbrev pub Extends : List ℕ → ℕ → Alternative → List ℕ → Extended → Type 0
+Extends array n a array′ (Extended.To n′) = (n + a .count ≤ maxPlaces) × Appended array n (codesOf a) array′ n′
+Extends array n a array′ Extended.Full = (maxPlaces < n + a .count) × (array′ ≡ array)

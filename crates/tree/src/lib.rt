@@ -7,7 +7,7 @@ ghost use Prim.Native.Nat.{ℕ, _+_, _≤_, _<_, min, max};
 ghost use Rattle.tableau.specs.Terms.{Literal};
 ghost use Rattle.tableau.specs.Tree.{maxPlaces, root, passed, close};
 ghost use Rattle.tree.specs.State.{codeLimit, codesOf, Holds, packed, cutOf, unpacked, IsBranch, HasPlace, IsAt, Appended, treeOf, Within};
-ghost use Rattle.tree.specs.Outcome.{grown, Gives};
+ghost use Rattle.tree.specs.Outcome.{grown, Gives, Extends};
 use tableau::Place;
 use tableau::Reason;
 
@@ -31,6 +31,12 @@ pub enum Answer {
     Open,
     Closed,
     Refused(Reason),
+}
+
+// The new length of a branch to which an alternative is added in place; or it has no room for it (check 15).
+pub enum Extended {
+    To(usize),
+    Full,
 }
 
 // The answer stands beside the tree, since an enum can't hold its arrays.
@@ -140,7 +146,7 @@ impl Tree {
         }
     }
 
-    // The next three read and store in place, since a method with `self` copies the tree.
+    // The next four read and store in place, since a method with `self` copies the tree.
 
     // check 11
     pub fn has_place(len: usize, place: Place) -> bool
@@ -178,19 +184,29 @@ impl Tree {
         len + 3
     }
 
-    // A step with one alternative, with check 15.
+    // One alternative, with check 15.
+    pub fn extend(branch: &mut [u32; Tree::PLACES], len: usize, a: Alternative) -> Extended
+        requires { ⌜ IsBranch (now branch) len × Holds 3 a ⌝ }
+        ensures { λ r. ⌜ Extends (now (branch .entry)) len a (now (branch .exit)) r ⌝ }
+    {
+        if Self::PLACES < len + a.count {
+            return Extended::Full;
+        }
+        Extended::To(Self::append(branch, len, a))
+    }
+
+    // A step with one alternative.
     pub fn add(mut self, a: Alternative) -> Outcome
         requires { ⌜ Within self × Holds 3 a ⌝ }
         ensures { λ r. ⌜ Gives self (λ f τ. grown τ (map (map f) (codesOf a ∷ []))) r ⌝ }
     {
         let len = self.len;
-        if Self::PLACES < len + a.count {
+        let Extended::To(n) = Self::extend(&mut self.branch, len, a) else {
             return Outcome {
                 tree: self,
                 answer: Answer::Refused(Reason::BranchFull),
             };
-        }
-        let n = Self::append(&mut self.branch, len, a);
+        };
         self.len = n;
         Outcome {
             tree: self,

@@ -22,47 +22,43 @@ use Rattle.checker.proofs.step_lines.run.Reads as step-lines-run-reads
 use Rattle.tree.proofs.Tree.empty.Reads as empty-reads
 
 -- the A lines have ended
-assumed : (c : tie.After-known-told2) (table : Table) → Entries table (c .before .before .before .before .before .before .before .args .terms .now) → length table ≡ c .before .before .before .before .before .before .before .args .n
-    → AssumptionSection (c .before .before .before .before .before .before .before .args .file .now) (c .before .before .before .before .before .before .before .args .cursor .at) (c .before .before .before .before .before .before .before .args .n) table (c .before .before .before .run .last .1 .1 .1 .1 .0) (Section.Ended (c .before .at .given .0 .0) (c .before .at .given .0 .1 .0))
+assumed : (c : tie.After-known-told2) (table : Table) → (let g = c .before .before .before .before .before .before .before in Entries table (g .args .terms .now) → length table ≡ g .args .n
+    → AssumptionSection (g .args .file .now) (g .args .cursor .at) (g .args .n) table (c .before .before .before .run .last .1 .1 .1 .1 .0) (Section.Ended (c .before .at .given .0 .0) (c .before .at .given .0 .1 .0)))
 assumed c table E q = subst (AssumptionSection _ _ _ table _) (c .before .at .given .1) (c .before .before .before .run .ensures table E q)
 
--- src/lib.rt:50:20
 empty-requires : tie.Need-empty-requires
 empty-requires c κs = search needs
 
--- src/lib.rt:51:11
 run-requires : tie.Need-run-requires
 run-requires c κs = search needs
 
--- src/lib.rt:52:26
 enum-known-reason : tie.Need-enum-known-reason
 enum-known-reason c = search needs
 
--- src/lib.rt:53:24
 enum-known-at : tie.Need-enum-known-at
 enum-known-at c = search needs
 
--- src/lib.rt:55:13
 run-requires-2 : tie.Need-run-requires-2
 run-requires-2 c κs =
     let p = c .before .before .before .before .before .before .before .pre .0 in
     let s = assumed c (p .0) (p .1 .searchable .entries) (p .1 .count) in
     (p, (s .0 .between, record { branch = s .0 .branch; waiting = c .before .before .before .before .before .empty .ensures .0 .waiting }))
 
--- src/lib.rt:36:1
+-- an A line is refused
 returns : tie.Need-returns
-returns c table H = sym (subst (AssumptionSection _ _ _ table _) (c .before .reason .given .1) (c .before .before .before .run .ensures table (H .searchable .entries) (H .count)))
+returns c table H =
+    sym (subst (AssumptionSection _ _ _ table _) (c .before .reason .given .1) (c .before .before .before .run .ensures table (H .searchable .entries) (H .count)))
 
--- src/lib.rt:36:1
 returns-2 : tie.Need-returns-2
 returns-2 c table H =
+    let g = c .before .before .before .before .before .before .before .before in
     let s = assumed (c .before) table (H .searchable .entries) (H .count) in
     let m = c .before .before .at .given .0 .1 .0 in
-    let e = c .before .before .before .before .before .before .empty .result in
-    let t : declared.Tree = record { branch = c .before .before .before .before .run .last .1 .1 .1 .1 .0; len = m; waiting = e .waiting; count = e .count } in
+    let e = c .before .before .before .before .before .before .empty in
+    let t : declared.Tree = record { branch = c .before .before .before .before .run .last .1 .1 .1 .1 .0; len = m; waiting = e .result .waiting; count = e .result .count } in
     c .run2 .ensures table H (s .0 .letter) (s .0 .noTerm) (λ f e k. absurd (s .1 f e k))
-    ∙ ap (λ (σ : State). verdictFrom (c .before .before .before .before .before .before .before .before .args .file .now) (c .before .before .at .given .0 .0 .at) (c .before .before .before .before .before .before .before .before .args .n + m) (passed σ))
-    (tree-begins table (s .0 .letter) t m (s .0 .branch) refl (ap (λ (τ : Tree). τ .waiting) (c .before .before .before .before .before .before .empty .ensures .1 unpackLiteral)))
+    ∙ ap (λ (σ : State). verdictFrom (g .args .file .now) (c .before .before .at .given .0 .0 .at) (g .args .n + m) (passed σ))
+    (tree-begins table (s .0 .letter) t m (s .0 .branch) refl (ap (λ (τ : Tree). τ .waiting) (e .ensures .1 unpackLiteral)))
     ∙ sym (s .0 .runs)
 
 pub after-terms-spec : {M : Type 1} → statement M

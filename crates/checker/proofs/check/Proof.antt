@@ -2,6 +2,8 @@
 use mathlib.Core.Path.{_≡_, refl, sym, _∙_, subst}
 use native.Mathlib.Omega.{arith}
 use Rattle.terms.proofs.GrowthLaws.{holds-empty}
+use Rattle.terms.specs.Lines.{arrays}
+use Rattle.checker.specs.declared.Section.{Section}
 use Rattle.checker.specs.Sections.{TermSection}
 use Rattle.checker.proofs.Whole.{too-long, short-enough}
 use borrow.Author.Needs.{needs}
@@ -12,33 +14,34 @@ use Rattle.checker.proofs.check.Lts as lts
 use Rattle.checker.proofs.after_terms.Reads as after-terms-reads
 use Rattle.checker.proofs.term_lines.run.Reads as run-reads
 
--- src/lib.rt:65:9
+-- the T lines have ended
+made : (c : tie.After-known-told2) → TermSection (c .before .before .before .before .before .before .before .before .before .before .args .file .now)
+    (arrays (c .before .before .before .run .last .1 .0) (c .before .before .before .run .last .1 .1 .0) (c .before .before .before .run .last .1 .1 .1 .0) (c .before .before .before .run .last .1 .1 .1 .1 .0))
+    (Section.Ended (c .before .cursor .given .0 .0) (c .before .cursor .given .0 .1 .0))
+made c = subst (TermSection _ _) (c .before .cursor .given .1) (c .before .before .before .run .ensures)
+
+-- check 1
 returns : tie.Need-returns
 returns c = too-long _ (omega arith)
 
--- src/lib.rt:71:11
 run-requires : tie.Need-run-requires
 run-requires c κs = (holds-empty, omega arith)
 
--- src/lib.rt:72:26
 enum-known-reason : tie.Need-enum-known-reason
 enum-known-reason c = search needs
 
--- src/lib.rt:73:24
 enum-known-cursor : tie.Need-enum-known-cursor
 enum-known-cursor c = search needs
 
--- src/lib.rt:73:38
 after-terms-requires : tie.Need-after-terms-requires
-after-terms-requires c κs = let t = subst (TermSection _ _) (c .before .before .before .before .before .cursor .given .1) (c .before .before .before .before .before .before .before .run .ensures) in ((t .0 .table, t .0 .holds), (t .0 .between, t .1))
+after-terms-requires c κs = let t = made (c .before .before .before .before) in ((t .0 .table, t .0 .holds), (t .0 .between, t .1))
 
--- src/lib.rt:61:1
+-- a T line is refused
 returns-2 : tie.Need-returns-2
 returns-2 c = sym (subst (TermSection _ _) (c .before .reason .given .1) (c .before .before .before .run .ensures)) ∙ short-enough _ (omega arith)
 
--- src/lib.rt:61:1
 returns-3 : tie.Need-returns-3
-returns-3 c = let t = subst (TermSection _ _) (c .before .before .before .before .before .before .cursor .given .1) (c .before .before .before .before .before .before .before .before .run .ensures) in c .after-terms .ensures (t .0 .table) (t .0 .holds) ∙ sym (t .0 .runs) ∙ short-enough _ (omega arith)
+returns-3 c = let t = made (c .before .before .before .before .before) in c .after-terms .ensures (t .0 .table) (t .0 .holds) ∙ sym (t .0 .runs) ∙ short-enough _ (omega arith)
 
 pub check-spec : {M : Type 1} → statement M
 check-spec =

@@ -11,19 +11,15 @@ use Rattle.checker.proofs.check.Reads as check-reads
 use Rattle.reply.proofs.reply_of.Reads as reply-of-reads
 use Rattle.reply.proofs.write_line.Reads as write-line-reads
 
--- src/lib.rt:102:34
 check-requires : tie.Need-check-requires
 check-requires c κs = search needs
 
--- src/lib.rt:102:9
 reply-of-requires : tie.Need-reply-of-requires
 reply-of-requires c κs = search needs
 
--- src/lib.rt:104:9
 write-line-requires : tie.Need-write-line-requires
 write-line-requires c κs = search needs
 
--- src/lib.rt:99:1
 returns : tie.Need-returns
 returns c = let w = c .write-line .ensures in (w .0, w .1 ∙ ap replyLine (replied _ _ (c .before .before .before .check .ensures) (c .before .before .reply-of .ensures)))
 

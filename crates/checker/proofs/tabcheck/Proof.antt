@@ -17,37 +17,38 @@ use Rattle.reply.proofs.reply_of.Reads as reply-of-reads
 answered : (c : tie.After-slice-known2) → replyRecord (c .before .before .before .before .reply-of .result) ≡ reply (c .before .before .before .before .before .before .before .before .before .args .file .now)
 answered c = replied _ _ (c .before .before .before .before .before .check .ensures) (c .before .before .before .before .reply-of .ensures)
 
--- src/lib.rt:85:9
+-- a buffer of another length
 returns : tie.Need-returns
-returns c = let w = buffer-wrong (c .before .before .before .args .file .now) (c .before .before .before .args .reply .now) (λ e. omega (arith, e)) in (sym (ap (λ (k : Call). k .returns) w), (sym (ap (λ (k : Call). k .buffer) w), λ e. absurd (omega (arith, e))))
+returns c =
+    let g = c .before .before .before in
+    let w = buffer-wrong (g .args .file .now) (g .args .reply .now) (λ e. omega (arith, e)) in
+    (sym (ap (λ (k : Call). k .returns) w), (sym (ap (λ (k : Call). k .buffer) w), λ e. absurd (omega (arith, e))))
 
--- src/lib.rt:87:34
 check-requires : tie.Need-check-requires
 check-requires c κs = search needs
 
--- src/lib.rt:87:9
 reply-of-requires : tie.Need-reply-of-requires
 reply-of-requires c κs = search needs
 
--- src/lib.rt:89:5
 write-numbers-requires : tie.Need-write-numbers-requires
 write-numbers-requires c κs = search needs
 
--- src/lib.rt:90:5
 cast-result : tie.Need-cast-result
-cast-result c = let r = answered c in omega (arith, number-small (c .before .before .before .before .before .before .before .before .before .args .file .now), ap (λ (x : Reply). x .number) r)
+cast-result c = omega (arith, number-small (c .before .before .before .before .before .before .before .before .before .args .file .now), ap (λ (x : Reply). x .number) (answered c))
 
--- src/lib.rt:78:1
 same-length : tie.Need-same-length
 same-length c = search needs
 
--- src/lib.rt:78:1
+-- the number, the buffer, demand 3
 returns-2 : tie.Need-returns-2
 returns-2 c =
+    let g = c .before .before .before .before .before .before .before .before .before in
     let r = answered c in
-    let w = buffer-right (c .before .before .before .before .before .before .before .before .before .args .file .now) (c .before .before .before .before .before .before .before .before .before .args .reply .now) (omega arith) in
-    let n = ap (λ (x : Reply). x .number) r in
-    (n ∙ sym (ap (λ (k : Call). k .returns) w), (c .before .before .write-numbers .ensures ∙ ap replyBytes r ∙ sym (ap (λ (k : Call). k .buffer) w), λ e. no-heap (c .before .before .before .before .before .before .before .before .before .args .file .now) (sym n ∙ e)))
+    let w = buffer-right (g .args .file .now) (g .args .reply .now) (omega arith) in
+    let n = ap (λ (x : Reply). x .number) r in (
+      n ∙ sym (ap (λ (k : Call). k .returns) w),
+      (c .before .before .write-numbers .ensures ∙ ap replyBytes r ∙ sym (ap (λ (k : Call). k .buffer) w), λ e. no-heap (g .args .file .now) (sym n ∙ e)),
+    )
 
 pub tabcheck-spec : {M : Type 1} → statement M
 tabcheck-spec =

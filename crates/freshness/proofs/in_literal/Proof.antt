@@ -10,19 +10,15 @@ use Rattle.freshness.proofs.in_literal.Reads as reads
 use Rattle.freshness.proofs.in_literal.Lts as lts
 use Rattle.freshness.proofs.in_term.Reads as in-term-reads
 
--- src/lib.rt:32:16
 cast-left : tie.Need-cast-left
 cast-left c = search needs
 
--- src/lib.rt:33:17
 cast-right : tie.Need-cast-right
 cast-right c = search needs
 
--- src/lib.rt:34:5
 in-term-requires : tie.Need-in-term-requires
 in-term-requires c κs = search needs
 
--- src/lib.rt:34:46
 in-term-requires-2 : tie.Need-in-term-requires-2
 in-term-requires-2 c κs = search needs
 

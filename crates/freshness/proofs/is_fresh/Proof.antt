@@ -13,15 +13,12 @@ use Rattle.freshness.proofs.is_fresh.Lts as lts
 use Rattle.freshness.proofs.on_branch.Reads as on-branch-reads
 use Rattle.terms.proofs.table.view.Reads as view-reads
 
--- src/lib.rt:74:39
 view-requires : tie.Need-view-requires
 view-requires c κs = search needs
 
--- src/lib.rt:74:28
 enum-known-sort : tie.Need-enum-known-sort
 enum-known-sort c = search needs
 
--- src/lib.rt:75:9
 -- w is no variable
 returns : tie.Need-returns
 unfolding isFresh
@@ -32,7 +29,6 @@ returns c table n u e =
 enum-told : tie.Need-enum-told
 enum-told c = search needs
 
--- src/lib.rt:78:9
 -- w is a variable of another sort
 returns-2 : tie.Need-returns-2
 unfolding isFresh
@@ -42,11 +38,9 @@ returns-2 c table n u e =
     let i = view-variable (at table w) _ _ (sym (v .1) ∙ c .before .before .before .before .view .ensures table n) ∙ not-reference _ (c .match2 .keys2) in
     rw i
 
--- src/lib.rt:80:6
 on-branch-requires : tie.Need-on-branch-requires
 on-branch-requires c κs = search needs
 
--- src/lib.rt:62:1
 returns-3 : tie.Need-returns-3
 unfolding isFresh sortIndex
 returns-3 c table n u e =

@@ -24,24 +24,19 @@ Inv-loop uses n branch len w i₀ i = (i ≤ len) × ((table : Table) → Uses t
 abbrev μ-loop : tie.MeasureT-loop
 μ-loop uses n branch len w i₀ i = len - i
 
--- src/lib.rt:44:5
 loop-holds : tie.Need-loop-holds Inv-loop μ-loop
 unfolding mentioned
 loop-holds c = (omega arith, λ table u e. refl)
 
--- src/lib.rt:45:32
 mul-in-literal : tie.Need-mul-in-literal Inv-loop μ-loop
 mul-in-literal c = omega arith
 
--- src/lib.rt:45:32
 element-copy-out-in-literal : tie.Need-element-copy-out-in-literal Inv-loop μ-loop
 element-copy-out-in-literal c = omega arith
 
--- src/lib.rt:45:12
 in-literal-requires : tie.Need-in-literal-requires Inv-loop μ-loop
 in-literal-requires c κs = search needs
 
--- src/lib.rt:46:13
 returns : tie.Need-returns Inv-loop μ-loop
 returns c table u e =
     let g = c .before .before .before .before .before in
@@ -49,15 +44,12 @@ returns c table u e =
     sym (mentioned-part unpackLiteral (at table) (g .args .w .0) (g .args .branch .now) i (g .args .len) (omega arith) (omega (arith, g .pre))
     (sym (c .before .in-literal .ensures table u e) ∙ c .if1 .taken))
 
--- src/lib.rt:48:9
 add-i : tie.Need-add-i Inv-loop μ-loop
 add-i c = omega arith
 
--- src/lib.rt:44:5
 loop-less : tie.Need-loop-less Inv-loop μ-loop
 loop-less c = omega arith
 
--- src/lib.rt:44:5
 loop-again : tie.Need-loop-again Inv-loop μ-loop
 loop-again c =
     let g = c .before .before .before .before .before in
@@ -67,7 +59,6 @@ loop-again c =
           ∙ (λ j. c .before .before .before .before .loop .inv .1 table u e j || (sym (c .before .in-literal .ensures table u e) ∙ c .if1 .left) j)),
     )
 
--- src/lib.rt:38:1
 returns-2 : tie.Need-returns-2 Inv-loop μ-loop
 returns-2 c table u e =
     let g = c .before .before in

@@ -1,5 +1,8 @@
 -- `assumption_lines::one` meets its contract: check 4, then those of the command, then check 15.
 use mathlib.Core.Path.{_≡_, refl, sym, _∙_}
+use mathlib.Core.Option.{some}
+use Rattle.tableau.specs.Terms.{relations}
+use Rattle.lines.specs.Words.{lookupPacked}
 use Rattle.commands.proofs.Running as running
 use Rattle.checker.proofs.AssumptionLines.{code-small, relation-known, relation-unknown, assumption-unknown, assumption-refused, assumption-pushed}
 use borrow.Author.Needs.{needs}
@@ -11,45 +14,53 @@ use Rattle.checker.proofs.assumption_lines.push.Reads as push-reads
 use Rattle.commands.proofs.assuming.assume.Reads as assume-reads
 use Rattle.lines.proofs.relation_of.Reads as relation-of-reads
 
--- src/assumption_lines.rt:42:42
+-- the relation that the word names
+known : (c : tie.After-known-told) → lookupPacked relations (c .before .before .before .before .args .f .word) ≡ some (c .before .relation .given .0 .0)
+known c = relation-known _ _ (sym (c .before .before .before .relation-of .ensures) ∙ c .before .relation .given .1)
+
 relation-of-requires : tie.Need-relation-of-requires
 relation-of-requires c κs = search needs
 
--- src/assumption_lines.rt:42:30
 enum-known-relation : tie.Need-enum-known-relation
 enum-known-relation c = search needs
 
--- src/assumption_lines.rt:43:36
 enum-told : tie.Need-enum-told
 enum-told c = search needs
 
--- src/assumption_lines.rt:43:9
+-- check 4
 returns : tie.Need-returns
-returns c table E q = let g = c .before .before .before in assumption-unknown table (g .args .f) (g .pre .1 .1) _ (relation-unknown _ (sym (c .before .before .relation-of .ensures) ∙ c .enum-told .given .1))
+returns c table E q =
+    let g = c .before .before .before in
+    assumption-unknown table (g .args .f) (g .pre .1 .1) _ (relation-unknown _ (sym (c .before .before .relation-of .ensures) ∙ c .enum-told .given .1))
 
--- src/assumption_lines.rt:45:11
 assume-requires : tie.Need-assume-requires
 assume-requires c κs = search needs
 
--- src/assumption_lines.rt:46:29
 enum-known-reason : tie.Need-enum-known-reason
 enum-known-reason c = search needs
 
--- src/assumption_lines.rt:47:29
 enum-known-literal : tie.Need-enum-known-literal
 enum-known-literal c = search needs
 
--- src/assumption_lines.rt:47:41
 push-requires : tie.Need-push-requires
-push-requires c κs = let g = c .before .before .before .before .before .before .before .before .before in let p = g .pre .0 in (g .pre .1 .0, code-small (p .0) _ _ _ (p .1 .few) (sym (c .before .before .before .before .assume .ensures (p .0) (p .1) (p .2)) ∙ c .before .before .literal .given .1))
+push-requires c κs =
+    let g = c .before .before .before .before .before .before .before .before .before in
+    let p = g .pre .0 in
+    (g .pre .1 .0, code-small (p .0) _ _ _ (p .1 .few) (sym (c .before .before .before .before .assume .ensures (p .0) (p .1) (p .2)) ∙ c .before .before .literal .given .1))
 
--- src/assumption_lines.rt:35:1
+-- checks 6, 8 and 9
 returns-2 : tie.Need-returns-2
-returns-2 c table E q = let g = c .before .before .before .before .before .before .before .before in assumption-refused table (g .args .f) (g .pre .1 .1) _ (relation-known _ _ (sym (c .before .before .before .before .before .before .before .relation-of .ensures) ∙ c .before .before .before .before .before .relation .given .1)) _ _ (running.assumption-refused _ _ (sym (c .before .before .before .assume .ensures table E q) ∙ c .before .reason .given .1))
+returns-2 c table E q =
+    let g = c .before .before .before .before .before .before .before .before in
+    assumption-refused table (g .args .f) (g .pre .1 .1) _ (known (c .before .before .before .before)) _ _
+    (running.assumption-refused _ _ (sym (c .before .before .before .assume .ensures table E q) ∙ c .before .reason .given .1))
 
--- src/assumption_lines.rt:35:1
+-- check 15
 returns-3 : tie.Need-returns-3
-returns-3 c table E q = let g = c .before .before .before .before .before .before .before .before .before .before in let m = running.assumption-made _ _ (sym (c .before .before .before .before .before .assume .ensures table E q) ∙ c .before .before .before .literal .given .1) in assumption-pushed table (g .args .f) (g .pre .1 .1) _ (relation-known _ _ (sym (c .before .before .before .before .before .before .before .before .before .relation-of .ensures) ∙ c .before .before .before .before .before .before .before .relation .given .1)) _ (c .push .last .0) _ _ (c .push .result) (g .pre .1 .0) (E .few) (m .0) (m .1) (c .push .ensures)
+returns-3 c table E q =
+    let g = c .before .before .before .before .before .before .before .before .before .before in
+    let m = running.assumption-made _ _ (sym (c .before .before .before .before .before .assume .ensures table E q) ∙ c .before .before .before .literal .given .1) in
+    assumption-pushed table (g .args .f) (g .pre .1 .1) _ (known (c .before .before .before .before .before .before)) _ (c .push .last .0) _ _ (c .push .result) (g .pre .1 .0) (E .few) (m .0) (m .1) (c .push .ensures)
 
 pub one-spec : {M : Type 1} → statement M
 one-spec =

@@ -5,6 +5,8 @@ use native.Mathlib.Omega.{arith}
 use lib.ListN.{length}
 use borrow.Author.Needs.{needs}
 use Rattle.tableau.specs.Terms.{Table}
+use Rattle.lines.specs.declared.LineRead.{LineRead}
+use Rattle.lines.specs.Lines.{lineAt}
 use Rattle.terms.specs.Holds.{Entries}
 use Rattle.checker.specs.Sections.{AssumptionLine, LiteralsAssumed}
 use Rattle.checker.proofs.Lines.{line-here}
@@ -23,77 +25,79 @@ Inv-loop file n terms branch₀ at₀ len₀ branch at len = (table : Table) →
 abbrev μ-loop : tie.MeasureT-loop
 μ-loop file n terms branch₀ at₀ len₀ branch at len = length file - at
 
--- src/assumption_lines.rt:65:5
+-- the line that is read, once its fields are known
+read : (c : tie.After-f Inv-loop μ-loop) → lineAt (c .before .before .before .before .before .before .args .file .now) (c .before .before .before .before .loop .at) ≡ LineRead.Line (c .f .given .0 .0)
+read c = sym (c .before .before .read-line .ensures) ∙ c .f .given .1
+
+-- what holds in the loop, of the table that is required
+here : (c : tie.At-loop Inv-loop μ-loop) → (table : Table) × LiteralsAssumed (c .before .before .args .file .now) (c .before .before .args .cursor .at) (c .before .before .args .n) table (c .loop .branch) (c .loop .at) (c .loop .len)
+here c = let p = c .before .before .pre .0 in (p .0, c .loop .inv (p .0) (p .1) (p .2))
+
 loop-holds : tie.Need-loop-holds Inv-loop μ-loop
 loop-holds c table E q = let p = c .before .pre .1 in assumptions-start _ _ _ table _ (p .0) (p .1) (p .2)
 
--- src/assumption_lines.rt:66:33
 read-line-requires : tie.Need-read-line-requires Inv-loop μ-loop
 read-line-requires c κs = search needs
 
--- src/assumption_lines.rt:66:28
 enum-known-f : tie.Need-enum-known-f Inv-loop μ-loop
 enum-known-f c = search needs
 
--- src/assumption_lines.rt:67:37
 enum-told : tie.Need-enum-told Inv-loop μ-loop
 enum-told c = search needs
 
--- src/assumption_lines.rt:67:55
+-- the number of the line is small, since each line has a byte
 add-t16 : tie.Need-add-t16 Inv-loop μ-loop
-add-t16 c = let p = c .before .before .before .before .before .before .pre .0 in let i = c .before .before .before .before .loop .inv (p .0) (p .1) (p .2) in let b = i .between in omega (arith, b .lines, b .inside, b .short)
+add-t16 c = let b = here (c .before .before .before .before) .1 .between in omega (arith, b .lines, b .inside, b .short)
 
--- src/assumption_lines.rt:67:55
 add-t17 : tie.Need-add-t17 Inv-loop μ-loop
-add-t17 c = let p = c .before .before .before .before .before .before .pre .0 in let i = c .before .before .before .before .loop .inv (p .0) (p .1) (p .2) in let b = i .between in omega (arith, b .lines, b .inside, b .short)
+add-t17 c = let b = here (c .before .before .before .before) .1 .between in omega (arith, b .lines, b .inside, b .short)
 
--- src/assumption_lines.rt:67:13
+-- check 2
 returns : tie.Need-returns Inv-loop μ-loop
 returns c table E q = assumptions-bad (c .before .before .before .before .loop .inv table E q) (omega arith) (sym (c .before .before .read-line .ensures) ∙ c .enum-told .given .1)
 
 enum-told-2 : tie.Need-enum-told-2 Inv-loop μ-loop
 enum-told-2 c = search needs
 
--- src/assumption_lines.rt:71:13
+-- a line of another letter
 returns-2 : tie.Need-returns-2 Inv-loop μ-loop
-returns-2 c table E q = (c .before .before .before .before .before .before .loop .inv table E q, none-here _ _ _ _ (sym (c .before .before .before .before .read-line .ensures) ∙ c .before .before .f .given .1) (other-letter _ _ (c .match2 .keys2) (λ e. omega (arith, e)) (λ e. omega (arith, e))))
+returns-2 c table E q = (
+  c .before .before .before .before .before .before .loop .inv table E q,
+  none-here _ _ _ _ (read (c .before .before)) (other-letter _ _ (c .match2 .keys2) (λ e. omega (arith, e)) (λ e. omega (arith, e))),
+)
 
--- src/assumption_lines.rt:73:46
 one-requires : tie.Need-one-requires Inv-loop μ-loop
-one-requires c κs = let p = c .before .before .before .before .before .before .before .before .before .before .pre .0 in let i = c .before .before .before .before .before .before .before .before .loop .inv (p .0) (p .1) (p .2) in (p, (i .branch, c .before .enum-told2 .given .1))
+one-requires c κs = (c .before .before .before .before .before .before .before .before .before .before .pre .0, (here (c .before .before .before .before .before .before .before .before) .1 .branch, c .before .enum-told2 .given .1))
 
--- src/assumption_lines.rt:73:36
 enum-known-reason : tie.Need-enum-known-reason Inv-loop μ-loop
 enum-known-reason c = search needs
 
--- src/assumption_lines.rt:74:45
 add-t21 : tie.Need-add-t21 Inv-loop μ-loop
-add-t21 c = let p = c .before .before .before .before .before .before .before .before .before .before .before .before .before .before .pre .0 in let i = c .before .before .before .before .before .before .before .before .before .before .before .before .loop .inv (p .0) (p .1) (p .2) in let b = i .between in omega (arith, b .lines, b .inside, b .short)
+add-t21 c = let b = here (c .before .before .before .before .before .before .before .before .before .before .before .before) .1 .between in omega (arith, b .lines, b .inside, b .short)
 
--- src/assumption_lines.rt:74:45
 add-t22 : tie.Need-add-t22 Inv-loop μ-loop
-add-t22 c = let p = c .before .before .before .before .before .before .before .before .before .before .before .before .before .before .pre .0 in let i = c .before .before .before .before .before .before .before .before .before .before .before .before .loop .inv (p .0) (p .1) (p .2) in let b = i .between in omega (arith, b .lines, b .inside, b .short)
+add-t22 c = let b = here (c .before .before .before .before .before .before .before .before .before .before .before .before) .1 .between in omega (arith, b .lines, b .inside, b .short)
 
--- src/assumption_lines.rt:74:13
+-- checks 4, 6, 8, 9 and 15
 returns-3 : tie.Need-returns-3 Inv-loop μ-loop
-returns-3 c table E q = let i = c .before .before .before .before .before .before .before .before .before .before .before .before .loop .inv table E q in assumptions-refused i _ (sym (c .before .before .before .before .before .before .before .before .before .before .read-line .ensures) ∙ c .before .before .before .before .before .before .before .before .f .given .1) _ (subst (AssumptionLine table _ _ _ _) (c .before .reason .given .1) (c .before .before .before .one .ensures table E q))
+returns-3 c table E q =
+    assumptions-refused (c .before .before .before .before .before .before .before .before .before .before .before .before .loop .inv table E q) _ (read (c .before .before .before .before .before .before .before .before)) _
+    (subst (AssumptionLine table _ _ _ _) (c .before .reason .given .1) (c .before .before .before .one .ensures table E q))
 
 enum-told-3 : tie.Need-enum-told-3 Inv-loop μ-loop
 enum-told-3 c = search needs
 
--- src/assumption_lines.rt:76:9
 add-len : tie.Need-add-len Inv-loop μ-loop
-add-len c = let p = c .before .before .before .before .before .before .before .before .before .before .before .before .before .pre .0 in let i = c .before .before .before .before .before .before .before .before .before .before .before .loop .inv (p .0) (p .1) (p .2) in let b = i .between in omega (arith, b .lines, b .inside, b .short)
+add-len c = let b = here (c .before .before .before .before .before .before .before .before .before .before .before) .1 .between in omega (arith, b .lines, b .inside, b .short)
 
--- src/assumption_lines.rt:65:5
 loop-less : tie.Need-loop-less Inv-loop μ-loop
-loop-less c = let h = line-here _ _ _ (sym (c .before .before .before .before .before .before .before .before .before .read-line .ensures) ∙ c .before .before .before .before .before .before .before .f .given .1) in omega (arith, h .longer, h .inside)
+loop-less c = let h = line-here _ _ _ (read (c .before .before .before .before .before .before .before)) in omega (arith, h .longer, h .inside)
 
--- src/assumption_lines.rt:65:5
 loop-again : tie.Need-loop-again Inv-loop μ-loop
-loop-again c table E q = let i = c .before .before .before .before .before .before .before .before .before .before .before .loop .inv table E q in assumptions-more i _ (sym (c .before .before .before .before .before .before .before .before .before .read-line .ensures) ∙ c .before .before .before .before .before .before .before .f .given .1) _ (subst (AssumptionLine table _ _ _ _) (c .enum-told3 .given .1) (c .before .before .one .ensures table E q))
+loop-again c table E q =
+    assumptions-more (c .before .before .before .before .before .before .before .before .before .before .before .loop .inv table E q) _ (read (c .before .before .before .before .before .before .before)) _ (subst (AssumptionLine table _ _ _ _) (c .enum-told3 .given .1) (c .before .before .one .ensures table E q))
 
--- src/assumption_lines.rt:51:1
+-- the file ends
 returns-4 : tie.Need-returns-4 Inv-loop μ-loop
 returns-4 c table E q = (c .before .loop .inv table E q, none-at-end _ _ _ (omega arith))
 

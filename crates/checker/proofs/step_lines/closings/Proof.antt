@@ -9,25 +9,20 @@ use Rattle.checker.proofs.step_lines.closings.Tie as tie
 use Rattle.checker.proofs.step_lines.closings.Reads as reads
 use Rattle.checker.proofs.step_lines.closings.Lts as lts
 
--- src/step_lines.rt:27:22
 enum-told : tie.Need-enum-told
 enum-told c = search needs
 
--- src/step_lines.rt:28:22
 enum-told-2 : tie.Need-enum-told-2
 enum-told-2 c = search needs
 
--- src/step_lines.rt:23:1
 returns : tie.Need-returns
 unfolding rule
 returns c = sym (ap closingsOf (c .enum-told .given .1))
 
--- src/step_lines.rt:23:1
 returns-2 : tie.Need-returns-2
 unfolding rule
 returns-2 c = sym (ap closingsOf (c .enum-told2 .given .1))
 
--- src/step_lines.rt:23:1
 returns-3 : tie.Need-returns-3
 returns-3 c = sym (not-closing (c .before .args .rule) (c .match .keys3))
 

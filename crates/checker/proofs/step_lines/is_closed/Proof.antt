@@ -7,15 +7,12 @@ use Rattle.checker.proofs.step_lines.is_closed.Tie as tie
 use Rattle.checker.proofs.step_lines.is_closed.Reads as reads
 use Rattle.checker.proofs.step_lines.is_closed.Lts as lts
 
--- src/step_lines.rt:37:27
 enum-told : tie.Need-enum-told
 enum-told c = search needs
 
--- src/step_lines.rt:33:1
 returns : tie.Need-returns
 returns c = search needs
 
--- src/step_lines.rt:33:1
 returns-2 : tie.Need-returns-2
 returns-2 c = sym (stays-open (c .before .args .answer) (c .match .keys2))
 

@@ -9,29 +9,30 @@ use Rattle.checker.proofs.term_lines.one.Lts as lts
 use Rattle.commands.proofs.making.make.Reads as make-reads
 use Rattle.lines.proofs.word_of.Reads as word-of-reads
 
--- src/term_lines.rt:35:31
 word-of-requires : tie.Need-word-of-requires
 word-of-requires c κs = search needs
 
--- src/term_lines.rt:35:26
 enum-known-w : tie.Need-enum-known-w
 enum-known-w c = search needs
 
--- src/term_lines.rt:36:32
 enum-told : tie.Need-enum-told
 enum-told c = search needs
 
--- src/term_lines.rt:36:9
+-- check 4
 returns : tie.Need-returns
-returns c table h = term-unknown table (c .before .before .before .args .f) (c .before .before .before .pre .1 .0) (word-unknown _ (sym (c .before .before .word-of .ensures) ∙ c .enum-told .given .1))
+returns c table h =
+    let g = c .before .before .before in
+    term-unknown table (g .args .f) (g .pre .1 .0) (word-unknown _ (sym (c .before .before .word-of .ensures) ∙ c .enum-told .given .1))
 
--- src/term_lines.rt:38:5
 make-requires : tie.Need-make-requires
 make-requires c κs = search needs
 
--- src/term_lines.rt:21:1
+-- checks 6 to 10
 returns-2 : tie.Need-returns-2
-returns-2 c table h = let g = c .before .before .before .before .before .before .before .before .before in term-made table (g .args .f) _ _ _ _ _ (g .pre .1 .0) (word-known _ _ (sym (c .before .before .before .before .before .before .before .before .word-of .ensures) ∙ c .before .before .before .before .before .before .w .given .1)) (c .make .ensures table h)
+returns-2 c table h =
+    let g = c .before .before .before .before .before .before .before .before .before in
+    let w = word-known _ _ (sym (c .before .before .before .before .before .before .before .before .word-of .ensures) ∙ c .before .before .before .before .before .before .w .given .1) in
+    term-made table (g .args .f) _ _ _ _ _ (g .pre .1 .0) w (c .make .ensures table h)
 
 pub one-spec : {M : Type 1} → statement M
 one-spec =

@@ -1,121 +1,28 @@
--- `terms::lines::arguments` meets its contract: each arm knows the operator.
-use mathlib.Core.Path.{sym, ap}
+-- Each arm gives the uses of the fields of its operator.
+use mathlib.Core.Path.{sym, _∙_, ap}
 use Rattle.tableau.specs.Terms.{arguments}
 use borrow.Author.Needs.{needs}
 use Rattle.terms.proofs.lines.arguments.Statement.{statement}
 use Rattle.terms.proofs.lines.arguments.Tie as tie
-use Rattle.terms.proofs.lines.arguments.Reads as reads
-use Rattle.terms.proofs.lines.arguments.Lts as lts
-
-enum-told : tie.Need-enum-told
-enum-told c = c .match .keys1
-
-enum-told-2 : tie.Need-enum-told-2
-enum-told-2 c = c .match .keys2
-
-enum-told-3 : tie.Need-enum-told-3
-enum-told-3 c = c .match .keys3
-
-enum-told-4 : tie.Need-enum-told-4
-enum-told-4 c = c .match .keys4
-
-enum-told-5 : tie.Need-enum-told-5
-enum-told-5 c = c .match .keys5
-
-enum-told-6 : tie.Need-enum-told-6
-enum-told-6 c = c .match .keys6
-
-enum-told-7 : tie.Need-enum-told-7
-enum-told-7 c = c .match .keys7
-
-enum-told-8 : tie.Need-enum-told-8
-enum-told-8 c = c .match .keys8
-
-enum-told-9 : tie.Need-enum-told-9
-enum-told-9 c = c .match .keys9
-
-enum-told-10 : tie.Need-enum-told-10
-enum-told-10 c = c .match .keys10
-
-enum-told-11 : tie.Need-enum-told-11
-enum-told-11 c = c .match .keys11
-
-enum-told-12 : tie.Need-enum-told-12
-enum-told-12 c = c .match .keys12
-
-returns : tie.Need-returns
-unfolding arguments
-returns c = sym (ap arguments (c .enum-told .given .1))
-
-returns-2 : tie.Need-returns-2
-unfolding arguments
-returns-2 c = sym (ap arguments (c .enum-told2 .given .1))
-
-returns-3 : tie.Need-returns-3
-unfolding arguments
-returns-3 c = sym (ap arguments (c .enum-told3 .given .1))
-
-returns-4 : tie.Need-returns-4
-unfolding arguments
-returns-4 c = sym (ap arguments (c .enum-told4 .given .1))
-
-returns-5 : tie.Need-returns-5
-unfolding arguments
-returns-5 c = sym (ap arguments (c .enum-told5 .given .1))
-
-returns-6 : tie.Need-returns-6
-unfolding arguments
-returns-6 c = sym (ap arguments (c .enum-told6 .given .1))
-
-returns-7 : tie.Need-returns-7
-unfolding arguments
-returns-7 c = sym (ap arguments (c .enum-told7 .given .1))
-
-returns-8 : tie.Need-returns-8
-unfolding arguments
-returns-8 c = sym (ap arguments (c .enum-told8 .given .1))
-
-returns-9 : tie.Need-returns-9
-unfolding arguments
-returns-9 c = sym (ap arguments (c .enum-told9 .given .1))
-
-returns-10 : tie.Need-returns-10
-unfolding arguments
-returns-10 c = sym (ap arguments (c .enum-told10 .given .1))
-
-returns-11 : tie.Need-returns-11
-unfolding arguments
-returns-11 c = sym (ap arguments (c .enum-told11 .given .1))
-
-returns-12 : tie.Need-returns-12
-unfolding arguments
-returns-12 c = sym (ap arguments (c .enum-told12 .given .1))
 
 pub arguments-spec : {M : Type 1} → statement M
+unfolding arguments
 arguments-spec =
     tie.close
     (tie.spec
-    enum-told
-    enum-told-2
-    enum-told-3
-    enum-told-4
-    enum-told-5
-    enum-told-6
-    enum-told-7
-    enum-told-8
-    enum-told-9
-    enum-told-10
-    enum-told-11
-    enum-told-12
-    returns
-    returns-2
-    returns-3
-    returns-4
-    returns-5
-    returns-6
-    returns-7
-    returns-8
-    returns-9
-    returns-10
-    returns-11
-    returns-12)
+    (λ c. search needs) (λ c κs. search needs) (λ c. search needs) (λ c κs. search needs) (λ c. search needs) (λ c κs. search needs)
+    (λ c. search needs) (λ c κs. search needs) (λ c. search needs) (λ c κs. search needs) (λ c. search needs) (λ c κs. search needs)
+    (λ c. search needs) (λ c κs. search needs) (λ c. search needs) (λ c κs. search needs) (λ c. search needs) (λ c κs. search needs)
+    (λ c. search needs) (λ c κs. search needs) (λ c. search needs) (λ c κs. search needs) (λ c. search needs) (λ c κs. search needs)
+    (λ c. c .uses-of .ensures ∙ sym (ap arguments (c .before .enum-told .given .1)))
+    (λ c. c .uses-of2 .ensures ∙ sym (ap arguments (c .before .enum-told2 .given .1)))
+    (λ c. c .uses-of3 .ensures ∙ sym (ap arguments (c .before .enum-told3 .given .1)))
+    (λ c. c .uses-of4 .ensures ∙ sym (ap arguments (c .before .enum-told4 .given .1)))
+    (λ c. c .uses-of5 .ensures ∙ sym (ap arguments (c .before .enum-told5 .given .1)))
+    (λ c. c .uses-of6 .ensures ∙ sym (ap arguments (c .before .enum-told6 .given .1)))
+    (λ c. c .uses-of7 .ensures ∙ sym (ap arguments (c .before .enum-told7 .given .1)))
+    (λ c. c .uses-of8 .ensures ∙ sym (ap arguments (c .before .enum-told8 .given .1)))
+    (λ c. c .uses-of9 .ensures ∙ sym (ap arguments (c .before .enum-told9 .given .1)))
+    (λ c. c .uses-of10 .ensures ∙ sym (ap arguments (c .before .enum-told10 .given .1)))
+    (λ c. c .uses-of11 .ensures ∙ sym (ap arguments (c .before .enum-told11 .given .1)))
+    (λ c. c .uses-of12 .ensures ∙ sym (ap arguments (c .before .enum-told12 .given .1))))
