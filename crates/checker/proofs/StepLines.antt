@@ -38,7 +38,7 @@ use Rattle.commands.specs.Commands.{stepped, Steps}
 use Rattle.commands.proofs.InferLaws.{run-infer}
 use Rattle.checker.specs.declared.step_lines.StepRead.{StepRead}
 use Rattle.checker.specs.Running.{verdictFrom, packedCommand, runFields}
-use Rattle.checker.specs.Sections.{OutOfOrder, IsStep, StepLine, stateOf, closingsOf, closesTree, statusOf, StepsTaken}
+use Rattle.checker.specs.Sections.{OutOfOrder, IsStep, StepLine, stateOf, closingsOf, closesTree, statusOf, verdictAtEnd, StepsTaken}
 use Rattle.checker.proofs.Lines.{line-here, bad-line, refused-here, at-end}
 use Rattle.checker.proofs.TermLines.{numbers, run-disordered, run-unknown, run-known}
 
@@ -190,11 +190,12 @@ module _ {file : List ℕ} {from n : ℕ} {table : Table} {m : ℕ} {t₀ : Tree
   pub steps-read : (r : Reason) → StepLine file at closed (StepRead.Refused r) → refuse r (n + m + k + 1) ≡ whole
   steps-read r h = sym (s .runs ∙ h (n + m + k) before (s .noTerm) (s .noAssumption) (λ e. ap (λ (b : Bool). statusOf b t) e))
 
-  pub steps-closed : n ≡ length table → length file ≤ at → closed ≡ true → accept (record { terms = n; assumptions = m; steps = k; closings = c }) ≡ whole
-  steps-closed q h e = ap (λ (i : ℕ). accept (record { terms = i; assumptions = m; steps = k; closings = c })) q ∙ sym (s .runs ∙ at-end file at h (n + m + k) before ∙ ap (λ (b : Bool). atEnd before (statusOf b t) (suc (n + m + k))) e)
-
-  pub steps-open : length file ≤ at → closed ≡ false → refuse Reason.BranchOpen (n + m + k + 1) ≡ whole
-  steps-open h e = sym (rw (add-one (n + m + k)) (s .runs ∙ at-end file at h (n + m + k) before ∙ ap (λ (b : Bool). atEnd before (statusOf b t) (suc (n + m + k))) e))
+  pub steps-end : n ≡ length table → length file ≤ at → verdictAtEnd closed n m k c ≡ whole
+  steps-end q h = go closed refl ∙ sym (s .runs ∙ at-end file at h (n + m + k) before)
+    where
+      go : (b : Bool) → closed ≡ b → verdictAtEnd b n m k c ≡ atEnd before (statusOf b t) (suc (n + m + k))
+      go true e = ap (λ (i : ℕ). accept (record { terms = i; assumptions = m; steps = k; closings = c })) q
+      go false e = ap (refuse Reason.BranchOpen) (add-one (n + m + k))
 
   module _ (x : Rule) (f : Fields) (w : IsStep file at x f) where
     -- the state after the step, by the status of the tree

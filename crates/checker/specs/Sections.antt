@@ -12,7 +12,7 @@ use Rattle.tableau.specs.File.{maxBytes}
 use Rattle.tableau.specs.Rules.{ruleNames}
 use Rattle.tableau.specs.Terms.{Table, Literal}
 use Rattle.tableau.specs.Tree.{refused, passed, Status, isOpen, isClosed, root, maxPlaces}
-use Rattle.tableau.specs.Reply.{State, start, inOrder, isClosing, Verdict, refuse}
+use Rattle.tableau.specs.Reply.{State, start, inOrder, isClosing, Verdict, accept, refuse}
 use Rattle.lines.specs.declared.Fields.{Fields}
 use Rattle.lines.specs.declared.LineRead.{LineRead}
 use Rattle.lines.specs.Lines.{lineAt}
@@ -128,6 +128,11 @@ pub record StepsTaken (file : List ℕ) (from n : ℕ) (table : Table) (m : ℕ)
   pub noAssumption : OutOfOrder letter Letter.A file at
   pub runs : verdictFrom file from (n + m) (passed (stateOf table (isOpen (treeOf unpackLiteral t₀)) l₀ m 0 0))
       ≡ verdictFrom file at (n + m + k) (passed (stateOf table (statusOf closed t) letter m k c))
+
+-- the verdict where the file ends: on a closed tree its counts, else check 17
+abbrev pub verdictAtEnd : Bool → ℕ → ℕ → ℕ → ℕ → Verdict
+verdictAtEnd true n m k c = accept (record { terms = n; assumptions = m; steps = k; closings = c })
+verdictAtEnd false n m k c = refuse Reason.BranchOpen (n + m + k + 1)
 
 abbrev pub StepSection : List ℕ → ℕ → ℕ → Table → ℕ → Tree → Verdict → Type 0
 StepSection file at n table m t v =

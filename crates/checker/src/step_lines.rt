@@ -15,13 +15,14 @@ use tree::Answer;
 use tree::Extended;
 use tree::Tree;
 ghost use mathlib.Core.Path.{_≡_};
-ghost use Prim.Native.Nat.{_+_, _<_};
+ghost use Prim.Native.Nat.{_+_, _<_, _≤_};
 ghost use lib.ListN.{length};
+ghost use Rattle.tableau.specs.File.{maxBytes};
 ghost use Rattle.tableau.specs.Terms.{Table};
 ghost use Rattle.terms.specs.Lines.{arrays, HoldsIn};
 ghost use Rattle.tree.specs.State.{Within};
 ghost use Rattle.reply.specs.Verdict.{verdictOf};
-ghost use Rattle.checker.specs.Sections.{Between, StepLine, StepSection, closingsOf, closesTree};
+ghost use Rattle.checker.specs.Sections.{Between, StepLine, StepSection, closingsOf, closesTree, verdictAtEnd};
 
 // `cls` and `emp` close.
 fn closings(rule: Rule) -> usize
@@ -71,6 +72,22 @@ fn read_step(file: &[u8], at: usize, closed: bool) -> StepRead
     StepRead::Step(rule, f)
 }
 
+// The end of the file: a closed tree is accepted, an open one breaks check 17.
+fn end(closed: bool, n: usize, m: usize, steps: usize, closed_count: usize) -> Verdict
+    requires { ⌜ n + m + steps ≤ maxBytes ⌝ }
+    ensures { λ r. ⌜ verdictOf r ≡ verdictAtEnd closed n m steps «closed_count» ⌝ }
+{
+    if closed {
+        return Verdict::Accepted(Counts {
+            terms: n,
+            assumptions: m,
+            steps,
+            closings: closed_count,
+        });
+    }
+    Verdict::Refused(Reason::BranchOpen, n + m + steps + 1)
+}
+
 pub fn run(
     file: &[u8],
     cursor: Cursor,
@@ -99,20 +116,7 @@ pub fn run(
             }
             StepRead::Step(rule, f) => {
                 let len = tree.len;
-                let outcome = infer(
-                    rule,
-                    f.a,
-                    f.b,
-                    f.c,
-                    f.d,
-                    &tree.branch,
-                    len,
-                    terms,
-                    head,
-                    next,
-                    uses,
-                    n,
-                );
+                let outcome = infer(rule, f, &tree.branch, len, terms, head, next, uses, n);
                 at = f.next.at;
                 steps += 1;
                 closed_count += closings(rule);
@@ -134,13 +138,5 @@ pub fn run(
             }
         }
     }
-    if closed {
-        return Verdict::Accepted(Counts {
-            terms: n,
-            assumptions: m,
-            steps,
-            closings: closed_count,
-        });
-    }
-    Verdict::Refused(Reason::BranchOpen, n + m + steps + 1)
+    end(closed, n, m, steps, closed_count)
 }

@@ -176,10 +176,7 @@ fn conclude(
 // An S line, as far as the alternatives that it adds: checks 6 to 14.
 pub fn infer(
     rule: Rule,
-    a: usize,
-    b: usize,
-    c: usize,
-    d: usize,
+    f: lines::Fields,
     branch: &[u32; 1000],
     len: usize,
     terms: &[u64; 601],
@@ -192,8 +189,12 @@ pub fn infer(
     requires { ⌜ IsBranch (now branch) len ⌝ }
     ensures { λ r. ⌜ Room r ⌝ }
     ensures { λ r. ⌜ ((table : Table) → HoldsIn table (arrays (now (terms .entry)) (now (head .entry)) (now (next .entry)) (now (uses .entry))) n
-        → answerOf r ≡ inferred table (branchOf (now (branch .entry)) len) rule (four a b c d)) ⌝ }
+        → answerOf r ≡ inferred table (branchOf (now (branch .entry)) len) rule (four (f .a) (f .b) (f .c) (f .d))) ⌝ }
 {
+    let a = f.a;
+    let b = f.b;
+    let c = f.c;
+    let d = f.d;
     if !lines::unused_zero(rule, a, b, c, d) {
         return Outcome::Refused(Reason::UnusedField);
     }

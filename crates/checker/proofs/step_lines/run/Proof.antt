@@ -20,7 +20,7 @@ use Rattle.commands.proofs.InferLaws.{grows, adds}
 use Rattle.checker.specs.Sections.{Between, OutOfOrder, IsStep, StepLine, StepsTaken}
 use Rattle.checker.proofs.Lines.{line-here}
 use Rattle.checker.proofs.TermLines.{numbers}
-use Rattle.checker.proofs.StepLines.{closings-most, steps-start, steps-read, steps-refused, steps-more, steps-closed, steps-open}
+use Rattle.checker.proofs.StepLines.{closings-most, steps-start, steps-read, steps-refused, steps-more, steps-end}
 use Rattle.checker.proofs.step_lines.run.Statement.{statement}
 use Rattle.checker.proofs.step_lines.run.Tie as tie
 use Rattle.checker.proofs.step_lines.run.Reads as reads
@@ -166,22 +166,12 @@ loop-again-2 c =
           (c .before .before .match4 .keys2) (c .before .is-closed .ensures) (c .before .before .before .before .before .closings .ensures),
     )
 
--- the file ends with the tree closed
+end-requires : tie.Need-end-requires Inv-loop μ-loop
+end-requires c κs = let b = c .before .loop .inv .1 in omega (arith, b .lines, b .inside, b .short)
+
+-- the file ends
 returns-4 : tie.Need-returns-4 Inv-loop μ-loop
-returns-4 c table H l a b = steps-closed (c .before .before .loop .inv .3 table H l a b) (sym (H .count)) (omega arith) (c .if1 .taken)
-
-add-t39 : tie.Need-add-t39 Inv-loop μ-loop
-add-t39 c = let b = c .before .before .loop .inv .1 in omega (arith, b .lines, b .inside, b .short)
-
-add-t40 : tie.Need-add-t40 Inv-loop μ-loop
-add-t40 c = let b = c .before .before .loop .inv .1 in omega (arith, b .lines, b .inside, b .short)
-
-add-t41 : tie.Need-add-t41 Inv-loop μ-loop
-add-t41 c = let b = c .before .before .loop .inv .1 in omega (arith, b .lines, b .inside, b .short)
-
--- check 17
-returns-5 : tie.Need-returns-5 Inv-loop μ-loop
-returns-5 c table H l a b = steps-open (c .before .before .loop .inv .3 table H l a b) (omega arith) (c .if1 .left)
+returns-4 c table H l a b = c .end .ensures ∙ steps-end (c .before .before .loop .inv .3 table H l a b) (sym (H .count)) (omega arith)
 
 pub run-spec : {M : Type 1} → statement M
 run-spec =
@@ -214,8 +204,5 @@ run-spec =
     is-closed-requires
     loop-less-2
     loop-again-2
-    returns-4
-    add-t39
-    add-t40
-    add-t41
-    returns-5)
+    end-requires
+    returns-4)

@@ -20,7 +20,7 @@ use Rattle.commands.proofs.inferring.infer.Tie as tie
 
 -- the fields of the line, and the branch
 abbrev fields : tie.Start → Four ℕ
-fields s = four (s .args .a) (s .args .b) (s .args .c) (s .args .d)
+fields s = four (s .args .f .a) (s .args .f .b) (s .args .f .c) (s .args .f .d)
 
 abbrev branch : tie.Start → List Literal
 branch s = branchOf (now (s .args .branch)) (s .args .len)
