@@ -1,5 +1,5 @@
 -- Laws of the masks of used fields.
-use mathlib.Core.Bool.{Bool, true, false, cond, _&&_, _||_, not, false≢true}
+use mathlib.Core.Bool.{Bool, true, false, cond, _||_, not}
 use mathlib.Core.List.{List, [], _∷_}
 use mathlib.Core.Option.{some}
 use mathlib.Core.Path.{_≡_, refl, ap, _∙_}
@@ -8,14 +8,13 @@ use native.Mathlib.Omega.{arith}
 use lib.Bits.{bitAnd}
 use lib.Dec.{eqb}
 use lib.ListN.{length, getD}
-use borrow.Author.Tests.{eqb-true}
 use Rattle.tableau.specs.declared.Relation.{Relation}
 use Rattle.tableau.specs.declared.Rule.{Rule}
 use Rattle.tableau.specs.Basics.{Four, Named}
 use Rattle.tableau.specs.Reply.{zeroIfUnused}
 use Rattle.tableau.specs.Rules.{ruleFields}
 use Rattle.tableau.specs.Terms.{Use, unused, place, name, side, term, of, sides}
-use Rattle.tableau.proofs.Bools.{both-true, none≢some, some-inj}
+use Rattle.tableau.proofs.Bools.{none≢some, some-inj}
 use Rattle.lines.specs.Unused.{bitOf, maskOf}
 use Rattle.lines.specs.Words.{entryAt}
 
@@ -80,26 +79,16 @@ module _ (f : Four Use) (used : ℕ) (e : used ≡ maskOf f) where
       rw as-mask
       (rw (k .0, zero-if), rw (k .1, zero-if), rw (k .2, zero-if), rw (k .3, zero-if))
 
--- A table of masks that is right at each place of the table of rules: one test over both.
-abbrev pub masksRight : List ℕ → List (Named Rule) → Bool
-masksRight [] [] = true
-masksRight [] (n ∷ ns) = false
-masksRight (m ∷ ms) [] = false
-masksRight (m ∷ ms) (n ∷ ns) = eqb m (maskOf (ruleFields (n .is))) && masksRight ms ns
+-- The masks of a table of rules, in its order.
+unfoldable pub masks : List (Named Rule) → List ℕ
+masks [] = []
+masks (n ∷ ns) = maskOf (ruleFields (n .is)) ∷ masks ns
 
-pub mask-at : (ms : List ℕ) (t : List (Named Rule)) → masksRight ms t ≡ true → (i : ℕ) (x : Rule) → entryAt t i ≡ some x
-    → (i < length ms) × (getD ms i 0 ≡ maskOf (ruleFields x))
-unfolding entryAt
-mask-at [] [] h i x e = none≢some e
-mask-at [] (n ∷ ns) h i x e = absurd (false≢true h)
-mask-at (m ∷ ms) [] h i x e = none≢some e
-mask-at (m ∷ ms) (n ∷ ns) h zero x e =
-    let k = both-true (eqb m (maskOf (ruleFields (n .is)))) (masksRight ms ns) h in
-    (omega arith, eqb-true m (maskOf (ruleFields (n .is))) (k .0) ∙ ap (λ (y : Rule). maskOf (ruleFields y)) (some-inj e))
-mask-at (m ∷ ms) (n ∷ ns) h (suc i) x e =
-    let k = both-true (eqb m (maskOf (ruleFields (n .is)))) (masksRight ms ns) h in
-    let j = mask-at ms ns (k .1) i x e in
-    (omega (arith, j .0), j .1)
+pub mask-at : (t : List (Named Rule)) (i : ℕ) (x : Rule) → entryAt t i ≡ some x → (i < length (masks t)) × (getD (masks t) i 0 ≡ maskOf (ruleFields x))
+unfolding entryAt masks
+mask-at [] i x e = none≢some e
+mask-at (n ∷ ns) zero x e = (omega arith, ap (λ (y : Rule). maskOf (ruleFields y)) (some-inj e))
+mask-at (n ∷ ns) (suc i) x e = let j = mask-at ns i x e in (omega (arith, j .0), j .1)
 
 -- every relation uses two fields
 pub two-sides : (R : Relation) → 3 ≡ maskOf (sides R)
