@@ -1,5 +1,1 @@
-pub mod AssumptionLines
-pub mod Lines
-pub mod StepLines
-pub mod TermLines
 pub mod Whole

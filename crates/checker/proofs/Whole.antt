@@ -21,8 +21,8 @@ use Rattle.tree.specs.declared.Tree.{Tree}
 use Rattle.tree.specs.State.{IsBranch, stackOf, treeOf}
 use Rattle.steps.specs.Reading.{branchOf}
 use Rattle.commands.proofs.InferLaws.{branch-length}
-use Rattle.checker.specs.Running.{verdictFrom}
-use Rattle.checker.specs.Sections.{stateOf, withLiterals}
+use Rattle.sections.specs.Running.{verdictFrom}
+use Rattle.sections.specs.Sections.{stateOf, withLiterals}
 
 -- CHECK 1
 pub too-long : (file : List ℕ) → maxBytes < length file → refuse Reason.TooLong 0 ≡ verdict file

@@ -1,6 +1,10 @@
 // The checker: the lines of a whole file, the build host's call, the reply line.
 use lines::Cursor;
 use reply::Verdict;
+use sections::Section;
+use sections::assumption_lines;
+use sections::step_lines;
+use sections::term_lines;
 use tableau::Reason;
 use tree::Tree;
 ghost use mathlib.Core.Path.{_≡_};
@@ -13,24 +17,7 @@ ghost use Rattle.tableau.specs.declared.Letter.{Letter};
 ghost use Rattle.tableau.specs.Terms.{Table};
 ghost use Rattle.terms.specs.Lines.{arrays, HoldsIn};
 ghost use Rattle.reply.specs.Verdict.{verdictOf};
-ghost use Rattle.checker.specs.Sections.{NoLine, Between, verdictAfterTerms};
-
-mod assumption_lines;
-mod step_lines;
-mod term_lines;
-
-// The result of a line that was read.
-pub enum LineResult {
-    Passed,
-    Refused(Reason),
-}
-
-// The result of the lines of one letter: where the next line begins and how many they are, or the reason of the first bad line beside its
-// number.
-pub enum Section {
-    Ended(Cursor, usize),
-    Refused(Reason, usize),
-}
+ghost use Rattle.sections.specs.Sections.{NoLine, Between, verdictAfterTerms};
 
 // The A and S lines, where n terms are made.
 fn after_terms(

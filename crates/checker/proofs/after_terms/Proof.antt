@@ -6,19 +6,19 @@ use Rattle.tableau.specs.Reply.{State}
 use Rattle.tableau.specs.Terms.{Table}
 use Rattle.tableau.specs.Tree.{Tree, passed}
 use Rattle.terms.specs.Packing.{unpackLiteral}
-use Rattle.checker.specs.Running.{verdictFrom}
+use Rattle.sections.specs.Running.{verdictFrom}
 use Rattle.terms.specs.Holds.{Entries}
 use Rattle.tree.specs.declared.Tree as declared
-use Rattle.checker.specs.declared.Section.{Section}
-use Rattle.checker.specs.Sections.{AssumptionSection}
+use Rattle.sections.specs.declared.Section.{Section}
+use Rattle.sections.specs.Sections.{AssumptionSection}
 use Rattle.checker.proofs.Whole.{tree-begins}
 use borrow.Author.Needs.{needs}
 use Rattle.checker.proofs.after_terms.Statement.{statement}
 use Rattle.checker.proofs.after_terms.Tie as tie
 use Rattle.checker.proofs.after_terms.Reads as reads
 use Rattle.checker.proofs.after_terms.Lts as lts
-use Rattle.checker.proofs.assumption_lines.run.Reads as assumption-lines-run-reads
-use Rattle.checker.proofs.step_lines.run.Reads as step-lines-run-reads
+use Rattle.sections.proofs.assumption_lines.run.Reads as assumption-lines-run-reads
+use Rattle.sections.proofs.step_lines.run.Reads as step-lines-run-reads
 use Rattle.tree.proofs.Tree.empty.Reads as empty-reads
 
 -- the A lines have ended

@@ -3,8 +3,8 @@ use mathlib.Core.Path.{_≡_, refl, sym, _∙_, subst}
 use native.Mathlib.Omega.{arith}
 use Rattle.terms.proofs.GrowthLaws.{holds-empty}
 use Rattle.terms.specs.Lines.{arrays}
-use Rattle.checker.specs.declared.Section.{Section}
-use Rattle.checker.specs.Sections.{TermSection}
+use Rattle.sections.specs.declared.Section.{Section}
+use Rattle.sections.specs.Sections.{TermSection}
 use Rattle.checker.proofs.Whole.{too-long, short-enough}
 use borrow.Author.Needs.{needs}
 use Rattle.checker.proofs.check.Statement.{statement}
@@ -12,7 +12,7 @@ use Rattle.checker.proofs.check.Tie as tie
 use Rattle.checker.proofs.check.Reads as reads
 use Rattle.checker.proofs.check.Lts as lts
 use Rattle.checker.proofs.after_terms.Reads as after-terms-reads
-use Rattle.checker.proofs.term_lines.run.Reads as run-reads
+use Rattle.sections.proofs.term_lines.run.Reads as run-reads
 
 -- the T lines have ended
 made : (c : tie.After-known-told2) → TermSection (c .before .before .before .before .before .before .before .before .before .before .args .file .now)

@@ -1,0 +1,4 @@
+pub mod AssumptionLines
+pub mod Lines
+pub mod StepLines
+pub mod TermLines

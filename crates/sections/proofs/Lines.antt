@@ -1,0 +1,218 @@
+-- A line that was read, a badly shaped one and the end of the file, in the specification's run.
+use mathlib.Core.Path.{_≡_, refl, sym, _∙_, ap, subst}
+use mathlib.Core.Bool.{Bool, true, false, _&&_, true≢false}
+use mathlib.Core.List.{List, [], _∷_}
+use mathlib.Core.Option.{Option, none, some, Option·none-ne-some}
+use Prim.Native.Nat.{ℕ, zero, suc, _+_, _*_, _-_, _^_, _<_, _≤_}
+use native.Mathlib.Omega.{arith}
+use native.Mathlib.Nat.{lt-of-lt-of-le, mul-le-mul-left, mul-assoc, pow-suc, pow-le-pow-right}
+use lib.Dec.{eqb, leb}
+use lib.ListN.{length, drop, length-drop, drop-of-length-le}
+use lib.Seq.{drop-drop}
+use borrow.Author.Tests.{leb-true}
+use Rattle.tableau.specs.declared.Letter.{Letter}
+use Rattle.tableau.specs.declared.Reason.{Reason}
+use Rattle.tableau.specs.Basics.{then, guard, Four, four, lookup}
+use Rattle.tableau.specs.File.{LF, comma, split, onFirst, Line, shape, sixFields, letters, isWord, isDigit, digits, number, maxDigits}
+use Rattle.tableau.specs.Tree.{Checked, refused, passed, _>>=_, _>>_, require, requireSome}
+use Rattle.tableau.specs.Reply.{Command, some-of, make, assume, infer, commandOf, State, inOrder, runCommand, runLine, Verdict, refuse, atEnd, runLines}
+use Rattle.tableau.proofs.Bools.{both-true}
+use Rattle.lines.specs.declared.Fields.{Fields}
+use Rattle.lines.specs.declared.LineRead.{LineRead}
+use Rattle.lines.specs.Lines.{packWord, lineRead, firstLine, lineAt}
+use Rattle.lines.proofs.PackedWords.{words-packed, relations-packed, rules-packed}
+use Rattle.lines.proofs.Remaining.{pieces, split-same, split-other}
+use Rattle.sections.specs.Running.{verdictFrom, packedCommand, runFields, LineHere}
+
+-- THE CUT AT LF: behind the first piece and its LF stand the others.
+pub behind : (c : ℕ) (text l m : List ℕ) (ls : List (List ℕ)) → split c text ≡ l ∷ m ∷ ls
+    → (split c (drop (suc (length l)) text) ≡ m ∷ ls) × (suc (length l) ≤ length text)
+unfolding split
+behind c [] l m ls e = let z : true ≡ false = cc in absurd (true≢false z)
+behind c (x ∷ text) l m ls e = cut (eqb x c) e (pieces c text) (behind c text)
+  where
+    at : (k : List ℕ) → l ≡ k → (split c (drop (suc (length k)) (x ∷ text)) ≡ m ∷ ls) × (suc (length k) ≤ suc (length text))
+        → (split c (drop (suc (length l)) (x ∷ text)) ≡ m ∷ ls) × (suc (length l) ≤ suc (length text))
+    at k q h = rw q h
+
+    cut : (b : Bool) → elim b [ true ↦ [] ∷ split c text | false ↦ onFirst x (split c text) ] ≡ l ∷ m ∷ ls
+        → (p : List ℕ) × (ps : List (List ℕ)) × (split c text ≡ p ∷ ps)
+        → ((l m : List ℕ) (ls : List (List ℕ)) → split c text ≡ l ∷ m ∷ ls
+        → (split c (drop (suc (length l)) text) ≡ m ∷ ls) × (suc (length l) ≤ length text))
+        → (split c (drop (suc (length l)) (x ∷ text)) ≡ m ∷ ls) × (suc (length l) ≤ suc (length text))
+    cut true e h later =
+        let q : l ≡ [] = cc in
+        let r : split c text ≡ m ∷ ls = cc in
+        at [] q (r, omega arith)
+    cut false e h later =
+        let k : onFirst x (h .0 ∷ h .1) ≡ l ∷ m ∷ ls = ap (onFirst x) (sym (h .2)) ∙ e in
+        let q : l ≡ x ∷ h .0 = cc in
+        let r : h .1 ≡ m ∷ ls = cc in
+        let g = later (h .0) m ls (h .2 ∙ ap (λ ps. h .0 ∷ ps) r) in
+        at (x ∷ h .0) q (g .0, omega (arith, g .1))
+
+-- there is a piece; and the one piece of a text that is not empty is not empty
+some-piece : (c : ℕ) (text : List ℕ) → split c text ≡ [] → ⊥
+some-piece c text e = let h = pieces c text in let z : h .0 ∷ h .1 ≡ [] = sym (h .2) ∙ e in let y : true ≡ false = cc in true≢false y
+
+pub one-piece : (c : ℕ) (text : List ℕ) → 0 < length text → split c text ≡ [] ∷ [] → ⊥
+unfolding split
+one-piece c [] h e = omega (arith, h)
+one-piece c (x ∷ text) h e = cut (eqb x c) (pieces c text) e
+  where
+    cut : (b : Bool) → (p : List ℕ) × (ps : List (List ℕ)) × (split c text ≡ p ∷ ps)
+        → _≡_ {A = List (List ℕ)} (elim b [ true ↦ [] ∷ split c text | false ↦ onFirst x (split c text) ]) ([] ∷ []) → ⊥
+    cut true g e = some-piece c text (let q : split c text ≡ [] = cc in q)
+    cut false g e = let z : onFirst x (g .0 ∷ g .1) ≡ [] ∷ [] = ap (onFirst x) (sym (g .2)) ∙ e in let y : true ≡ false = cc in true≢false y
+
+-- what a value that passed a test says of the test
+then-some : {A B : Type 0} {y : B} (m : Option A) (k : A → Option B) → then m k ≡ some y → (x : A) × (m ≡ some x) × (k x ≡ some y)
+then-some none k e = absurd (Option·none-ne-some _ e)
+then-some (some x) k e = (x, refl, e)
+
+guard-some : {A : Type 0} {y : A} (b : Bool) (m : Option A) → guard b m ≡ some y → (b ≡ true) × (m ≡ some y)
+guard-some true m e = (refl, e)
+guard-some false m e = absurd (Option·none-ne-some _ e)
+
+-- NUMBERS of at most four digits
+digits-small : (bs : List ℕ) (n m : ℕ) → digits bs n ≡ some m → m < 10 ^ length bs * suc n
+unfolding digits
+digits-small [] n m e = let q : n ≡ m = cc in omega (arith, q)
+digits-small (b ∷ bs) n m e =
+    let g = guard-some (isDigit b) (digits bs (10 * n + (b - 48))) e in
+    let d = leb-true b 57 (both-true (leb 48 b) (leb b 57) (g .0) .1) in
+    let h = digits-small bs (10 * n + (b - 48)) m (g .1) in
+    let l : suc (10 * n + (b - 48)) ≤ 10 * suc n = omega (arith, d) in
+    rw (pow-suc, mul-assoc) (lt-of-lt-of-le h (mul-le-mul-left (10 ^ length bs) l))
+
+number-small : (p : List ℕ) (n : ℕ) → number p ≡ some n → n < 10000
+unfolding number
+number-small [] n e = absurd (Option·none-ne-some _ e)
+number-small (b ∷ bs) n e =
+    let g = guard-some _ (digits (b ∷ bs) 0) e in
+    let l = leb-true (length (b ∷ bs)) maxDigits (both-true (leb (length (b ∷ bs)) maxDigits) _ (g .0) .0) in
+    let h = digits-small (b ∷ bs) 0 n (g .1) in
+    let k : 10 ^ length (b ∷ bs) ≤ 10 ^ 4 = pow-le-pow-right (omega arith) l in
+    omega (arith, h, k)
+
+some-at : {A : Type 0} (P : A → Type 0) (x y : A) → some x ≡ some y → P x → P y
+some-at P x y e p = let q : x ≡ y = cc in subst P q p
+
+-- A LINE of six fields: its word is a word, its first number is small
+pub shaped : (ps : List (List ℕ)) (L : Line) → sixFields ps ≡ some L → (isWord (L .word) ≡ true) × (L .fields .a < 10000)
+unfolding sixFields
+shaped [] L e = absurd (Option·none-ne-some _ e)
+shaped (k ∷ []) L e = absurd (Option·none-ne-some _ e)
+shaped (k ∷ w ∷ []) L e = absurd (Option·none-ne-some _ e)
+shaped (k ∷ w ∷ a ∷ []) L e = absurd (Option·none-ne-some _ e)
+shaped (k ∷ w ∷ a ∷ b ∷ []) L e = absurd (Option·none-ne-some _ e)
+shaped (k ∷ w ∷ a ∷ b ∷ c ∷ []) L e = absurd (Option·none-ne-some _ e)
+shaped (k ∷ w ∷ a ∷ b ∷ c ∷ d ∷ []) L e =
+    let h₁ = then-some (lookup letters k) _ e in
+    let h₂ = guard-some (isWord w) _ (h₁ .2) in
+    let h₃ = then-some (number a) _ (h₂ .1) in
+    let h₄ = then-some (number b) _ (h₃ .2) in
+    let h₅ = then-some (number c) _ (h₄ .2) in
+    let h₆ = then-some (number d) _ (h₅ .2) in
+    some-at (λ L. (isWord (L .word) ≡ true) × (L .fields .a < 10000)) _ L (h₆ .2) (h₂ .0, number-small a (h₃ .0) (h₃ .1))
+shaped (k ∷ w ∷ a ∷ b ∷ c ∷ d ∷ x ∷ ps) L e = absurd (Option·none-ne-some _ e)
+
+-- the command of a packed word is that of the word
+pub command-packed : (l : Letter) (w : List ℕ) → isWord w ≡ true → packedCommand l (packWord w) ≡ commandOf l w
+unfolding packedCommand commandOf
+command-packed Letter.T w h = ap (some-of make) (words-packed w h)
+command-packed Letter.A w h = ap (some-of assume) (relations-packed w h)
+command-packed Letter.S w h = ap (some-of infer) (rules-packed w h)
+
+-- a line that has its shape runs as its fields do
+abbrev line-fields : ℕ → Line → Fields
+line-fields n L = record { letter = L .letter; word = packWord (L .word); a = L .fields .a; b = L .fields .b; c = L .fields .c; d = L .fields .d; next = record { at = n } }
+
+run-shaped : (σ : State) (l : List ℕ) (L : Line) (n : ℕ) → shape l ≡ some L → runLine σ l ≡ runFields σ (line-fields n L)
+unfolding runLine runFields
+run-shaped σ l L n e =
+    ap (λ (s : Option Line). requireSome s Reason.BadShape >>= run) e
+    ∙ ap (λ (c : Option Command). require (inOrder (σ .letter) (L .letter)) Reason.LetterOrder >> (requireSome c Reason.UnknownWord >>= λ x. runCommand σ (L .letter) x (L .fields)))
+    (sym (command-packed (L .letter) (L .word) (shaped (split comma l) L e .0)))
+  where
+    run : Line → Checked State
+    run k = require (inOrder (σ .letter) (k .letter)) Reason.LetterOrder >> (requireSome (commandOf (k .letter) (k .word)) Reason.UnknownWord >>= λ x. runCommand σ (k .letter) x (k .fields))
+
+-- what follows the first piece, in the run
+run-piece : (σ : State) (i : ℕ) (l m : List ℕ) (ls : List (List ℕ)) → runLines (l ∷ m ∷ ls) i (passed σ) ≡ runLines (m ∷ ls) (suc i) (runLine σ l)
+unfolding runLines
+run-piece σ i [] m ls = refl
+run-piece σ i (b ∷ l) m ls = refl
+
+pub refused-here : (file : List ℕ) (at i : ℕ) (r : Reason) → verdictFrom file at i (refused r) ≡ refuse r i
+unfolding runLines
+refused-here file at i r = go (split LF (drop at file))
+  where
+    go : (ls : List (List ℕ)) → runLines ls i (refused r) ≡ refuse r i
+    go [] = refl
+    go (l ∷ ls) = refl
+
+bad≢line : {f : Fields} → LineRead.BadShape ≡ LineRead.Line f → ⊥
+bad≢line {f} e = let z : true ≡ false = cc in true≢false z
+
+line-injective : {f g : Fields} → LineRead.Line f ≡ LineRead.Line g → f ≡ g
+line-injective e = cc
+
+pub line-here : (file : List ℕ) (at : ℕ) (f : Fields) → lineAt file at ≡ LineRead.Line f → LineHere file at f
+unfolding lineAt
+line-here file at f e = go (split LF (drop at file)) refl e
+  where
+    here : (l m : List ℕ) (ls : List (List ℕ)) → split LF (drop at file) ≡ l ∷ m ∷ ls → (L : Line) → shape l ≡ some L
+        → LineHere file at (line-fields (at + length l + 1) L)
+    here l m ls e L s =
+        let b = behind LF (drop at file) l m ls e in
+        let n : at + suc (length l) ≡ at + length l + 1 = omega arith in
+        let d : split LF (drop (at + length l + 1) file) ≡ m ∷ ls = ap (λ (k : ℕ). split LF (drop k file)) (sym n) ∙ ap (split LF) (sym (drop-drop (suc (length l)) at file)) ∙ b .0 in
+        record {
+          longer = omega arith;
+          inside = omega (arith, b .1, length-drop at file);
+          small = shaped (split comma l) L s .1;
+          runs = λ i σ. ap (λ ks. runLines ks i (passed σ)) e ∙ run-piece σ i l m ls ∙ ap (runLines (m ∷ ls) (suc i)) (run-shaped σ l L (at + length l + 1) s)
+              ∙ ap (λ ks. runLines ks (suc i) (runFields σ (line-fields (at + length l + 1) L))) (sym d);
+        }
+
+    shaped-as : (l m : List ℕ) (ls : List (List ℕ)) → split LF (drop at file) ≡ l ∷ m ∷ ls → (s : Option Line) → shape l ≡ s
+        → lineRead (at + length l + 1) s ≡ LineRead.Line f → LineHere file at f
+    shaped-as l m ls e none s h = absurd (bad≢line h)
+    shaped-as l m ls e (some L) s h = subst (LineHere file at) (line-injective h) (here l m ls e L s)
+
+    go : (ls : List (List ℕ)) → split LF (drop at file) ≡ ls → firstLine (λ n l. lineRead n (shape l)) at ls ≡ LineRead.Line f → LineHere file at f
+    go [] e h = absurd (bad≢line h)
+    go (l ∷ []) e h = absurd (bad≢line h)
+    go (l ∷ m ∷ ls) e h = shaped-as l m ls e (shape l) refl h
+
+pub bad-line : (file : List ℕ) (at : ℕ) → at < length file → lineAt file at ≡ LineRead.BadShape → (i : ℕ) (σ : State)
+    → verdictFrom file at i (passed σ) ≡ refuse Reason.BadShape (suc i)
+unfolding lineAt runLines runLine
+bad-line file at before e i σ = go (split LF (drop at file)) refl e
+  where
+    unshaped : (l : List ℕ) → shape l ≡ none → runLine σ l ≡ refused Reason.BadShape
+    unshaped l s = rw s
+
+    refused-pieces : (m : List ℕ) (ls : List (List ℕ)) → runLines (m ∷ ls) (suc i) (refused Reason.BadShape) ≡ refuse Reason.BadShape (suc i)
+    refused-pieces m ls = refl
+
+    shaped-as : (l m : List ℕ) (ls : List (List ℕ)) → split LF (drop at file) ≡ l ∷ m ∷ ls → (s : Option Line) → shape l ≡ s
+        → lineRead (at + length l + 1) s ≡ LineRead.BadShape → runLines (l ∷ m ∷ ls) i (passed σ) ≡ refuse Reason.BadShape (suc i)
+    shaped-as l m ls e none s h = run-piece σ i l m ls ∙ ap (runLines (m ∷ ls) (suc i)) (unshaped l s) ∙ refused-pieces m ls
+    shaped-as l m ls e (some L) s h = absurd (bad≢line (sym h))
+
+    go : (ls : List (List ℕ)) → split LF (drop at file) ≡ ls → firstLine (λ n l. lineRead n (shape l)) at ls ≡ LineRead.BadShape
+        → runLines ls i (passed σ) ≡ refuse Reason.BadShape (suc i)
+    go [] e h = absurd (some-piece LF (drop at file) e)
+    go ([] ∷ []) e h = absurd (one-piece LF (drop at file) (omega (arith, before, length-drop at file)) e)
+    go ((b ∷ l) ∷ []) e h = refl
+    go (l ∷ m ∷ ls) e h = shaped-as l m ls e (shape l) refl h
+
+pub at-end : (file : List ℕ) (at : ℕ) → length file ≤ at → (i : ℕ) (σ : State) → verdictFrom file at i (passed σ) ≡ atEnd σ (σ .status) (suc i)
+unfolding split runLines
+at-end file at h i σ = rw (drop-of-length-le file h)
+
+pub no-line : (file : List ℕ) (at : ℕ) → length file ≤ at → lineAt file at ≡ LineRead.BadShape
+unfolding split lineAt
+no-line file at h = rw (drop-of-length-le file h)
