@@ -1,20 +1,25 @@
 -- What follows from checks that passed: for a check alone, a word looked up, a line, the lines of an accepted file.
-use mathlib.Core.Path.{_≡_, refl, sym}
+use mathlib.Core.Path.{_≡_, refl, sym, _∙_, ap, subst}
 use mathlib.Core.Bool.{Bool, true, false, _&&_, true≢false}
-use mathlib.Core.List.{List, [], _∷_, map, tail-eq-of-cons-eq}
+use mathlib.Core.List.{List, [], _∷_, _++_, map, tail-eq-of-cons-eq}
 use mathlib.Core.Option.{Option, none, some, Option·none-ne-some}
 use Prim.Native.Nat.{ℕ, suc}
-use lib.Dec.{eqb, leb}
+use lib.Dec.{eqb, leb, ltb}
 use lib.ListN.{length}
 use borrow.Author.Tests.{eqb-true}
 use Rattle.tableau.specs.declared.Letter.{Letter}
 use Rattle.tableau.specs.declared.Reason.{Reason}
+use Rattle.tableau.specs.declared.Relation.{Relation}
+use Rattle.tableau.specs.declared.Rule.{Rule}
 use Rattle.tableau.specs.Basics.{Four, every, bytes, sameBytes, Named, lookup}
-use Rattle.tableau.specs.File.{Line, shape, split, LF, maxBytes}
-use Rattle.tableau.specs.Terms.{Table}
-use Rattle.tableau.specs.Tree.{Checked, refused, passed, _>>=_, _>>_, require, requireSome, Tree, Status, isOpen, isClosed}
-use Rattle.tableau.specs.Reply.{Command, some-of, commandOf, fieldsOf, Counts, State, start, inOrder, requireOpen, zeroIfUnused, roomForTerm, termOrName, ofSort}
-use Rattle.tableau.specs.Reply.{sidesAgree, isNew, counted, effect, runCommand, runLine, Verdict, accept, refuse, atEnd, runLines, verdict}
+use Rattle.tableau.specs.File.{Line, inOrder, shape, split, LF, maxBytes}
+use Rattle.tableau.specs.declared.Word.{Word}
+use Rattle.tableau.specs.Words.{Command, make, assume, infer, some-of, commandOf}
+use Rattle.tableau.specs.Fields.{wordFields, sides, ruleUses}
+use Rattle.tableau.specs.Terms.{Table, Literal, literal, at, sortOf, written, oneSort, maxTerms}
+use Rattle.tableau.specs.Tree.{Checked, refused, passed, _>>=_, _>>_, require, requireSome, Tree, Status, isOpen, isClosed, maxPlaces, alternatives, grown}
+use Rattle.tableau.specs.Reply.{Counts, State, start, requireOpen, zeroIfUnused, termOrName, ofSort, isNew, termLine, literalLine, assumed, stepLine}
+use Rattle.tableau.specs.Reply.{counted, runOpen, runRead, runLine, Verdict, accept, refuse, atEnd, runLines, verdictIf, verdict}
 use Rattle.tableau.specs.Claims.{allButLast, linesOf}
 use Rattle.tableau.proofs.Bools.{both-true}
 
@@ -37,6 +42,10 @@ pub requireSome-passed : {A B : Type 0} {y : B} (o : Option A) (r : Reason) (k :
     → (x : A) × (o ≡ some x) × (k x ≡ passed y)
 requireSome-passed none r k e = refused≢passed e
 requireSome-passed (some x) r k e = (x, refl, e)
+
+pub requireSome-is : {A : Type 0} {x : A} (o : Option A) (r : Reason) → requireSome o r ≡ passed x → o ≡ some x
+requireSome-is none r e = refused≢passed e
+requireSome-is (some x) r e = cc
 
 pub requireOpen-passed : {τ : Tree} (s : Status) → requireOpen s ≡ passed τ → s ≡ isOpen τ
 requireOpen-passed (isOpen τ) e = cc
@@ -69,58 +78,114 @@ pub some-of-some : {A : Type 0} {c : Command} (f : A → Command) (o : Option A)
 some-of-some f none e = absurd (Option·none-ne-some _ e)
 some-of-some f (some x) e = (x, refl, cc)
 
--- LINES
-pub record CommandPassed (σ : State) (l : Letter) (c : Command) (n : Four ℕ) (σ′ : State) : Type 0 where
-  pub tree : Tree
-  pub result : Table × Status
-  pub treeOpen : σ .status ≡ isOpen tree
-  pub unusedZero : every zeroIfUnused (fieldsOf c) n ≡ true
-  pub room : roomForTerm (σ .table) c ≡ true
-  pub terms : every (termOrName (σ .table)) (fieldsOf c) n ≡ true
-  pub sorts : (every (ofSort (σ .table)) (fieldsOf c) n && sidesAgree (σ .table) c n) ≡ true
-  pub new : isNew (σ .table) c n ≡ true
-  pub effected : effect (σ .table) tree c n ≡ passed result
-  pub after : record { table = result .0; status = result .1; letter = l; counts = counted (σ .counts) c } ≡ σ′
+-- LINES: a T line
+pub record TermPassed (table : Table) (w : Word) (n : Four ℕ) (table′ : Table) : Type 0 where
+  pub unusedZero : every zeroIfUnused (wordFields w) n ≡ true
+  pub room : ltb (length table) maxTerms ≡ true
+  pub terms : every (termOrName table) (wordFields w) n ≡ true
+  pub sorts : every (ofSort table) (wordFields w) n ≡ true
+  pub new : isNew table (written w n) ≡ true
+  pub after : table′ ≡ table ++ (written w n ∷ [])
 
-pub command-passed : {σ′ : State} (σ : State) (l : Letter) (c : Command) (n : Four ℕ) → runCommand σ l c n ≡ passed σ′ → CommandPassed σ l c n σ′
-unfolding runCommand
-command-passed σ l c n e =
-    let e₅ = bind-passed (requireOpen (σ .status)) _ e in
-    let e₆ = require-passed (every zeroIfUnused (fieldsOf c) n) _ _ (e₅ .2) in
-    let e₇ = require-passed (roomForTerm (σ .table) c) _ _ (e₆ .1) in
-    let e₈ = require-passed (every (termOrName (σ .table)) (fieldsOf c) n) _ _ (e₇ .1) in
-    let e₉ = require-passed (every (ofSort (σ .table)) (fieldsOf c) n && sidesAgree (σ .table) c n) _ _ (e₈ .1) in
-    let e₁₀ = require-passed (isNew (σ .table) c n) _ _ (e₉ .1) in
-    let e₁₁ = bind-passed (effect (σ .table) (e₅ .0) c n) _ (e₁₀ .1) in
-    record {
-      tree = e₅ .0;
-      result = e₁₁ .0;
-      treeOpen = requireOpen-passed (σ .status) (e₅ .1);
-      unusedZero = e₆ .0;
-      room = e₇ .0;
-      terms = e₈ .0;
-      sorts = e₉ .0;
-      new = e₁₀ .0;
-      effected = e₁₁ .1;
-      after = passed-injective (e₁₁ .2);
-    }
+pub term-passed : {table′ : Table} (table : Table) (w : Word) (n : Four ℕ) → termLine table w n ≡ passed table′ → TermPassed table w n table′
+unfolding termLine
+term-passed table w n e =
+    let e₆ = require-passed (every zeroIfUnused (wordFields w) n) _ _ e in
+    let e₇ = require-passed (ltb (length table) maxTerms) _ _ (e₆ .1) in
+    let e₈ = require-passed (every (termOrName table) (wordFields w) n) _ _ (e₇ .1) in
+    let e₉ = require-passed (every (ofSort table) (wordFields w) n) _ _ (e₈ .1) in
+    let e₁₀ = require-passed (isNew table (written w n)) _ _ (e₉ .1) in
+    record { unusedZero = e₆ .0; room = e₇ .0; terms = e₈ .0; sorts = e₉ .0; new = e₁₀ .0; after = sym (passed-injective (e₁₀ .1)) }
+
+-- an A line
+pub literal-passed : {l : Literal} (table : Table) (R : Relation) (n : Four ℕ) → literalLine table R n ≡ passed l → l ≡ literal R (n .a) (n .b)
+unfolding literalLine
+literal-passed table R n e =
+    let e₆ = require-passed (every zeroIfUnused (sides R) n) _ _ e in
+    let e₈ = require-passed (every (termOrName table) (sides R) n) _ _ (e₆ .1) in
+    let e₉ = require-passed (every (ofSort table) (sides R) n && oneSort R (sortOf (at table (n .a))) (sortOf (at table (n .b)))) _ _ (e₈ .1) in
+    sym (passed-injective (e₉ .1))
+
+-- an S line
+pub record StepPassed (table : Table) (τ : Tree) (x : Rule) (n : Four ℕ) (s : Status) : Type 0 where
+  pub sorts : every (ofSort table) (ruleUses x) n ≡ true
+  pub adds : List (List Literal)
+  pub concluded : alternatives table (τ .branch) x n ≡ passed adds
+  pub after : grown τ adds ≡ passed s
+
+step-passed : {ks : List (List Literal)} {s : Status} (table : Table) (τ : Tree) (x : Rule) (n : Four ℕ) → stepLine table (τ .branch) x n ≡ passed ks
+    → grown τ ks ≡ passed s → StepPassed table τ x n s
+unfolding stepLine
+step-passed {ks} table τ x n e g =
+    let e₆ = require-passed (every zeroIfUnused (ruleUses x) n) _ _ e in
+    let e₈ = require-passed (every (termOrName table) (ruleUses x) n) _ _ (e₆ .1) in
+    let e₉ = require-passed (every (ofSort table) (ruleUses x) n) _ _ (e₈ .1) in
+    record { sorts = e₉ .0; adds = ks; concluded = e₉ .1; after = g }
+
+-- WHAT A LINE THAT PASSED DID, by what it asks for
+abbrev pub Did : State → Tree → Command → Four ℕ → State → Type 0
+Did σ τ (make w) n σ′ = TermPassed (σ .table) w n (σ′ .table) × (σ′ .status ≡ isOpen τ)
+Did σ τ (assume R) n σ′ = (σ′ .table ≡ σ .table) × (σ′ .status ≡ isOpen (record { branch = τ .branch ++ (literal R (n .a) (n .b) ∷ []); waiting = τ .waiting }))
+Did σ τ (infer x) n σ′ = (σ′ .table ≡ σ .table) × StepPassed (σ .table) τ x n (σ′ .status)
+
+abbrev pub letterOf : Command → Letter
+letterOf (make w) = Letter.T
+letterOf (assume R) = Letter.A
+letterOf (infer x) = Letter.S
+
+pub record Ran (σ : State) (τ : Tree) (c : Command) (n : Four ℕ) (σ′ : State) : Type 0 where
+  pub did : Did σ τ c n σ′
+  pub letter : σ′ .letter ≡ letterOf c
+  pub counts : σ′ .counts ≡ counted (σ .counts) c
+
+-- a fact of the state after a line, from the record that it is
+after-line : {σ σ′ : State} {τ : Tree} {c : Command} {n : Four ℕ} → passed σ ≡ passed σ′ → {σ₀ : State} → Ran σ₀ τ c n σ → Ran σ₀ τ c n σ′
+after-line {σ} {σ′} {τ} {c} {n} e {σ₀} r = subst (Ran σ₀ τ c n) (passed-injective e) r
+
+ran : {σ′ : State} (σ : State) (τ : Tree) (c : Command) (n : Four ℕ) → runOpen σ τ c n ≡ passed σ′ → Ran σ τ c n σ′
+unfolding runOpen assumed
+ran σ τ (make w) n e =
+    let t = bind-passed (termLine (σ .table) w n) _ e in
+    after-line (t .2) (record { did = (term-passed (σ .table) w n (t .1), refl); letter = refl; counts = refl })
+ran σ τ (assume R) n e =
+    let l = bind-passed (literalLine (σ .table) R n) _ e in
+    let t = bind-passed (assumed τ (l .0)) _ (l .2) in
+    let r = require-passed (ltb (length (τ .branch)) maxPlaces) _ _ (t .1) in
+    let s = sym (passed-injective (r .1)) ∙ ap (λ (k : Literal). record { branch = τ .branch ++ (k ∷ []); waiting = τ .waiting }) (literal-passed (σ .table) R n (l .1)) in
+    after-line (t .2) (record { did = (refl, ap isOpen s); letter = refl; counts = refl })
+ran σ τ (infer x) n e =
+    let k = bind-passed (stepLine (σ .table) (τ .branch) x n) _ e in
+    let s = bind-passed (grown τ (k .0)) _ (k .2) in
+    after-line (s .2) (record { did = (refl, step-passed (σ .table) τ x n (k .1) (s .1)); letter = refl; counts = refl })
 
 pub record LinePassed (σ : State) (bs : List ℕ) (σ′ : State) : Type 0 where
   pub line : Line
   pub command : Command
+  pub tree : Tree
   pub shaped : shape bs ≡ some line
   pub ordered : inOrder (σ .letter) (line .letter) ≡ true
   pub known : commandOf (line .letter) (line .word) ≡ some command
-  pub ran : CommandPassed σ (line .letter) command (line .fields) σ′
+  pub treeOpen : σ .status ≡ isOpen tree
+  pub run : Ran σ tree command (line .fields) σ′
 
 pub line-passed : {σ′ : State} (σ : State) (bs : List ℕ) → runLine σ bs ≡ passed σ′ → LinePassed σ bs σ′
-unfolding runLine
+unfolding runRead
 line-passed σ bs e =
     let e₂ = requireSome-passed (shape bs) _ _ e in
     let l = e₂ .0 in
     let e₃ = require-passed (inOrder (σ .letter) (l .letter)) _ _ (e₂ .2) in
     let e₄ = requireSome-passed (commandOf (l .letter) (l .word)) _ _ (e₃ .1) in
-    record { line = l; command = e₄ .0; shaped = e₂ .1; ordered = e₃ .0; known = e₄ .1; ran = command-passed σ (l .letter) (e₄ .0) (l .fields) (e₄ .2) }
+    let e₅ = bind-passed (requireOpen (σ .status)) _ (e₄ .2) in
+    record {
+      line = l;
+      command = e₄ .0;
+      tree = e₅ .0;
+      shaped = e₂ .1;
+      ordered = e₃ .0;
+      known = e₄ .1;
+      treeOpen = requireOpen-passed (σ .status) (e₅ .1);
+      run = ran σ (e₅ .0) (e₄ .0) (l .fields) (e₅ .2);
+    }
 
 -- lines that pass one after the other, with the states before and after them
 pub data Run : State → List (List ℕ) → State → Type 0 where
@@ -163,7 +228,7 @@ pub verdict-cases : (P : Verdict → Type 0) (file : List ℕ) → P (refuse Rea
 unfolding verdict
 verdict-cases P file p q = go (leb (length file) maxBytes)
   where
-    go : (b : Bool) → P (elim b [ true ↦ runLines (split LF file) 0 (passed start) | false ↦ refuse Reason.TooLong 0 ])
+    go : (b : Bool) → P (verdictIf b file)
     go true = q
     go false = p
 

@@ -11,12 +11,12 @@ use Rattle.tableau.specs.declared.Letter.{Letter}
 use Rattle.tableau.specs.declared.Rule.{Rule}
 use Rattle.tableau.specs.declared.Reason.{Reason}
 use Rattle.tableau.specs.Basics.{Four, bytes, sameBytes, lookup}
-use Rattle.tableau.specs.File.{Line, shape, split, LF}
-use Rattle.tableau.specs.Terms.{Table, words, relations}
-use Rattle.tableau.specs.Rules.{rule, ruleNames}
-use Rattle.tableau.specs.Tree.{Checked, refused, passed, _>>=_, _>>_, require, requireSome, Tree, Status, isOpen, isClosed, step}
-use Rattle.tableau.specs.Reply.{reasonNumber, Command, make, assume, infer, commandOf, Counts, State, start, rank, requireOpen, isClosing, counted}
-use Rattle.tableau.specs.Reply.{effect, runCommand, runLine, Verdict, accept, refuse, atEnd, runLines, verdict, replyOf, reply}
+use Rattle.tableau.specs.File.{Line, rank, shape, split, LF}
+use Rattle.tableau.specs.Words.{words, relations, ruleNames, Command, make, assume, infer, commandOf}
+use Rattle.tableau.specs.Rules.{rule}
+use Rattle.tableau.specs.Tree.{Checked, refused, passed, _>>=_, _>>_, require, requireSome, Tree, Status, isOpen, isClosed, alternatives, grown}
+use Rattle.tableau.specs.Reply.{reasonNumber, Counts, State, start, requireOpen, termLine, literalLine, assumed, stepLine, isClosing, counted}
+use Rattle.tableau.specs.Reply.{runOpen, runRead, runLine, Verdict, accept, refuse, atEnd, runLines, verdict, replyOf, reply}
 use Rattle.tableau.specs.Claims.{hasLetter, closesBranch, countIf, CountsOf, RightCounts}
 use Rattle.tableau.proofs.Bools.{both-true}
 use Rattle.tableau.proofs.Checks.{lookup-agree, some-of-some, LinePassed, Run, done, next, Accepted, verdict-cases, file-accepted}
@@ -55,7 +55,7 @@ adds-each k l c = go (l .letter)
 module _ (count : Counts → ℕ) (test : Option Line → Bool)
     (adds : (k : Counts) (l : Line) (c : Command) → commandOf (l .letter) (l .word) ≡ some c → Adds count test k l c) where
   line-count : {σ σ′ : State} {l : List ℕ} → LinePassed σ l σ′ → count (σ′ .counts) ≡ increase (test (shape l)) (count (σ .counts))
-  line-count {σ} p = rw (← p .ran .after, p .shaped) (adds (σ .counts) (p .line) (p .command) (p .known))
+  line-count {σ} p = rw (p .run .counts, p .shaped) (adds (σ .counts) (p .line) (p .command) (p .known))
 
   run-count : {σ τ : State} {ls : List (List ℕ)} → Run σ ls τ → count (τ .counts) ≡ count (σ .counts) + countIf test ls
   unfolding countIf
@@ -107,22 +107,26 @@ requireSome-range : {A B : Type 0} (o : Option A) (r : Reason) (k : A → Checke
 requireSome-range none r k h t = h
 requireSome-range (some x) r k h t = t x
 
+requireSome-last : {A : Type 0} (o : Option A) (r : Reason) → InRange r → CheckInRange (requireSome o r)
+requireSome-last none r h = h
+requireSome-last (some x) r h = tt
+
 requireOpen-range : (s : Status) → CheckInRange (requireOpen s)
 unfolding reasonNumber
 requireOpen-range (isOpen τ) = tt
 requireOpen-range isClosed = refl
 
-ruleset range = (bind-range, require-range, requireSome-range, requireOpen-range)
+ruleset range = (bind-range, require-range, requireSome-range, requireSome-last, requireOpen-range)
 
-effect-range : (table : Table) (τ : Tree) (c : Command) (n : Four ℕ) → CheckInRange (effect table τ c n)
-unfolding effect step reasonNumber
-effect-range table τ (make w) n = tt
-effect-range table τ (assume R) n = search range
-effect-range table τ (infer x) n = search range depth 10
+step-range : (σ : State) (τ : Tree) (c : Command) (n : Four ℕ) → CheckInRange (runOpen σ τ c n)
+unfolding runOpen termLine literalLine assumed stepLine alternatives grown reasonNumber
+step-range σ τ (make w) n = search range depth 12
+step-range σ τ (assume R) n = search range depth 12
+step-range σ τ (infer x) n = search range depth 12
 
 line-range : (σ : State) (bs : List ℕ) → CheckInRange (runLine σ bs)
-unfolding runLine runCommand reasonNumber
-line-range σ bs = search (range, effect-range) depth 12
+unfolding runRead reasonNumber
+line-range σ bs = search (range, step-range) depth 12
 
 end-range : (σ : State) (s : Status) (i : ℕ) → VerdictInRange (atEnd σ s i)
 unfolding reasonNumber

@@ -5,17 +5,14 @@ use native.Mathlib.Nat.{not-suc-le-zero, le-of-suc-le-suc, lt-suc-self, le-trans
 use Rattle.tableau.specs.declared.Sort.{Sort}
 use Rattle.tableau.specs.declared.Operator.{Operator}
 use Rattle.tableau.specs.Basics.{Four, four}
-use Rattle.tableau.specs.Terms.{TermNo, Name, Term, variable, apply, Use, unused, place, name, side, term, of, arguments, ifTerm, layer, toDepth, fold}
+use Rattle.tableau.specs.Fields.{Argument, unused, of, arguments, ifArgument}
+use Rattle.tableau.specs.Terms.{TermNo, Name, Term, variable, apply, layer, toDepth, fold}
 use Rattle.tableau.proofs.WellFormed.{OkArgument, OkTerm, WellFormed}
 
 -- two functions that agree below t agree at the arguments of term t
-pub argument-same : {A : Type 0} {f f′ : TermNo → A} (z : A) (table : TermNo → Term) (t : TermNo) (k : Use) (n : ℕ) → OkArgument table t k n
-    → ((m : ℕ) → m < t → f m ≡ f′ m) → ifTerm k (f n) z ≡ ifTerm k (f′ n) z
+pub argument-same : {A : Type 0} {f f′ : TermNo → A} (z : A) (table : TermNo → Term) (t : TermNo) (k : Argument) (n : ℕ) → OkArgument table t k n
+    → ((m : ℕ) → m < t → f m ≡ f′ m) → ifArgument k (f n) z ≡ ifArgument k (f′ n) z
 argument-same z table t unused n ok e = refl
-argument-same z table t place n ok e = refl
-argument-same z table t name n ok e = refl
-argument-same z table t side n ok e = refl
-argument-same z table t term n ok e = e n ok
 argument-same z table t (of s) n ok e = e n (ok .0)
 
 module _ {A : Type 0} (onVariable : TermNo → Sort → Name → A) (onApply : TermNo → Operator → Four A → A) (z : A)

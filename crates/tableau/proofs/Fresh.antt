@@ -10,7 +10,8 @@ use borrow.Author.Tests.{eqb-true}
 use Rattle.tableau.specs.declared.Sort.{Sort}
 use Rattle.tableau.specs.declared.Operator.{Operator}
 use Rattle.tableau.specs.Basics.{Four, four}
-use Rattle.tableau.specs.Terms.{TermNo, Name, Term, variable, apply, Literal, literal, Use, unused, place, name, side, term, of, arguments, sortOf, sameSort, sameRelation, ifTerm, layer, toDepth, fold, mentions, mentionedIn, mentioned}
+use Rattle.tableau.specs.Fields.{Argument, unused, of, arguments, ifArgument}
+use Rattle.tableau.specs.Terms.{TermNo, Name, Term, variable, apply, Literal, literal, sortOf, sameSort, sameRelation, layer, toDepth, fold, mentions, mentionedIn, mentioned}
 use Rattle.tableau.specs.Meaning.{FiniteHeap, Ref, Value, reference, operation, Values, valueOf, value, Holds, AllTrue}
 use Rattle.tableau.specs.Rules.{Pattern, letter, operator, –, LiteralPattern, pattern, Need, p∶, q∶, t≐, isRegion, letterT, letterW}
 use Rattle.tableau.specs.Steps.{Letters, fitsLetter, fits, fitsLiteral, termOf, met}
@@ -24,20 +25,16 @@ abbrev pub withRfv : {H : FiniteHeap} → Values H → Name → Ref H → Values
 withRfv ρ n x = record { rfv = λ m. cond (eqb m n) x (ρ .rfv m); rgv = ρ .rgv; arv = ρ .arv; fnv = ρ .fnv; clv = ρ .clv }
 
 -- none of four fields that are terms passes a test
-none-of-four : (k : Four Use) (m : Four Bool) → (ifTerm (k .a) (m .a) false || (ifTerm (k .b) (m .b) false || (ifTerm (k .c) (m .c) false || ifTerm (k .d) (m .d) false))) ≡ false
-    → (ifTerm (k .a) (m .a) false ≡ false) × (ifTerm (k .b) (m .b) false ≡ false) × (ifTerm (k .c) (m .c) false ≡ false) × (ifTerm (k .d) (m .d) false ≡ false)
+none-of-four : (k : Four Argument) (m : Four Bool) → (ifArgument (k .a) (m .a) false || (ifArgument (k .b) (m .b) false || (ifArgument (k .c) (m .c) false || ifArgument (k .d) (m .d) false))) ≡ false
+    → (ifArgument (k .a) (m .a) false ≡ false) × (ifArgument (k .b) (m .b) false ≡ false) × (ifArgument (k .c) (m .c) false ≡ false) × (ifArgument (k .d) (m .d) false ≡ false)
 none-of-four k m h =
-    let h₁ = both-false (ifTerm (k .a) (m .a) false) _ h .1 in
-    let h₂ = both-false (ifTerm (k .b) (m .b) false) _ h₁ .1 in
-    (both-false _ _ h .0, both-false (ifTerm (k .b) (m .b) false) _ h₁ .0, both-false (ifTerm (k .c) (m .c) false) _ h₂ .0, both-false (ifTerm (k .c) (m .c) false) _ h₂ .1)
+    let h₁ = both-false (ifArgument (k .a) (m .a) false) _ h .1 in
+    let h₂ = both-false (ifArgument (k .b) (m .b) false) _ h₁ .1 in
+    (both-false _ _ h .0, both-false (ifArgument (k .b) (m .b) false) _ h₁ .0, both-false (ifArgument (k .c) (m .c) false) _ h₂ .0, both-false (ifArgument (k .c) (m .c) false) _ h₂ .1)
 
 -- where a field that is a term passes no test, two values that agree unless it does are equal
-field-same : {A : Type 0} {x y : A} (z : A) (k : Use) (b : Bool) → ifTerm k b false ≡ false → (b ≡ false → x ≡ y) → ifTerm k x z ≡ ifTerm k y z
+field-same : {A : Type 0} {x y : A} (z : A) (k : Argument) (b : Bool) → ifArgument k b false ≡ false → (b ≡ false → x ≡ y) → ifArgument k x z ≡ ifArgument k y z
 field-same z unused b h e = refl
-field-same z place b h e = refl
-field-same z name b h e = refl
-field-same z side b h e = refl
-field-same z term b h e = e h
 field-same z (of s) b h e = e h
 
 module _ (table : TermNo → Term) (wf : WellFormed table) (w : TermNo) (n : Name) (is-w : table w ≡ variable Sort.Reference n) where
@@ -52,8 +49,8 @@ module _ (table : TermNo → Term) (wf : WellFormed table) (w : TermNo) (n : Nam
 
   -- a term without w has arguments without w
   pub not-in-arguments : (t : TermNo) (o : Operator) (k : Four TermNo) → table t ≡ apply o k → NotIn t
-      → (ifTerm (arguments o .a) (mentions table w (k .a)) false ≡ false) × (ifTerm (arguments o .b) (mentions table w (k .b)) false ≡ false)
-      × (ifTerm (arguments o .c) (mentions table w (k .c)) false ≡ false) × (ifTerm (arguments o .d) (mentions table w (k .d)) false ≡ false)
+      → (ifArgument (arguments o .a) (mentions table w (k .a)) false ≡ false) × (ifArgument (arguments o .b) (mentions table w (k .b)) false ≡ false)
+      × (ifArgument (arguments o .c) (mentions table w (k .c)) false ≡ false) × (ifArgument (arguments o .d) (mentions table w (k .d)) false ≡ false)
   unfolding mentions layer
   not-in-arguments t o k e h =
       let m : TermNo → Bool = mentions table w in
@@ -143,13 +140,9 @@ module _ (table : TermNo → Term) (wf : WellFormed table) (w : TermNo) (n : Nam
       go (inr p) = h y m q (ap (λ b. cond b (some k) (σ y)) (sym p) ∙ eq)
   letter-clean (some j) z k σ σ′ e c h y m q s = same-clean σ σ′ (some-inj (guard-inv (eqb j k) (some σ) e .1)) h y m q s
 
-  field-clean : (fld : Use) (m : Option Letters) (t : TermNo) (σ σ′ : Letters) → ifTerm fld m (some σ) ≡ some σ′ → ifTerm fld (mentions table w t) false ≡ false
+  field-clean : (fld : Argument) (m : Option Letters) (t : TermNo) (σ σ′ : Letters) → ifArgument fld m (some σ) ≡ some σ′ → ifArgument fld (mentions table w t) false ≡ false
       → (m ≡ some σ′ → NotIn t → Clean σ → Clean σ′) → Clean σ → Clean σ′
   field-clean unused m t σ σ′ e c k h = same-clean σ σ′ (some-inj e) h
-  field-clean place m t σ σ′ e c k h = same-clean σ σ′ (some-inj e) h
-  field-clean name m t σ σ′ e c k h = same-clean σ σ′ (some-inj e) h
-  field-clean side m t σ σ′ e c k h = same-clean σ σ′ (some-inj e) h
-  field-clean term m t σ σ′ e c k h = k e c h
   field-clean (of s) m t σ σ′ e c k h = k e c h
 
   fits-clean : (k : Pattern) (t : TermNo) (σ σ′ : Letters) → fits table k t σ ≡ some σ′ → NotIn t → Clean σ → Clean σ′

@@ -1,6 +1,7 @@
 pub mod Evaluate
 pub mod Computed
 pub mod Bools
+pub mod Places
 pub mod WellFormed
 pub mod Fold
 pub mod Values

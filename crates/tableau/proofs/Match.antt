@@ -12,7 +12,8 @@ use Rattle.tableau.specs.declared.Sort.{Sort}
 use Rattle.tableau.specs.declared.Operator.{Operator}
 use Rattle.tableau.specs.declared.Relation.{Relation}
 use Rattle.tableau.specs.Basics.{Four, four}
-use Rattle.tableau.specs.Terms.{TermNo, Term, variable, apply, Literal, literal, Use, unused, place, name, side, term, of, arguments, result, sortOf, sortIndex, operatorIndex, relationIndex, sameSort, sameOperator, sameRelation, ifTerm, layer}
+use Rattle.tableau.specs.Fields.{Argument, unused, of, argumentUse, arguments, ifArgument}
+use Rattle.tableau.specs.Terms.{TermNo, Term, variable, apply, Literal, literal, result, sortOf, sortIndex, operatorIndex, relationIndex, sameSort, sameOperator, sameRelation, layer}
 use Rattle.tableau.specs.Meaning.{FiniteHeap, Value, reference, operation, Values, valueOf, value, Holds, True}
 use Rattle.tableau.specs.Rules.{Pattern, letter, operator, –, LiteralPattern, pattern, Need, p∶, q∶, t≐, isRegion, letterT}
 use Rattle.tableau.specs.Steps.{Letters, fitsLetter, argumentsOf, fits, fitsLiteral, termOf, met}
@@ -20,7 +21,7 @@ use Rattle.tableau.proofs.Bools.{dec, eqb-same, none≢some, some-inj, 
 use Rattle.tableau.proofs.WellFormed.{OkArgument, OkTerm, WellFormed}
 use Rattle.tableau.proofs.Fold.{fold-eq}
 use Rattle.tableau.proofs.Values.{kind}
-use Rattle.tableau.proofs.RowMeaning.{⟦_⟧, Asked, IfTerm, Sorted, IfHolds, IfMet}
+use Rattle.tableau.proofs.RowMeaning.{⟦_⟧, Asked, IfArgument, Sorted, IfHolds, IfMet}
 
 -- operators, relations and sorts are equal where their indices are
 operator-at : ℕ → Operator
@@ -81,13 +82,9 @@ arguments-inv o (apply o′ k′) k e =
     λ i. apply (sym (same-operator o o′ (g .0)) i) (some-inj (g .1) i)
 
 -- a field that is no term leaves the letters as they are
-pub if-term-inv : (fld : Use) (m : Option Letters) (σ σ′ : Letters) → ifTerm fld m (some σ) ≡ some σ′ → (m ≡ some σ′) ⊎ (σ ≡ σ′)
-if-term-inv unused m σ σ′ e = inr (some-inj e)
-if-term-inv place m σ σ′ e = inr (some-inj e)
-if-term-inv name m σ σ′ e = inr (some-inj e)
-if-term-inv side m σ σ′ e = inr (some-inj e)
-if-term-inv term m σ σ′ e = inl e
-if-term-inv (of s) m σ σ′ e = inl e
+pub if-argument-inv : (fld : Argument) (m : Option Letters) (σ σ′ : Letters) → ifArgument fld m (some σ) ≡ some σ′ → (m ≡ some σ′) ⊎ (σ ≡ σ′)
+if-argument-inv unused m σ σ′ e = inr (some-inj e)
+if-argument-inv (of s) m σ σ′ e = inl e
 
 -- letters bound stay bound
 abbrev pub Extends : Letters → Letters → Type 0
@@ -119,19 +116,19 @@ module _ (table : TermNo → Term) where
     pub σ₂ : Letters
     pub σ₃ : Letters
     pub is : table n ≡ apply o arguments′
-    pub first : ifTerm (arguments o .a) (fits table k (arguments′ .a) σ) (some σ) ≡ some σ₁
-    pub second : ifTerm (arguments o .b) (fits table l (arguments′ .b) σ₁) (some σ₁) ≡ some σ₂
-    pub third : ifTerm (arguments o .c) (fits table m (arguments′ .c) σ₂) (some σ₂) ≡ some σ₃
-    pub fourth : ifTerm (arguments o .d) (fits table j (arguments′ .d) σ₃) (some σ₃) ≡ some σ′
+    pub first : ifArgument (arguments o .a) (fits table k (arguments′ .a) σ) (some σ) ≡ some σ₁
+    pub second : ifArgument (arguments o .b) (fits table l (arguments′ .b) σ₁) (some σ₁) ≡ some σ₂
+    pub third : ifArgument (arguments o .c) (fits table m (arguments′ .c) σ₂) (some σ₂) ≡ some σ₃
+    pub fourth : ifArgument (arguments o .d) (fits table j (arguments′ .d) σ₃) (some σ₃) ≡ some σ′
 
   pub fields-inv : (o : Operator) (k l m j : Pattern) (n : TermNo) (σ σ′ : Letters) → fits table (operator o k l m j) n σ ≡ some σ′
       → Fields o k l m j n σ σ′
   unfolding fits
   fields-inv o k l m j n σ σ′ e =
       let i = then-inv (argumentsOf o (table n)) _ e in
-      let f = then-inv (ifTerm (arguments o .a) (fits table k (i .0 .a) σ) (some σ)) _ (i .2) in
-      let g = then-inv (ifTerm (arguments o .b) (fits table l (i .0 .b) (f .0)) (some (f .0))) _ (f .2) in
-      let h = then-inv (ifTerm (arguments o .c) (fits table m (i .0 .c) (g .0)) (some (g .0))) _ (g .2) in
+      let f = then-inv (ifArgument (arguments o .a) (fits table k (i .0 .a) σ) (some σ)) _ (i .2) in
+      let g = then-inv (ifArgument (arguments o .b) (fits table l (i .0 .b) (f .0)) (some (f .0))) _ (f .2) in
+      let h = then-inv (ifArgument (arguments o .c) (fits table m (i .0 .c) (g .0)) (some (g .0))) _ (g .2) in
       record {
         arguments′ = i .0;
         σ₁ = f .0;
@@ -144,9 +141,9 @@ module _ (table : TermNo → Term) where
         fourth = h .2;
       }
 
-  field-extends : (fld : Use) (m : Option Letters) (σ σ′ : Letters) → ifTerm fld m (some σ) ≡ some σ′
+  field-extends : (fld : Argument) (m : Option Letters) (σ σ′ : Letters) → ifArgument fld m (some σ) ≡ some σ′
       → (m ≡ some σ′ → Extends σ σ′) → Extends σ σ′
-  field-extends fld m σ σ′ e k = elim (if-term-inv fld m σ σ′ e) [ inl h ↦ k h | inr h ↦ same-extends σ σ′ h ]
+  field-extends fld m σ σ′ e k = elim (if-argument-inv fld m σ σ′ e) [ inl h ↦ k h | inr h ↦ same-extends σ σ′ h ]
 
   fits-extends : (k : Pattern) (n : TermNo) (σ σ′ : Letters) → fits table k n σ ≡ some σ′ → Extends σ σ′
   unfolding fits
@@ -193,8 +190,8 @@ module _ (table : TermNo → Term) (wf : WellFormed table) (H : FiniteHeap) (ρ 
 
   -- the value of each field of an operator's term
   abbrev pub argumentValues : Operator → Four TermNo → Four (Value H)
-  argumentValues o k = four (ifTerm (arguments o .a) (val (k .a)) nul′) (ifTerm (arguments o .b) (val (k .b)) nul′)
-      (ifTerm (arguments o .c) (val (k .c)) nul′) (ifTerm (arguments o .d) (val (k .d)) nul′)
+  argumentValues o k = four (ifArgument (arguments o .a) (val (k .a)) nul′) (ifArgument (arguments o .b) (val (k .b)) nul′)
+      (ifArgument (arguments o .c) (val (k .c)) nul′) (ifArgument (arguments o .d) (val (k .d)) nul′)
 
   abbrev look : Term → TermNo → Value H
   look e t = layer (λ t. valueOf ρ) (λ t. operation H) nul′ table t e val
@@ -226,18 +223,14 @@ module _ (table : TermNo → Term) (wf : WellFormed table) (H : FiniteHeap) (ρ 
   Fits k n φ = (val n ≡ ⟦_⟧ H k φ) × Sorted H k φ
 
   -- the same of a field, which may be no term
-  abbrev FieldFits : Use → Pattern → TermNo → (ℕ → Value H) → Type 0
-  FieldFits fld k n φ = (ifTerm fld (val n) nul′ ≡ ifTerm fld (⟦_⟧ H k φ) nul′)
-      × Asked H fld (⟦_⟧ H k φ) × IfTerm H fld (Sorted H k φ)
+  abbrev FieldFits : Argument → Pattern → TermNo → (ℕ → Value H) → Type 0
+  FieldFits fld k n φ = (ifArgument fld (val n) nul′ ≡ ifArgument fld (⟦_⟧ H k φ) nul′)
+      × Asked H (argumentUse fld) (⟦_⟧ H k φ) × IfArgument H fld (Sorted H k φ)
 
-  field-fits : (fld : Use) (k : Pattern) (t n : TermNo) (σ σ′ : Letters) (φ : ℕ → Value H) → OkArgument table t fld n
-      → ifTerm fld (fits table k n σ) (some σ) ≡ some σ′ → (fits table k n σ ≡ some σ′ → Fits k n φ) → FieldFits fld k n φ
+  field-fits : (fld : Argument) (k : Pattern) (t n : TermNo) (σ σ′ : Letters) (φ : ℕ → Value H) → OkArgument table t fld n
+      → ifArgument fld (fits table k n σ) (some σ) ≡ some σ′ → (fits table k n σ ≡ some σ′ → Fits k n φ) → FieldFits fld k n φ
   unfolding result
   field-fits unused k t n σ σ′ φ ok e f = (refl, tt, tt)
-  field-fits place k t n σ σ′ φ ok e f = (refl, tt, tt)
-  field-fits name k t n σ σ′ φ ok e f = (refl, tt, tt)
-  field-fits side k t n σ σ′ φ ok e f = (refl, tt, tt)
-  field-fits term k t n σ σ′ φ ok e f = (f e .0, tt, f e .1)
   field-fits (of s) k t n σ σ′ φ ok e f = (f e .0, sym (ap kind (f e .0)) ∙ kind-value n ∙ ok .1, f e .1)
 
   pub fits-value : (k : Pattern) (n : TermNo) (σ σ′ : Letters) → fits table k n σ ≡ some σ′ → (φ : ℕ → Value H) → Under σ′ φ → Fits k n φ

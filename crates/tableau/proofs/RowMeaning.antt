@@ -7,17 +7,17 @@ use lib.Dec.{eqb}
 use Rattle.tableau.specs.declared.Sort.{Sort}
 use Rattle.tableau.specs.declared.Rule.{Rule}
 use Rattle.tableau.specs.Basics.{Four, four}
-use Rattle.tableau.specs.Terms.{Use, unused, place, name, side, term, of, arguments, ifTerm}
+use Rattle.tableau.specs.Fields.{Use, unused, place, name, side, term, of, Argument, argumentUse, arguments, ifArgument, ruleUses}
 use Rattle.tableau.specs.Meaning.{FiniteHeap, Ref, Value, reference, operation, Holds}
-use Rattle.tableau.specs.Rules.{Pattern, letter, operator, –, LiteralPattern, pattern, Need, p∶, q∶, t≐, isRegion, Row, Kind, rows, congruence, replacement, rule, ruleFields, letterT, letterW}
+use Rattle.tableau.specs.Rules.{Pattern, letter, operator, –, LiteralPattern, pattern, Need, p∶, q∶, t≐, isRegion, Row, Kind, rows, congruence, replacement, rule, letterT, letterW}
 use Rattle.tableau.proofs.Values.{kind}
 
 module _ (H : FiniteHeap) where
   abbrev pub ⟦_⟧ : Pattern → (ℕ → Value H) → Value H
   ⟦ letter x ⟧ φ = φ x
   ⟦ operator o k l m j ⟧ φ = operation H o (four
-      (ifTerm (arguments o .a) (⟦ k ⟧ φ) (reference (H .nul))) (ifTerm (arguments o .b) (⟦ l ⟧ φ) (reference (H .nul)))
-      (ifTerm (arguments o .c) (⟦ m ⟧ φ) (reference (H .nul))) (ifTerm (arguments o .d) (⟦ j ⟧ φ) (reference (H .nul))))
+      (ifArgument (arguments o .a) (⟦ k ⟧ φ) (reference (H .nul))) (ifArgument (arguments o .b) (⟦ l ⟧ φ) (reference (H .nul)))
+      (ifArgument (arguments o .c) (⟦ m ⟧ φ) (reference (H .nul))) (ifArgument (arguments o .d) (⟦ j ⟧ φ) (reference (H .nul))))
   ⟦ – ⟧ φ = reference (H .nul)
 
   -- the value has the sort that the field asks for
@@ -29,20 +29,16 @@ module _ (H : FiniteHeap) where
   Asked term x = Unit {0}
   Asked (of s) x = kind x ≡ s
 
-  abbrev pub IfTerm : Use → Type 0 → Type 0
-  IfTerm unused X = Unit {0}
-  IfTerm place X = Unit {0}
-  IfTerm name X = Unit {0}
-  IfTerm side X = Unit {0}
-  IfTerm term X = X
-  IfTerm (of s) X = X
+  abbrev pub IfArgument : Argument → Type 0 → Type 0
+  IfArgument unused X = Unit {0}
+  IfArgument (of s) X = X
 
   -- the arguments in a pattern have their sorts
   abbrev pub Sorted : Pattern → (ℕ → Value H) → Type 0
   Sorted (letter x) φ = Unit {0}
   Sorted (operator o k l m j) φ =
-      (Asked (arguments o .a) (⟦ k ⟧ φ) × Asked (arguments o .b) (⟦ l ⟧ φ) × Asked (arguments o .c) (⟦ m ⟧ φ) × Asked (arguments o .d) (⟦ j ⟧ φ))
-      × (IfTerm (arguments o .a) (Sorted k φ) × IfTerm (arguments o .b) (Sorted l φ) × IfTerm (arguments o .c) (Sorted m φ) × IfTerm (arguments o .d) (Sorted j φ))
+      (Asked (argumentUse (arguments o .a)) (⟦ k ⟧ φ) × Asked (argumentUse (arguments o .b)) (⟦ l ⟧ φ) × Asked (argumentUse (arguments o .c)) (⟦ m ⟧ φ) × Asked (argumentUse (arguments o .d)) (⟦ j ⟧ φ))
+      × (IfArgument (arguments o .a) (Sorted k φ) × IfArgument (arguments o .b) (Sorted l φ) × IfArgument (arguments o .c) (Sorted m φ) × IfArgument (arguments o .d) (Sorted j φ))
   Sorted – φ = Unit {0}
 
   abbrev pub IfHolds : (ℕ → Value H) → LiteralPattern → Type 0 → Type 0
@@ -94,4 +90,4 @@ module _ (H : FiniteHeap) where
   KindSound k replacement = Unit {0}
 
   abbrev pub RuleSound : Rule → Type 0
-  RuleSound x = KindSound (ruleFields x) (rule x)
+  RuleSound x = KindSound (ruleUses x) (rule x)

@@ -7,21 +7,21 @@ use borrow.Author.Tests.{not-true}
 use Rattle.tableau.specs.declared.Operator.{Operator}
 use Rattle.tableau.specs.declared.Rule.{Rule}
 use Rattle.tableau.specs.Basics.{four}
-use Rattle.tableau.specs.Terms.{arguments}
+use Rattle.tableau.specs.Fields.{arguments, ruleFields}
 use Rattle.tableau.specs.Meaning.{_and_, _or_, same, FiniteHeap, Ref, Value, reference, region, field, class, asRef, asRegion, asStore, asField, asClass, operation, isIn}
-use Rattle.tableau.specs.Rules.{rule, ruleFields}
+use Rattle.tableau.specs.Rules.{rule, letterA, letterB, letterF, letterG, letterH, letterR, letterS, letterT, letterU, letterV, letterW, letterY}
 use Rattle.tableau.proofs.Bools.{and-l, and-r, and-i, or-e, or-i1, or-i2, and-false-r, and-false-of, dec, clash}
 use Rattle.tableau.proofs.Values.{same-eq, same-refl, any-out, any-in, region-path, is-ref, is-class, as-ref, as-region, as-field, kind-class}
 use Rattle.tableau.proofs.RowMeaning.{RuleSound}
 
 module _ (H : FiniteHeap) where
   -- u in x, and t is x
-  in-t : (φ : ℕ → Value H) {x : Value H} → φ 12 ≡ x → isIn (φ 1) x ≡ true → isIn (φ 1) (φ 12) ≡ true
-  in-t φ e h = subst (λ t. isIn (φ 1) t ≡ true) (sym e) h
+  in-t : (φ : ℕ → Value H) {x : Value H} → φ letterT ≡ x → isIn (φ letterU) x ≡ true → isIn (φ letterU) (φ letterT) ≡ true
+  in-t φ e h = subst (λ t. isIn (φ letterU) t ≡ true) (sym e) h
 
   -- what is in a region is in `all`
-  in-all : (φ : ℕ → Value H) (r : Value H) → isIn (φ 1) r ≡ true → H .all (asRef (φ 1)) ≡ true
-  in-all φ r h = asRegion r .inside (asRef (φ 1)) (and-r _ _ h)
+  in-all : (φ : ℕ → Value H) (r : Value H) → isIn (φ letterU) r ≡ true → H .all (asRef (φ letterU)) ≡ true
+  in-all φ r h = asRegion r .inside (asRef (φ letterU)) (and-r _ _ h)
 
   alike : (a b : Bool) → (a ≡ true) ⊎ (a ≡ false) → (b ≡ true) ⊎ (b ≡ false) → (a ≡ true → b ≡ false → ⊥) → (a ≡ false → b ≡ true → ⊥) → a ≡ b
   alike a b (inl p) (inl q) k l = p ∙ sym q
@@ -31,22 +31,22 @@ module _ (H : FiniteHeap) where
 
   eqr : RuleSound H Rule.Eqr
   unfolding rule ruleFields
-  eqr = (λ φ _ _ _ _ e _ _ _ _ i k. k (subst (λ r. isIn (φ 1) r ≡ true) e i), tt)
+  eqr = (λ φ _ _ _ _ e _ _ _ _ i k. k (subst (λ r. isIn (φ letterU) r ≡ true) e i), tt)
 
   eql : RuleSound H Rule.Eql
   unfolding rule ruleFields
-  eql = (λ φ _ _ _ _ e _ _ _ _ i k. k (subst (λ r. isIn (φ 1) r ≡ true) (sym e) i), tt)
+  eql = (λ φ _ _ _ _ e _ _ _ _ i k. k (subst (λ r. isIn (φ letterU) r ≡ true) (sym e) i), tt)
 
   -- two regions with no member in which they differ would be equal
   ext : RuleSound H Rule.Ext
   unfolding rule ruleFields
   ext = (
     λ φ _ _ _ _ n a b k l.
-        let R = asRegion (φ 4) in
-        let S = asRegion (φ 5) in
+        let R = asRegion (φ letterR) in
+        let S = asRegion (φ letterS) in
         let go : (x : Ref H) → R .has x ≡ S .has x
         = λ x. alike _ _ (dec _) (dec _) (λ c d. k x (and-i refl c) (and-false-r _ _ d)) (λ c d. l x (and-false-r _ _ c) (and-i refl d)) in
-        n (as-region (φ 4) a ∙ ap region (region-path R S go) ∙ sym (as-region (φ 5) b)),
+        n (as-region (φ letterR) a ∙ ap region (region-path R S go) ∙ sym (as-region (φ letterS) b)),
     tt,
   )
 
@@ -62,7 +62,7 @@ module _ (H : FiniteHeap) where
   unfolding rule ruleFields operation arguments
   cpi = (
     λ φ _ _ _ _ i _ _ j _ e k.
-        k (in-t φ e (and-i (and-l _ _ i) (and-i (in-all φ (φ 4) i) (and-i (and-r _ _ i) (and-r _ _ j))))),
+        k (in-t φ e (and-i (and-l _ _ i) (and-i (in-all φ (φ letterR) i) (and-i (and-r _ _ i) (and-r _ _ j))))),
     tt,
   )
 
@@ -79,10 +79,10 @@ module _ (H : FiniteHeap) where
   cui : RuleSound H Rule.Cui
   unfolding rule ruleFields operation arguments
   cui = (
-    λ φ _ _ _ _ i _ e k. k (in-t φ e (and-i (and-l _ _ i) (and-i (in-all φ (φ 4) i) (or-i1 _ _ (and-r _ _ i))))),
+    λ φ _ _ _ _ i _ e k. k (in-t φ e (and-i (and-l _ _ i) (and-i (in-all φ (φ letterR) i) (or-i1 _ _ (and-r _ _ i))))),
     (
       (λ φ _ _ _ _ i _ e k.
-          k (in-t φ e (and-i (and-l _ _ i) (and-i (in-all φ (φ 5) i) (or-i2 (asRegion (φ 4) .has (asRef (φ 1))) _ (and-r _ _ i)))))),
+          k (in-t φ e (and-i (and-l _ _ i) (and-i (in-all φ (φ letterS) i) (or-i2 (asRegion (φ letterR) .has (asRef (φ letterU))) _ (and-r _ _ i)))))),
       tt,
     ),
   )
@@ -95,7 +95,7 @@ module _ (H : FiniteHeap) where
   unfolding rule ruleFields operation arguments
   dfi = (
     λ φ _ _ _ _ i _ _ j _ e k.
-        k (in-t φ e (and-i (and-l _ _ i) (and-i (in-all φ (φ 4) i) (and-i (and-r _ _ i) (ap not (and-false-of _ _ (and-l _ _ i) j)))))),
+        k (in-t φ e (and-i (and-l _ _ i) (and-i (in-all φ (φ letterR) i) (and-i (and-r _ _ i) (ap not (and-false-of _ _ (and-l _ _ i) j)))))),
     tt,
   )
 
@@ -103,48 +103,48 @@ module _ (H : FiniteHeap) where
   unfolding rule ruleFields operation arguments
   sge = (
     λ φ _ _ _ o i k.
-        k (is-ref (φ 1) (and-l _ _ i) ∙ ap reference (same-eq _ _ (and-r _ _ (and-r _ _ i))) ∙ sym (as-ref (φ 2) (o .0 .0))),
+        k (is-ref (φ letterU) (and-l _ _ i) ∙ ap reference (same-eq _ _ (and-r _ _ (and-r _ _ i))) ∙ sym (as-ref (φ letterV) (o .0 .0))),
     tt,
   )
 
   sgi : RuleSound H Rule.Sgi
   unfolding rule ruleFields operation arguments
   sgi = (
-    λ φ _ _ o e k l. elim (dec (isIn (φ 1) (operation H Operator.All (four (φ 1) (φ 1) (φ 1) (φ 1))))) [
+    λ φ _ _ o e k l. elim (dec (isIn (φ letterU) (operation H Operator.All (four (φ letterU) (φ letterU) (φ letterU) (φ letterU))))) [
       | inr h ↦ k h
-      | inl h ↦ l (in-t φ e (and-i (and-l _ _ h) (and-i (and-l _ _ (and-r _ _ h)) (same-refl (asRef (φ 1))))))
+      | inl h ↦ l (in-t φ e (and-i (and-l _ _ h) (and-i (and-l _ _ (and-r _ _ h)) (same-refl (asRef (φ letterU))))))
     ],
     tt,
   )
 
   cut : RuleSound H Rule.Cut
   unfolding rule ruleFields
-  cut = (λ φ _ _ k l. elim (dec (isIn (φ 12) (φ 13))) [ inl h ↦ k h | inr h ↦ l h ], tt)
+  cut = (λ φ _ _ k l. elim (dec (isIn (φ letterT) (φ letterW))) [ inl h ↦ k h | inr h ↦ l h ], tt)
 
   all : RuleSound H Rule.All
   unfolding rule ruleFields operation
-  all = (λ φ _ _ _ _ i k. k (and-i (and-l _ _ i) (and-i (in-all φ (φ 4) i) refl)), tt)
+  all = (λ φ _ _ _ _ i k. k (and-i (and-l _ _ i) (and-i (in-all φ (φ letterR) i) refl)), tt)
 
   nul : RuleSound H Rule.Nul
   unfolding rule ruleFields operation
-  nul = (λ φ _ _ _ _ i k. k (λ e. clash (in-all φ (φ 4) i) (ap (λ a. H .all (asRef a)) e ∙ H .all-nul)), tt)
+  nul = (λ φ _ _ _ _ i k. k (λ e. clash (in-all φ (φ letterR) i) (ap (λ a. H .all (asRef a)) e ∙ H .all-nul)), tt)
 
   sep : RuleSound H Rule.Sep
   unfolding rule ruleFields
-  sep = (λ φ _ _ _ _ i _ _ j k. k (λ e. clash (subst (λ a. isIn a (φ 4) ≡ true) e i) j), tt)
+  sep = (λ φ _ _ _ _ i _ _ j k. k (λ e. clash (subst (λ a. isIn a (φ letterR) ≡ true) e i) j), tt)
 
   -- u has no field f; or what h gives for it is not allocated; or that is in the image
   img : RuleSound H Rule.Img
   unfolding rule ruleFields operation arguments
   img = (
     λ φ _ _ _ _ i _ e k l m.
-        let read : Ref H = asStore (φ 6) (asRef (φ 1)) (asField (φ 7)) in
-        elim (dec (H .le (H .typ (asRef (φ 1))) (H .dty (asField (φ 7))))) [
+        let read : Ref H = asStore (φ letterH) (asRef (φ letterU)) (asField (φ letterF)) in
+        elim (dec (H .le (H .typ (asRef (φ letterU))) (H .dty (asField (φ letterF))))) [
           | inr h ↦ k (and-false-r _ _ h)
           | inl h ↦ elim (dec (H .all read and true)) [
             | inr g ↦ l (and-false-r _ _ g)
             | inl g ↦ m (subst (λ t. isIn (reference read) t ≡ true) (sym e)
-                (and-i refl (and-i (and-l _ _ g) (any-in (H .references) _ (asRef (φ 1)) (and-i (and-i (and-r _ _ i) h) (same-refl read))))))
+                (and-i refl (and-i (and-l _ _ g) (any-in (H .references) _ (asRef (φ letterU)) (and-i (and-i (and-r _ _ i) h) (same-refl read))))))
           ]
         ],
     tt,
@@ -157,7 +157,7 @@ module _ (H : FiniteHeap) where
         let a = any-out (H .references) _ (and-r _ _ (and-r _ _ i)) in
         let h = and-l _ _ (a .1) in
         k (a .0) (and-i refl (and-l _ _ h)) (and-i (and-i refl refl) (and-r _ _ h))
-        (ap reference (same-eq _ _ (and-r _ _ (a .1))) ∙ sym (is-ref (φ 1) (and-l _ _ i))),
+        (ap reference (same-eq _ _ (and-r _ _ (a .1))) ∙ sym (is-ref (φ letterU) (and-l _ _ i))),
     tt,
   )
 
@@ -175,7 +175,7 @@ module _ (H : FiniteHeap) where
 
   ler : RuleSound H Rule.Ler
   unfolding rule ruleFields
-  ler = (λ φ o _ k. k (and-i (and-i (kind-class (φ 12) o) (kind-class (φ 12) o)) (H .le-refl (asClass (φ 12)))), tt)
+  ler = (λ φ o _ k. k (and-i (and-i (kind-class (φ letterT) o) (kind-class (φ letterT) o)) (H .le-refl (asClass (φ letterT)))), tt)
 
   let′ : RuleSound H Rule.Let
   unfolding rule ruleFields
@@ -189,7 +189,7 @@ module _ (H : FiniteHeap) where
   unfolding rule ruleFields
   lea = (
     λ φ _ _ _ _ i _ _ j k.
-        k (is-class (φ 9) (and-l _ _ (and-l _ _ i)) ∙ ap class (H .le-anti _ _ (and-r _ _ i) (and-r _ _ j)) ∙ sym (is-class (φ 10) (and-r _ _ (and-l _ _ i)))),
+        k (is-class (φ letterA) (and-l _ _ (and-l _ _ i)) ∙ ap class (H .le-anti _ _ (and-r _ _ i) (and-r _ _ j)) ∙ sym (is-class (φ letterB) (and-r _ _ (and-l _ _ i)))),
     tt,
   )
 
@@ -197,18 +197,18 @@ module _ (H : FiniteHeap) where
   unfolding rule ruleFields operation arguments
   rdh = (
     λ φ _ _ o e k.
-        k (e ∙ ap reference (ap (λ b. cond b (asRef (φ 2)) (asStore (φ 6) (asRef (φ 1)) (asField (φ 7)))) (and-i (same-refl (asRef (φ 1))) (same-refl (asField (φ 7)))))
-        ∙ sym (as-ref (φ 2) (o .1 .0 .0 .3))),
+        k (e ∙ ap reference (ap (λ b. cond b (asRef (φ letterV)) (asStore (φ letterH) (asRef (φ letterU)) (asField (φ letterF)))) (and-i (same-refl (asRef (φ letterU))) (same-refl (asField (φ letterF)))))
+        ∙ sym (as-ref (φ letterV) (o .1 .0 .0 .3))),
     tt,
   )
 
   rdm : RuleSound H Rule.Rdm
   unfolding rule ruleFields operation arguments
   rdm = (
-    λ φ _ _ o e k l. elim (dec (same (asRef (φ 1)) (asRef (φ 3)) and same (asField (φ 7)) (asField (φ 8)))) [
-      | inl h ↦ k (as-ref (φ 1) (o .1 .0 .0 .1) ∙ ap reference (same-eq _ _ (and-l _ _ h)) ∙ sym (as-ref (φ 3) (o .0 .1)))
-          (as-field (φ 7) (o .1 .0 .0 .2) ∙ ap field (same-eq _ _ (and-r _ _ h)) ∙ sym (as-field (φ 8) (o .0 .2)))
-      | inr h ↦ l (e ∙ ap reference (ap (λ b. cond b (asRef (φ 2)) (asStore (φ 6) (asRef (φ 3)) (asField (φ 8)))) h))
+    λ φ _ _ o e k l. elim (dec (same (asRef (φ letterU)) (asRef (φ letterY)) and same (asField (φ letterF)) (asField (φ letterG)))) [
+      | inl h ↦ k (as-ref (φ letterU) (o .1 .0 .0 .1) ∙ ap reference (same-eq _ _ (and-l _ _ h)) ∙ sym (as-ref (φ letterY) (o .0 .1)))
+          (as-field (φ letterF) (o .1 .0 .0 .2) ∙ ap field (same-eq _ _ (and-r _ _ h)) ∙ sym (as-field (φ letterG) (o .0 .2)))
+      | inr h ↦ l (e ∙ ap reference (ap (λ b. cond b (asRef (φ letterV)) (asStore (φ letterH) (asRef (φ letterY)) (asField (φ letterG)))) h))
     ],
     tt,
   )

@@ -15,9 +15,10 @@ use Rattle.tableau.specs.declared.Operator.{Operator}
 use Rattle.tableau.specs.declared.Relation.{Relation}
 use Rattle.tableau.specs.declared.Rule.{Rule}
 use Rattle.tableau.specs.Basics.{Four, four}
-use Rattle.tableau.specs.Terms.{TermNo, Table, Term, variable, apply, Literal, literal, Use, unused, place, name, side, term, of, at, numberFrom, numberOf, arguments, ifTerm, sameTerm, sameSort, sameOperator, sameRelation, mentions, mentionedIn, mentioned}
+use Rattle.tableau.specs.Fields.{Use, Argument, unused, of, arguments, ifArgument, ruleUses}
+use Rattle.tableau.specs.Terms.{TermNo, Table, Term, variable, apply, Literal, literal, at, numberFrom, numberOf, sameTerm, sameSort, sameOperator, sameRelation, mentions, mentionedIn, mentioned}
 use Rattle.tableau.specs.Meaning.{FiniteHeap, Ref, Value, reference, operation, Values, value, Holds, True, AllTrue}
-use Rattle.tableau.specs.Rules.{Pattern, letter, operator, –, LiteralPattern, pattern, Need, Row, Kind, rows, congruence, replacement, rule, ruleFields, letterT, letterW}
+use Rattle.tableau.specs.Rules.{Pattern, letter, operator, –, LiteralPattern, pattern, Need, Row, Kind, rows, congruence, replacement, rule, letterT, letterW}
 use Rattle.tableau.specs.Steps.{Letters, met, made, madeLiterals, madeAlternatives, isRfv, isFresh, Conclusion, addsOne, agree, takesTerms, congruent, concludeSub, concludeRep, given, orElse, concludeRows, conclude}
 use Rattle.tableau.specs.Tree.{literalAt}
 use Rattle.tableau.proofs.Bools.{every-true, both-true, both-false, one-true, dec, none≢some, some-inj, then-inv, guard-inv}
@@ -50,7 +51,7 @@ number-at i [] e j h = none≢some h
 number-at i (x ∷ xs) e j h = go (number-at (suc i) xs e j) (sameTerm e x) refl h
   where
     go : (numberFrom (suc i) xs e ≡ some j → (k : ℕ) × (j ≡ suc i + k) × (at xs (suc k) ≡ e)) → (b : Bool) → sameTerm e x ≡ b
-        → elim b [ true ↦ some i | false ↦ numberFrom (suc i) xs e ] ≡ some j → (k : ℕ) × (j ≡ i + k) × (at (x ∷ xs) (suc k) ≡ e)
+        → cond b (some i) (numberFrom (suc i) xs e) ≡ some j → (k : ℕ) × (j ≡ i + k) × (at (x ∷ xs) (suc k) ≡ e)
     go ih true q h = (0, sym (some-inj h) ∙ sym (add-zero i), sym (same-term e x q))
     go ih false q h = let r = ih h in (suc (r .0), r .1 ∙ shift i (r .0), r .2)
 
@@ -77,24 +78,20 @@ module _ (table : Table) (wf : WellFormed (at table)) (H : FiniteHeap) where
     under σ x m e = ap letterValue e
 
     -- the value of a field of a term that is made
-    field-made : (fld : Use) (k : Pattern) (σ : Letters) (n : TermNo) → ifTerm fld (made table k σ) (some 0) ≡ some n
+    field-made : (fld : Argument) (k : Pattern) (σ : Letters) (n : TermNo) → ifArgument fld (made table k σ) (some 0) ≡ some n
         → (made table k σ ≡ some n → value ρ (at table) n ≡ ⟦_⟧ H k (φ σ))
-        → ifTerm fld (value ρ (at table) n) (reference (H .nul)) ≡ ifTerm fld (⟦_⟧ H k (φ σ)) (reference (H .nul))
+        → ifArgument fld (value ρ (at table) n) (reference (H .nul)) ≡ ifArgument fld (⟦_⟧ H k (φ σ)) (reference (H .nul))
     field-made unused k σ n e f = refl
-    field-made place k σ n e f = refl
-    field-made name k σ n e f = refl
-    field-made side k σ n e f = refl
-    field-made term k σ n e f = f e
     field-made (of s) k σ n e f = f e
 
     made-value : (k : Pattern) (σ : Letters) (n : TermNo) → made table k σ ≡ some n → value ρ (at table) n ≡ ⟦_⟧ H k (φ σ)
     unfolding made
     made-value (letter x) σ n e = sym (under σ x n e)
     made-value (operator o k l m j) σ n e =
-        let a = then-inv (ifTerm (arguments o .a) (made table k σ) (some 0)) _ e in
-        let b = then-inv (ifTerm (arguments o .b) (made table l σ) (some 0)) _ (a .2) in
-        let c = then-inv (ifTerm (arguments o .c) (made table m σ) (some 0)) _ (b .2) in
-        let d = then-inv (ifTerm (arguments o .d) (made table j σ) (some 0)) _ (c .2) in
+        let a = then-inv (ifArgument (arguments o .a) (made table k σ) (some 0)) _ e in
+        let b = then-inv (ifArgument (arguments o .b) (made table l σ) (some 0)) _ (a .2) in
+        let c = then-inv (ifArgument (arguments o .c) (made table m σ) (some 0)) _ (b .2) in
+        let d = then-inv (ifArgument (arguments o .d) (made table j σ) (some 0)) _ (c .2) in
         value-apply (at table) wf H ρ n o (four (a .0) (b .0) (c .0) (d .0)) (found-at table (apply o (four (a .0) (b .0) (c .0) (d .0))) n (d .2))
         ∙ (λ i. operation H o (four
         (field-made (arguments o .a) k σ (a .0) (a .1) (made-value k σ (a .0)) i) (field-made (arguments o .b) l σ (b .0) (b .1) (made-value l σ (b .0)) i)
@@ -116,17 +113,17 @@ module _ (table : Table) (wf : WellFormed (at table)) (H : FiniteHeap) where
           t,
         )))
 
-  alternatives : (ρ : Values H) (B : List Literal) → AllTrue ρ (at table) B → (ls : List (List LiteralPattern)) (σ : Letters) (ks : List (List Literal))
+  refuted-alternatives : (ρ : Values H) (B : List Literal) → AllTrue ρ (at table) B → (ls : List (List LiteralPattern)) (σ : Letters) (ks : List (List Literal))
       → madeAlternatives table ls σ ≡ some ks → Refuted table H B ks → SomeHolds H false (φ ρ σ) ls → ⊥
   unfolding madeAlternatives
-  alternatives ρ B t [] σ ks e r s = s
-  alternatives ρ B t (l ∷ ls) σ ks e r s =
+  refuted-alternatives ρ B t [] σ ks e r s = s
+  refuted-alternatives ρ B t (l ∷ ls) σ ks e r s =
       let a = then-inv (madeLiterals table l σ) _ e in
       let b = then-inv (madeAlternatives table ls σ) _ (a .2) in
       let r′ : Refuted table H B (a .0 ∷ b .0) = subst (Refuted table H B) (sym (some-inj (b .2))) r in
-      alternatives ρ B t ls σ (b .0) (b .1) (r′ .1) (s (literals-made ρ l σ (a .0) (a .1) (r′ .0 ρ t)))
+      refuted-alternatives ρ B t ls σ (b .0) (b .1) (r′ .1) (s (literals-made ρ l σ (a .0) (a .1) (r′ .0 ρ t)))
 
-  -- a fresh w: the alternatives are refuted at each value that it may take
+  -- a fresh w: the refuted-alternatives are refuted at each value that it may take
   module _ (B : List Literal) (w : TermNo) (n : ℕ) (is-w : at table w ≡ variable Sort.Reference n) (new : mentioned (at table) w B ≡ false)
       (ρ : Values H) (t : AllTrue ρ (at table) B) (σ : Letters) (σw : σ letterW ≡ some w) (clean : Clean (at table) wf w n is-w σ) where
     -- what the letters stand for, where w takes the value x
@@ -138,15 +135,15 @@ module _ (table : Table) (wf : WellFormed (at table)) (H : FiniteHeap) where
     moved x z (some m) e (inr p) = same-value (at table) wf w n is-w H ρ x m (clean z m p e)
         ∙ sym (ap (λ b. cond b (reference x) (value ρ (at table) m)) p)
 
-    alternatives-fresh : (ls : List (List LiteralPattern)) (ks : List (List Literal)) → madeAlternatives table ls σ ≡ some ks
+    refuted-alternatives-fresh : (ls : List (List LiteralPattern)) (ks : List (List Literal)) → madeAlternatives table ls σ ≡ some ks
         → Refuted table H B ks → SomeHolds H true (φ ρ σ) ls → ⊥
     unfolding madeAlternatives
-    alternatives-fresh [] ks e r s = s
-    alternatives-fresh (l ∷ ls) ks e r s =
+    refuted-alternatives-fresh [] ks e r s = s
+    refuted-alternatives-fresh (l ∷ ls) ks e r s =
         let a = then-inv (madeLiterals table l σ) _ e in
         let b = then-inv (madeAlternatives table ls σ) _ (a .2) in
         let r′ : Refuted table H B (a .0 ∷ b .0) = subst (Refuted table H B) (sym (some-inj (b .2))) r in
-        alternatives-fresh ls (b .0) (b .1) (r′ .1)
+        refuted-alternatives-fresh ls (b .0) (b .1) (r′ .1)
         (s (λ x. subst (λ (f : ℕ → Value H). CannotHold H f l) (fun-ext (λ z. moved x z (σ z) refl (dec (eqb z letterW))))
         (literals-made (withRfv ρ n x) l σ (a .0) (a .1) (r′ .0 (withRfv ρ n x) (same-branch (at table) wf w n is-w H ρ x B new t)))))
 
@@ -207,7 +204,7 @@ module _ (table : Table) (wf : WellFormed (at table)) (H : FiniteHeap) (ρ : Val
     row-sound k false ns ads s aT aw σ e f ls m r =
         let x : Extends (given false T w) σ = met-extends (at table) wf H ρ P Q ns (given false T w) σ e in
         let u = under table wf H ρ σ in
-        alternatives table wf H ρ B t ads σ ls m r
+        refuted-alternatives table wf H ρ B t ads σ ls m r
         (met-value (at table) wf H ρ P Q ns (given false T w) σ e (φ table wf H ρ σ) u (place-true B p t) (place-true B q t) _
         (s (φ table wf H ρ σ) (subst (Asked H (k .c)) (sym (u letterT T (x letterT T refl))) aT) (subst (Asked H (k .d)) (sym (u letterW w (x letterW w refl))) aw)))
     row-sound k true ns ads s aT aw σ e f ls m r =
@@ -216,17 +213,17 @@ module _ (table : Table) (wf : WellFormed (at table)) (H : FiniteHeap) (ρ : Val
         let v = fresh-inv table B w f in
         let c = met-clean (at table) wf w (v .0) (v .1) P Q (place-without w (v .0) (v .1) B p (v .2)) (place-without w (v .0) (v .1) B q (v .2))
         ns (given true T w) σ e (given-clean (v .0) (v .1)) in
-        alternatives-fresh table wf H B w (v .0) (v .1) (v .2) ρ t σ (x letterW w refl) c ads ls m r
+        refuted-alternatives-fresh table wf H B w (v .0) (v .1) (v .2) ρ t σ (x letterW w refl) c ads ls m r
         (met-value (at table) wf H ρ P Q ns (given true T w) σ e (φ table wf H ρ σ) u (place-true B p t) (place-true B q t) _
         (s (φ table wf H ρ σ) tt (subst (Asked H (k .d)) (sym (u letterW w (x letterW w refl))) aw)))
 
-    -- what a rule concludes: where its alternatives are refuted, the branch is not true
-    abbrev Concludes : Option Conclusion → Type 0
-    Concludes m = (c : Conclusion) → m ≡ some c → not (c .fresh) || isFresh table B w ≡ true
+    -- what a rule concludes: where its refuted-alternatives are refuted, the branch is not true
+    abbrev Sound : Option Conclusion → Type 0
+    Sound m = (c : Conclusion) → m ≡ some c → not (c .fresh) || isFresh table B w ≡ true
         → (ls : List (List Literal)) → c .adds ≡ some ls → Refuted table H B ls → ⊥
 
     rows-sound : (k : Four Use) → Asked H (k .c) (value ρ (at table) T) → Asked H (k .d) (value ρ (at table) w) → (Rs : List Row) → RowsSound H k Rs
-        → Concludes (concludeRows table P Q T w Rs)
+        → Sound (concludeRows table P Q T w Rs)
     unfolding concludeRows
     rows-sound k aT aw [] s c e f ls m r = none≢some e
     rows-sound k aT aw (R ∷ Rs) s c e f ls m r =
@@ -243,7 +240,7 @@ module _ (table : Table) (wf : WellFormed (at table)) (H : FiniteHeap) (ρ : Val
             (ap (λ (d : Conclusion). not (d .fresh) || isFresh table B w) c′ ∙ f) ls (ap (λ (d : Conclusion). d .adds) c′ ∙ m) r
 
     -- one literal, true
-    one-sound : (l : Literal) → True ρ (at table) l → Concludes (some (addsOne l))
+    one-sound : (l : Literal) → True ρ (at table) l → Sound (some (addsOne l))
     one-sound l h c e f ls m r =
         let q : (l ∷ []) ∷ [] ≡ ls = some-inj (ap (λ (d : Conclusion). d .adds) (some-inj e) ∙ m) in
         let r′ : Refuted table H B ((l ∷ []) ∷ []) = subst (Refuted table H B) (sym q) r in
@@ -262,8 +259,8 @@ module _ (table : Table) (wf : WellFormed (at table)) (H : FiniteHeap) (ρ : Val
       | inr k ↦ ap val (eqb-true m a (both-true _ (eqb n b) k .0)) ∙ e ∙ sym (ap val (eqb-true n b (both-true (eqb m a) _ k .1)))
     ]
 
-    if-term-same : (fld : Use) {x y : Value H} → x ≡ y → ifTerm fld x (reference (H .nul)) ≡ ifTerm fld y (reference (H .nul))
-    if-term-same fld e = ap (λ z. ifTerm fld z (reference (H .nul))) e
+    if-term-same : (fld : Argument) {x y : Value H} → x ≡ y → ifArgument fld x (reference (H .nul)) ≡ ifArgument fld y (reference (H .nul))
+    if-term-same fld e = ap (λ z. ifArgument fld z (reference (H .nul))) e
 
     congruent-value : (a b : TermNo) → val a ≡ val b → (e e′ : Term) → at table T ≡ e → at table w ≡ e′ → congruent a b e e′ ≡ true → val T ≡ val w
     congruent-value a b q (variable s n) e′ x y h = absurd (false≢true h)
@@ -277,7 +274,7 @@ module _ (table : Table) (wf : WellFormed (at table)) (H : FiniteHeap) (ρ : Val
         (if-term-same (arguments o .c) (agree-value a b (k .c) (k′ .c) q (e .2)) i) (if-term-same (arguments o .d) (agree-value a b (k .d) (k′ .d) q (e .3)) i)))
         ∙ sym (value-apply (at table) wf H ρ w o k′ (y ∙ ap (λ (p : Operator). apply p k′) (sym (same-operator o o′ (both-true _ _ h₁ .0)))))
 
-    sub-sound : (L : Literal) → True ρ (at table) L → Concludes (concludeSub table L T w)
+    sub-sound : (L : Literal) → True ρ (at table) L → Sound (concludeSub table L T w)
     unfolding concludeSub
     sub-sound (literal R a b) h c e f ls m r =
         let g = guard-inv (sameRelation Relation.Eq R && congruent a b (at table T) (at table w)) _ e in
@@ -287,11 +284,11 @@ module _ (table : Table) (wf : WellFormed (at table)) (H : FiniteHeap) (ρ : Val
         c (g .1) f ls m r
 
     -- `rep`
-    cond-concludes : (b : Bool) (x y : Option Conclusion) → (b ≡ true → Concludes x) → Concludes y → Concludes (cond b x y)
+    cond-concludes : (b : Bool) (x y : Option Conclusion) → (b ≡ true → Sound x) → Sound y → Sound (cond b x y)
     cond-concludes true x y k l = k refl
     cond-concludes false x y k l = l
 
-    rep-sound : (L E : Literal) → True ρ (at table) L → True ρ (at table) E → Concludes (concludeRep L E T)
+    rep-sound : (L E : Literal) → True ρ (at table) L → True ρ (at table) E → Sound (concludeRep L E T)
     unfolding concludeRep
     rep-sound (literal R m n) (literal E a b) h k c e =
         let g = guard-inv (sameRelation Relation.Eq E) _ e in
@@ -304,7 +301,7 @@ module _ (table : Table) (wf : WellFormed (at table)) (H : FiniteHeap) (ρ : Val
         c (g .1)
 
     kind-sound : (k : Four Use) (K : Kind) → KindSound H k K → Asked H (k .c) (value ρ (at table) T) → Asked H (k .d) (value ρ (at table) w)
-        → Concludes (conclude table P Q T w K)
+        → Sound (conclude table P Q T w K)
     unfolding conclude
     kind-sound k (rows Rs) s aT aw c e f ls m r = rows-sound k aT aw Rs s c e f ls m r
     kind-sound k congruence s aT aw c e f ls m r =
@@ -316,6 +313,6 @@ module _ (table : Table) (wf : WellFormed (at table)) (H : FiniteHeap) (ρ : Val
         rep-sound (L .0) (M .0) (subst (IfAny (at table) wf H ρ) (L .1) (place-true B p t)) (subst (IfAny (at table) wf H ρ) (M .1) (place-true B q t)) c (M .2) f ls m r
 
     -- A RULE IS SOUND
-    pub rule-sound : (x : Rule) → Asked H (ruleFields x .c) (value ρ (at table) T) → Asked H (ruleFields x .d) (value ρ (at table) w)
-        → Concludes (conclude table P Q T w (rule x))
-    rule-sound x = kind-sound (ruleFields x) (rule x) (rules-sound H x)
+    pub rule-sound : (x : Rule) → Asked H (ruleUses x .c) (value ρ (at table) T) → Asked H (ruleUses x .d) (value ρ (at table) w)
+        → Sound (conclude table P Q T w (rule x))
+    rule-sound x = kind-sound (ruleUses x) (rule x) (rules-sound H x)

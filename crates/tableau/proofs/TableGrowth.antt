@@ -11,7 +11,8 @@ use lib.Dec.{eqb, leb, eqb·suc-suc, eqb·suc-zero, eqb·zero-suc}
 use lib.ListN.{length}
 use borrow.Author.Tests.{eqb-true, leb-true, leb-false}
 use Rattle.tableau.specs.declared.Sort.{Sort}
-use Rattle.tableau.specs.Terms.{TermNo, Name, Table, Term, variable, apply, Use, unused, place, name, side, term, of, at, noTerm, numberFrom, numberOf, arguments, result, sortOf, sortIndex, operatorIndex, sameTerm}
+use Rattle.tableau.specs.Fields.{Argument, unused, of, arguments}
+use Rattle.tableau.specs.Terms.{TermNo, Name, Table, Term, variable, apply, at, noTerm, numberFrom, numberOf, result, sortOf, sortIndex, operatorIndex, sameTerm}
 use Rattle.tableau.proofs.Bools.{dec, clash, eqb-same, none≢some, both-i}
 use Rattle.tableau.proofs.WellFormed.{OkArgument, OkTerm, WellFormed}
 
@@ -46,19 +47,15 @@ not-found i [] e h k l q = not-suc-le-zero l
 not-found i (x ∷ xs) e h k l q = go (not-found (suc i) xs e) k l q (sameTerm e x) refl h
   where
     go : (numberFrom (suc i) xs e ≡ none → (k : ℕ) → k < length xs → at xs (suc k) ≡ e → ⊥) → (k : ℕ) → k < suc (length xs) → at (x ∷ xs) (suc k) ≡ e
-        → (b : Bool) → sameTerm e x ≡ b → _≡_ {A = Option ℕ} (elim b [ true ↦ some i | false ↦ numberFrom (suc i) xs e ]) none → ⊥
+        → (b : Bool) → sameTerm e x ≡ b → cond b (some i) (numberFrom (suc i) xs e) ≡ none → ⊥
     go ih k l q true s h = none≢some (sym h)
     go ih zero l q false s h = clash (ap (sameTerm e) q ∙ same-term-refl e) s
     go ih (suc k) l q false s h = ih h k (omega arith) q
 
 -- tables that agree below t have the same arguments there
-move-argument : (f f′ : TermNo → Term) (t : TermNo) → ((m : ℕ) → m < t → f′ m ≡ f m) → (k : Use) (n : ℕ) → OkArgument f t k n → OkArgument f′ t k n
+move-argument : (f f′ : TermNo → Term) (t : TermNo) → ((m : ℕ) → m < t → f′ m ≡ f m) → (k : Argument) (n : ℕ) → OkArgument f t k n → OkArgument f′ t k n
 unfolding result
 move-argument f f′ t h unused n ok = ok
-move-argument f f′ t h place n ok = ok
-move-argument f f′ t h name n ok = ok
-move-argument f f′ t h side n ok = ok
-move-argument f f′ t h term n ok = ok
 move-argument f f′ t h (of s) n ok = (ok .0, ap sortOf (h n (ok .0)) ∙ ok .1)
 
 move : (f f′ : TermNo → Term) (t : TermNo) → ((m : ℕ) → m < t → f′ m ≡ f m) → (e : Term) → OkTerm f t e → OkTerm f′ t e

@@ -10,14 +10,15 @@ use lib.ListN.{length, take, length-append, length-take}
 use lib.Seq.{take-append-le, take-take, take-append-seam}
 use Rattle.tableau.specs.declared.Rule.{Rule}
 use Rattle.tableau.specs.Basics.{Four, every}
-use Rattle.tableau.specs.Terms.{TermNo, Table, Literal, Use, unused, place, name, side, term, of, at, sortOf, result}
+use Rattle.tableau.specs.Fields.{Use, unused, place, name, side, term, of, ruleUses}
+use Rattle.tableau.specs.Terms.{TermNo, Table, Literal, at, sortOf, result}
 use Rattle.tableau.specs.Meaning.{FiniteHeap, Values, value, AllTrue}
-use Rattle.tableau.specs.Rules.{rule, ruleFields}
+use Rattle.tableau.specs.Rules.{rule}
 use Rattle.tableau.specs.Steps.{conclude, isFresh}
-use Rattle.tableau.specs.Tree.{passed, Waiting, Tree, Status, isOpen, isClosed, literalAt, onBranch, roomOnBranch, roomToWait, close, grow, step}
+use Rattle.tableau.specs.Tree.{passed, Waiting, Tree, Status, isOpen, isClosed, literalAt, onBranch, roomOnBranch, roomToWait, close, grow, alternatives, grown}
 use Rattle.tableau.specs.Reply.{ofSort}
 use Rattle.tableau.proofs.Bools.{every-true}
-use Rattle.tableau.proofs.Checks.{require-passed, requireSome-passed, passed-injective}
+use Rattle.tableau.proofs.Checks.{require-passed, requireSome-passed, requireSome-is, passed-injective}
 use Rattle.tableau.proofs.WellFormed.{WellFormed}
 use Rattle.tableau.proofs.Match.{same-sort, kind-value}
 use Rattle.tableau.proofs.RowMeaning.{Asked}
@@ -113,19 +114,19 @@ module _ (table : Table) (wf : WellFormed (at table)) (H : FiniteHeap) where
   asked (of s) n h ρ = kind-value (at table) wf H ρ n ∙ sym (same-sort s (sortOf (at table n)) h)
 
   -- A STEP
-  pub step-refuted : (τ : Tree) (x : Rule) (n : Four ℕ) (s : Status) → every (ofSort table) (ruleFields x) n ≡ true → step table τ x n ≡ passed s
-      → StatusRefuted table H s → StatusRefuted table H (isOpen τ)
-  unfolding step
-  step-refuted τ x n s sorts e d =
+  pub step-refuted : (τ : Tree) (x : Rule) (n : Four ℕ) (ks : List (List Literal)) (s : Status) → every (ofSort table) (ruleUses x) n ≡ true
+      → alternatives table (τ .branch) x n ≡ passed ks → grown τ ks ≡ passed s → StatusRefuted table H s → StatusRefuted table H (isOpen τ)
+  unfolding alternatives grown
+  step-refuted τ x n ks s sorts e g d =
       let B = τ .branch in
-      let a = every-true (ofSort table) (ruleFields x) n sorts in
-      let e₁₁ = require-passed (every (onBranch B) (ruleFields x) n) _ _ e in
+      let a = every-true (ofSort table) (ruleUses x) n sorts in
+      let e₁₁ = require-passed (every (onBranch B) (ruleUses x) n) _ _ e in
       let e₁₂ = requireSome-passed (conclude table (literalAt B (n .a)) (literalAt B (n .b)) (n .c) (n .d) (rule x)) _ _ (e₁₁ .1) in
       let e₁₃ = require-passed (not (e₁₂ .0 .fresh) || isFresh table B (n .d)) _ _ (e₁₂ .2) in
-      let e₁₄ = requireSome-passed (e₁₂ .0 .adds) _ _ (e₁₃ .1) in
-      let e₁₅ = require-passed (roomOnBranch (length B) (e₁₄ .0)) _ _ (e₁₄ .2) in
-      let e₁₆ = require-passed (roomToWait (length (τ .waiting)) (e₁₄ .0)) _ _ (e₁₅ .1) in
-      grow-refuted τ (e₁₄ .0)
-      (λ r ρ t. rule-sound table wf H ρ B t (n .a) (n .b) (n .c) (n .d) x (asked (ruleFields x .c) (n .c) (a .2) ρ) (asked (ruleFields x .d) (n .d) (a .3) ρ)
-      (e₁₂ .0) (e₁₂ .1) (e₁₃ .0) (e₁₄ .0) (e₁₄ .1) r)
+      let e₁₄ = requireSome-is (e₁₂ .0 .adds) _ (e₁₃ .1) in
+      let e₁₅ = require-passed (roomOnBranch (length B) ks) _ _ g in
+      let e₁₆ = require-passed (roomToWait (length (τ .waiting)) ks) _ _ (e₁₅ .1) in
+      grow-refuted τ ks
+      (λ r ρ t. rule-sound table wf H ρ B t (n .a) (n .b) (n .c) (n .d) x (asked (ruleUses x .c) (n .c) (a .2) ρ) (asked (ruleUses x .d) (n .d) (a .3) ρ)
+      (e₁₂ .0) (e₁₂ .1) (e₁₃ .0) ks e₁₄ r)
       (subst (StatusRefuted table H) (sym (passed-injective (e₁₆ .1))) d)

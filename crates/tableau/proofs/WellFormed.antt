@@ -4,17 +4,14 @@ use mathlib.Core.Path.{_≡_}
 use Prim.Native.Nat.{ℕ, _<_}
 use Rattle.tableau.specs.declared.Sort.{Sort}
 use Rattle.tableau.specs.Basics.{Four}
-use Rattle.tableau.specs.Terms.{TermNo, Name, Term, variable, apply, Use, unused, place, name, side, term, of, arguments, sortOf}
+use Rattle.tableau.specs.Fields.{Argument, unused, of, arguments}
+use Rattle.tableau.specs.Terms.{TermNo, Name, Term, variable, apply, sortOf}
 
-abbrev pub OkArgument : (TermNo → Term) → TermNo → Use → ℕ → Type 0
+abbrev pub OkArgument : (TermNo → Term) → TermNo → Argument → ℕ → Type 0
 OkArgument table t unused n = Unit {0}
-OkArgument table t place n = Unit {0}
-OkArgument table t name n = Unit {0}
-OkArgument table t side n = Unit {0}
-OkArgument table t term n = n < t
 OkArgument table t (of s) n = (n < t) × (sortOf (table n) ≡ s)
 
-abbrev pub OkArguments : (TermNo → Term) → TermNo → Four Use → Four ℕ → Type 0
+abbrev pub OkArguments : (TermNo → Term) → TermNo → Four Argument → Four ℕ → Type 0
 OkArguments table t k n =
     OkArgument table t (k .a) (n .a) × OkArgument table t (k .b) (n .b) × OkArgument table t (k .c) (n .c) × OkArgument table t (k .d) (n .d)
 

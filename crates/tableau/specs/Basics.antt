@@ -31,6 +31,10 @@ pub record Four (A : Type 0) : Type 0 where
 abbrev pub four : {A : Type 0} → A → A → A → A → Four A
 four x y z w = record { a = x; b = y; c = z; d = w }
 
+-- the same said of each of the four
+abbrev pub mapFour : {A B : Type 0} → (A → B) → Four A → Four B
+mapFour f x = four (f (x .a)) (f (x .b)) (f (x .c)) (f (x .d))
+
 -- a test that holds of each of the four, beside what is said of it
 abbrev pub every : {A B : Type 0} → (A → B → Bool) → Four A → Four B → Bool
 every f x y = f (x .a) (y .a) && (f (x .b) (y .b) && (f (x .c) (y .c) && f (x .d) (y .d)))

@@ -4,13 +4,13 @@ use mathlib.Core.Bool.{Bool, true, false, _&&_, _||_}
 use mathlib.Core.List.{List, [], _∷_, _++_}
 use mathlib.Core.Option.{Option, none, some}
 use Prim.Native.Nat.{ℕ, suc}
-use lib.Dec.{eqb}
 use Rattle.tableau.specs.declared.Letter.{Letter}
 use Rattle.tableau.specs.Basics.{Four, bytes, sameBytes}
-use Rattle.tableau.specs.File.{Line, shape, split, LF}
+use Rattle.tableau.specs.File.{Line, sameLetter, shape, split, LF}
+use Rattle.tableau.specs.Words.{Command, make, assume, infer, commandOf}
 use Rattle.tableau.specs.Terms.{Table, Literal, literal, at, written}
 use Rattle.tableau.specs.Meaning.{FiniteHeap, Values, AllTrue}
-use Rattle.tableau.specs.Reply.{Command, make, assume, infer, commandOf, rank, Reply, reply}
+use Rattle.tableau.specs.Reply.{Reply, reply}
 
 -- THE LINES of a file: what each LF ends.
 abbrev pub allButLast : List (List ℕ) → List (List ℕ)
@@ -82,11 +82,11 @@ Demand3 checker = (file : List ℕ) → checker file .isYes ≡ true → NoHeap 
 -- THE FILE'S OWN COUNTS: lines by their first field, and `cls` and `emp` lines by their second.
 abbrev pub hasLetter : Letter → Option Line → Bool
 hasLetter k none = false
-hasLetter k (some l) = eqb (rank k) (rank (l .letter))
+hasLetter k (some l) = sameLetter k (l .letter)
 
 abbrev pub closesBranch : Option Line → Bool
 closesBranch none = false
-closesBranch (some l) = eqb (rank Letter.S) (rank (l .letter)) && (sameBytes (bytes "cls") (l .word) || sameBytes (bytes "emp") (l .word))
+closesBranch (some l) = sameLetter Letter.S (l .letter) && (sameBytes (bytes "cls") (l .word) || sameBytes (bytes "emp") (l .word))
 
 unfoldable pub countIf : (Option Line → Bool) → List (List ℕ) → ℕ
 countIf f [] = 0

@@ -31,6 +31,18 @@ split c (b ∷ bs) = elim (eqb b c) [ true ↦ [] ∷ split c bs | false ↦ onF
 unfoldable pub letters : List (Named Letter)
 letters = ("T" ↣ Letter.T) ∷ ("A" ↣ Letter.A) ∷ ("S" ↣ Letter.S) ∷ []
 
+-- "T lines come first, then A, then S; any kind may be missing."
+unfoldable pub rank : Letter → ℕ
+rank Letter.T = 0
+rank Letter.A = 1
+rank Letter.S = 2
+
+abbrev pub inOrder : Letter → Letter → Bool
+inOrder last next = leb (rank last) (rank next)
+
+abbrev pub sameLetter : Letter → Letter → Bool
+sameLetter k l = eqb (rank k) (rank l)
+
 -- "Field 2 is two or three small letters."
 abbrev pub isSmall : ℕ → Bool
 isSmall b = leb 97 b && leb b 122

@@ -1,6 +1,8 @@
 -- The specification, in the order of document 01.
 pub mod Basics
 pub mod File
+pub mod Words
+pub mod Fields
 pub mod Terms
 pub mod Meaning
 pub mod Rules

@@ -10,11 +10,13 @@ use Rattle.tableau.specs.declared.Word.{Word}
 use Rattle.tableau.specs.declared.Relation.{Relation}
 use Rattle.tableau.specs.declared.Rule.{Rule}
 use Rattle.tableau.specs.declared.Reason.{Reason}
-use Rattle.tableau.specs.Basics.{then, isSome, Four, every, bytes, lookup}
-use Rattle.tableau.specs.File.{shape, split, LF, comma, maxBytes}
-use Rattle.tableau.specs.Terms.{TermNo, Table, Literal, literal, Use, unused, place, name, side, term, of, at, numberOf, maxTerms, sortOf, sameSort, words, wordFields, written, relations, sides, oneSort}
-use Rattle.tableau.specs.Rules.{Row, Kind, rows, congruence, replacement, rule, ruleFields, ruleNames}
-use Rattle.tableau.specs.Tree.{Checked, refused, passed, _>>=_, _>>_, require, requireSome, Tree, Status, isOpen, isClosed, root, maxPlaces, step}
+use Rattle.tableau.specs.Basics.{isSome, Four, every, bytes}
+use Rattle.tableau.specs.File.{Line, inOrder, shape, split, LF, comma, maxBytes}
+use Rattle.tableau.specs.Words.{Command, make, assume, infer, commandOf}
+use Rattle.tableau.specs.Fields.{Use, unused, place, name, side, term, of, wordFields, sides, ruleUses}
+use Rattle.tableau.specs.Terms.{TermNo, Table, Term, Literal, literal, at, numberOf, maxTerms, sortOf, sameSort, written, oneSort}
+use Rattle.tableau.specs.Rules.{Row, Kind, rows, congruence, replacement, rule}
+use Rattle.tableau.specs.Tree.{Checked, refused, passed, _>>=_, _>>_, require, requireSome, Tree, Status, isOpen, isClosed, root, maxPlaces, alternatives, grown}
 
 -- THE REFUSAL NUMBERS
 unfoldable pub reasonNumber : Reason → ℕ
@@ -37,26 +39,6 @@ reasonNumber Reason.WaitingFull = 16
 reasonNumber Reason.BranchOpen = 17
 reasonNumber Reason.BufferLength = 18
 
--- What a line asks for, by its letter and word: a term, an assumption, a step.
-pub data Command : Type 0 where
-  make : Word → Command
-  assume : Relation → Command
-  infer : Rule → Command
-
-abbrev pub some-of : {A : Type 0} → (A → Command) → Option A → Option Command
-some-of f none = none
-some-of f (some x) = some (f x)
-
-unfoldable pub commandOf : Letter → List ℕ → Option Command
-commandOf Letter.T w = some-of make (lookup words w)
-commandOf Letter.A w = some-of assume (lookup relations w)
-commandOf Letter.S w = some-of infer (lookup ruleNames w)
-
-abbrev pub fieldsOf : Command → Four Use
-fieldsOf (make w) = wordFields w
-fieldsOf (assume R) = sides R
-fieldsOf (infer x) = ruleFields x
-
 -- The counts of a reply.
 pub record Counts : Type 0 where
   pub terms : ℕ
@@ -74,15 +56,6 @@ pub record State : Type 0 where
 abbrev pub start : State
 start = record { table = []; status = isOpen root; letter = Letter.T; counts = record { terms = 0; assumptions = 0; steps = 0; closings = 0 } }
 
--- check 3: "T lines come first, then A, then S; any kind may be missing."
-unfoldable pub rank : Letter → ℕ
-rank Letter.T = 0
-rank Letter.A = 1
-rank Letter.S = 2
-
-abbrev pub inOrder : Letter → Letter → Bool
-inOrder last next = leb (rank last) (rank next)
-
 -- check 5: the tree, where it is open (T and A lines, which check 3 keeps before any S line, always find it so)
 abbrev pub requireOpen : Status → Checked Tree
 requireOpen (isOpen τ) = passed τ
@@ -96,12 +69,6 @@ zeroIfUnused name n = true
 zeroIfUnused side n = true
 zeroIfUnused term n = true
 zeroIfUnused (of s) n = true
-
--- check 7: "601st term"
-abbrev pub roomForTerm : Table → Command → Bool
-roomForTerm table (make w) = ltb (length table) maxTerms
-roomForTerm table (assume R) = true
-roomForTerm table (infer x) = true
 
 -- check 8: "a term field names no term made so far, or a name is 0"
 abbrev pub isTerm : Table → TermNo → Bool
@@ -124,16 +91,40 @@ ofSort table side n = true
 ofSort table term n = true
 ofSort table (of s) n = sameSort s (sortOf (at table n))
 
-abbrev pub sidesAgree : Table → Command → Four ℕ → Bool
-sidesAgree table (make w) n = true
-sidesAgree table (assume R) n = oneSort R (sortOf (at table (n .a))) (sortOf (at table (n .b)))
-sidesAgree table (infer x) n = true
-
 -- check 10: "term already made"
-abbrev pub isNew : Table → Command → Four ℕ → Bool
-isNew table (make w) n = not (isSome (numberOf table (written w n)))
-isNew table (assume R) n = true
-isNew table (infer x) n = true
+abbrev pub isNew : Table → Term → Bool
+isNew table e = not (isSome (numberOf table e))
+
+-- A T LINE after a table: checks 6 to 10, a line for each, and the table with its term.
+unfoldable pub termLine : Table → Word → Four ℕ → Checked Table
+termLine table w n = do
+  require (every zeroIfUnused (wordFields w) n) Reason.UnusedField
+  require (ltb (length table) maxTerms) Reason.TooManyTerms
+  require (every (termOrName table) (wordFields w) n) Reason.NoSuchTerm
+  require (every (ofSort table) (wordFields w) n) Reason.WrongSort
+  require (isNew table (written w n)) Reason.TermRepeated
+  passed (table ++ (written w n ∷ []))
+
+-- AN A LINE: checks 6, 8 and 9, and its literal; then check 15, "an A line .. would pass 1,000 places", and the literal on the branch.
+unfoldable pub literalLine : Table → Relation → Four ℕ → Checked Literal
+literalLine table R n = do
+  require (every zeroIfUnused (sides R) n) Reason.UnusedField
+  require (every (termOrName table) (sides R) n) Reason.NoSuchTerm
+  require (every (ofSort table) (sides R) n && oneSort R (sortOf (at table (n .a))) (sortOf (at table (n .b)))) Reason.WrongSort
+  passed (literal R (n .a) (n .b))
+
+unfoldable pub assumed : Tree → Literal → Checked Tree
+assumed τ l = do
+  require (ltb (length (τ .branch)) maxPlaces) Reason.BranchFull
+  passed (record { branch = τ .branch ++ (l ∷ []); waiting = τ .waiting })
+
+-- AN S LINE: checks 6, 8 and 9, then 11 to 14 of its step; then 15 and 16, and the tree after it.
+unfoldable pub stepLine : Table → List Literal → Rule → Four ℕ → Checked (List (List Literal))
+stepLine table B x n = do
+  require (every zeroIfUnused (ruleUses x) n) Reason.UnusedField
+  require (every (termOrName table) (ruleUses x) n) Reason.NoSuchTerm
+  require (every (ofSort table) (ruleUses x) n) Reason.WrongSort
+  alternatives table B x n
 
 -- the rules that close, `cls` and `emp`: those whose rows have no alternative
 abbrev pub addsNothing : List Row → Bool
@@ -153,38 +144,31 @@ counted c (make w) = record { terms = suc (c .terms); assumptions = c .assumptio
 counted c (assume R) = record { terms = c .terms; assumptions = suc (c .assumptions); steps = c .steps; closings = c .closings }
 counted c (infer x) = record { terms = c .terms; assumptions = c .assumptions; steps = suc (c .steps); closings = cond (isClosing x) (suc (c .closings)) (c .closings) }
 
--- What a line does: a new term, a literal on the branch (check 15: "an A line .. would pass 1,000 places"), a step (checks 11 to 16).
-abbrev pub added : Tree → Literal → Status
-added τ l = isOpen (record { branch = τ .branch ++ (l ∷ []); waiting = τ .waiting })
+-- What a line does to a state whose tree is open.
+unfoldable pub runOpen : State → Tree → Command → Four ℕ → Checked State
+runOpen σ τ (make w) n = do
+  table′ ← termLine (σ .table) w n
+  passed (record { table = table′; status = isOpen τ; letter = Letter.T; counts = counted (σ .counts) (make w) })
+runOpen σ τ (assume R) n = do
+  l ← literalLine (σ .table) R n
+  τ′ ← assumed τ l
+  passed (record { table = σ .table; status = isOpen τ′; letter = Letter.A; counts = counted (σ .counts) (assume R) })
+runOpen σ τ (infer x) n = do
+  ks ← stepLine (σ .table) (τ .branch) x n
+  status′ ← grown τ ks
+  passed (record { table = σ .table; status = status′; letter = Letter.S; counts = counted (σ .counts) (infer x) })
 
-unfoldable pub effect : Table → Tree → Command → Four ℕ → Checked (Table × Status)
-effect table τ (make w) n = passed (table ++ (written w n ∷ []), isOpen τ)
-effect table τ (assume R) n = do
-  require (ltb (length (τ .branch)) maxPlaces) Reason.BranchFull
-  passed (table, added τ (literal R (n .a) (n .b)))
-effect table τ (infer x) n = do
-  status ← step table τ x n
-  passed (table, status)
-
--- A line, whose letter and word are known: checks 5 to 10, a line for each, then its effect.
-unfoldable pub runCommand : State → Letter → Command → Four ℕ → Checked State
-runCommand σ l c n = do
-  τ ← requireOpen (σ .status)
-  require (every zeroIfUnused (fieldsOf c) n) Reason.UnusedField
-  require (roomForTerm (σ .table) c) Reason.TooManyTerms
-  require (every (termOrName (σ .table)) (fieldsOf c) n) Reason.NoSuchTerm
-  require (every (ofSort (σ .table)) (fieldsOf c) n && sidesAgree (σ .table) c n) Reason.WrongSort
-  require (isNew (σ .table) c n) Reason.TermRepeated
-  e ← effect (σ .table) τ c n
-  passed (record { table = e .0; status = e .1; letter = l; counts = counted (σ .counts) c })
-
--- "Checks on a line run in the order of the numbers below": 2, 3 and 4, then those above.
-unfoldable pub runLine : State → List ℕ → Checked State
-runLine σ bs = do
-  l ← requireSome (shape bs) Reason.BadShape
+-- "Checks on a line run in the order of the numbers below": 2 to 5, a line for each, then those above.
+unfoldable pub runRead : State → Option Line → Checked State
+runRead σ read = do
+  l ← requireSome read Reason.BadShape
   require (inOrder (σ .letter) (l .letter)) Reason.LetterOrder
   c ← requireSome (commandOf (l .letter) (l .word)) Reason.UnknownWord
-  runCommand σ (l .letter) c (l .fields)
+  τ ← requireOpen (σ .status)
+  runOpen σ τ c (l .fields)
+
+abbrev pub runLine : State → List ℕ → Checked State
+runLine σ bs = runRead σ (shape bs)
 
 -- The verdict on a file: a yes with its counts, or the first bad line and the first check it breaks.
 pub data Verdict : Type 0 where
@@ -206,8 +190,12 @@ runLines ((b ∷ bs) ∷ []) i (passed σ) = refuse Reason.BadShape (suc i)
 runLines (l ∷ m ∷ ls) i (passed σ) = runLines (m ∷ ls) (suc i) (runLine σ l)
 
 -- check 1: "over 60,000 bytes; line 0, before any line"
+abbrev pub verdictIf : Bool → List ℕ → Verdict
+verdictIf true file = runLines (split LF file) 0 (passed start)
+verdictIf false file = refuse Reason.TooLong 0
+
 unfoldable pub verdict : List ℕ → Verdict
-verdict file = elim (leb (length file) maxBytes) [ true ↦ runLines (split LF file) 0 (passed start) | false ↦ refuse Reason.TooLong 0 ]
+verdict file = verdictIf (leb (length file) maxBytes) file
 
 -- THE REPLY, "fields in order: `yes` or `no`, refusal number, line, T lines, A lines, S lines, closings".
 pub record Reply : Type 0 where

@@ -1,13 +1,10 @@
--- 'The rules': a row for each of the thirty, in the order of document 01, and the fields that each uses. Nothing here knows of replies.
+-- 'The rules': a row for each of the thirty, in the order of document 01. Nothing here knows of replies.
 use mathlib.Core.Bool.{Bool, true, false}
 use mathlib.Core.List.{List, [], _∷_}
 use Prim.Native.Nat.{ℕ}
-use Rattle.tableau.specs.declared.Sort.{Sort}
 use Rattle.tableau.specs.declared.Operator.{Operator}
 use Rattle.tableau.specs.declared.Relation.{Relation}
 use Rattle.tableau.specs.declared.Rule.{Rule}
-use Rattle.tableau.specs.Basics.{Four, four, Named, _↣_}
-use Rattle.tableau.specs.Terms.{Use, unused, place, side, term, of}
 
 -- A pattern of terms: a letter, or an operator on patterns; `–` fills the place of a field that the operator does not use.
 pub data Pattern : Type 0 where
@@ -69,6 +66,39 @@ abbrev pub closes : List (List LiteralPattern)
 closes = []
 
 -- The letters of the rows. t and w stand for the terms of those fields.
+abbrev pub letterU : ℕ
+letterU = 1
+
+abbrev pub letterV : ℕ
+letterV = 2
+
+abbrev pub letterY : ℕ
+letterY = 3
+
+abbrev pub letterR : ℕ
+letterR = 4
+
+abbrev pub letterS : ℕ
+letterS = 5
+
+abbrev pub letterH : ℕ
+letterH = 6
+
+abbrev pub letterF : ℕ
+letterF = 7
+
+abbrev pub letterG : ℕ
+letterG = 8
+
+abbrev pub letterA : ℕ
+letterA = 9
+
+abbrev pub letterB : ℕ
+letterB = 10
+
+abbrev pub letterC : ℕ
+letterC = 11
+
 abbrev pub letterT : ℕ
 letterT = 12
 
@@ -76,37 +106,37 @@ abbrev pub letterW : ℕ
 letterW = 13
 
 abbrev pub u : Pattern
-u = letter 1
+u = letter letterU
 
 abbrev pub v : Pattern
-v = letter 2
+v = letter letterV
 
 abbrev pub y : Pattern
-y = letter 3
+y = letter letterY
 
 abbrev pub r : Pattern
-r = letter 4
+r = letter letterR
 
 abbrev pub s : Pattern
-s = letter 5
+s = letter letterS
 
 abbrev pub h : Pattern
-h = letter 6
+h = letter letterH
 
 abbrev pub f : Pattern
-f = letter 7
+f = letter letterF
 
 abbrev pub g : Pattern
-g = letter 8
+g = letter letterG
 
 abbrev pub a : Pattern
-a = letter 9
+a = letter letterA
 
 abbrev pub b : Pattern
-b = letter 10
+b = letter letterB
 
 abbrev pub c : Pattern
-c = letter 11
+c = letter letterC
 
 abbrev pub t : Pattern
 t = letter letterT
@@ -201,70 +231,3 @@ rule Rule.Rdh = rows (t≐ (rea (wri h u f v) u f) ∷ [] ⟶ only ⟨ t ≈ v �
 rule Rule.Rdm = rows (t≐ (rea (wri h u f v) y g) ∷ [] ⟶ u ≈ y ﹐ ⟨ f ≈ g ⟩ ∥ only ⟨ t ≈ rea h y g ⟩)
 rule Rule.Cls = rows ((p∶ (a ∈ b) ∷ q∶ (a ∉ b) ∷ [] ⟶ closes) or (p∶ (a ≈ b) ∷ q∶ (a ≉ b) ∷ [] ⟶ closes) or (p∶ (a ⊑ b) ∷ q∶ (a ⋢ b) ∷ [] ⟶ closes))
 rule Rule.Emp = rows (p∶ (u ∈ emp) ∷ [] ⟶ closes)
-
--- "Which fields each rule uses is one fixed table of thirty rows": p, q, t, w. `cut` and `ler` ask for sorts here; t is a side in `rep`.
-unfoldable pub ruleFields : Rule → Four Use
-ruleFields Rule.Eqr = four place place unused unused
-ruleFields Rule.Eql = four place place unused unused
-ruleFields Rule.Ext = four place unused unused term
-ruleFields Rule.Fir = four unused unused unused term
-ruleFields Rule.Cpe = four place unused unused unused
-ruleFields Rule.Cpi = four place place term unused
-ruleFields Rule.Cue = four place unused unused unused
-ruleFields Rule.Cui = four place unused term unused
-ruleFields Rule.Dfe = four place unused unused unused
-ruleFields Rule.Dfi = four place place term unused
-ruleFields Rule.Sge = four place unused unused unused
-ruleFields Rule.Sgi = four unused unused term unused
-ruleFields Rule.Cut = four unused unused (of Sort.Reference) (of Sort.Region)
-ruleFields Rule.All = four place unused unused unused
-ruleFields Rule.Nul = four place unused unused unused
-ruleFields Rule.Sep = four place place unused unused
-ruleFields Rule.Img = four place unused term unused
-ruleFields Rule.Wit = four place unused unused term
-ruleFields Rule.Ref = four unused unused term unused
-ruleFields Rule.Sym = four place unused unused unused
-ruleFields Rule.Trn = four place place unused unused
-ruleFields Rule.Sub = four place unused term term
-ruleFields Rule.Rep = four place place side unused
-ruleFields Rule.Ler = four unused unused (of Sort.Class) unused
-ruleFields Rule.Let = four place place unused unused
-ruleFields Rule.Lea = four place place unused unused
-ruleFields Rule.Rdh = four unused unused term unused
-ruleFields Rule.Rdm = four unused unused term unused
-ruleFields Rule.Cls = four place place unused unused
-ruleFields Rule.Emp = four place unused unused unused
-
-unfoldable pub ruleNames : List (Named Rule)
-ruleNames =
-    ("eqr" ↣ Rule.Eqr) ∷
-    ("eql" ↣ Rule.Eql) ∷
-    ("ext" ↣ Rule.Ext) ∷
-    ("fir" ↣ Rule.Fir) ∷
-    ("cpe" ↣ Rule.Cpe) ∷
-    ("cpi" ↣ Rule.Cpi) ∷
-    ("cue" ↣ Rule.Cue) ∷
-    ("cui" ↣ Rule.Cui) ∷
-    ("dfe" ↣ Rule.Dfe) ∷
-    ("dfi" ↣ Rule.Dfi) ∷
-    ("sge" ↣ Rule.Sge) ∷
-    ("sgi" ↣ Rule.Sgi) ∷
-    ("cut" ↣ Rule.Cut) ∷
-    ("all" ↣ Rule.All) ∷
-    ("nul" ↣ Rule.Nul) ∷
-    ("sep" ↣ Rule.Sep) ∷
-    ("img" ↣ Rule.Img) ∷
-    ("wit" ↣ Rule.Wit) ∷
-    ("ref" ↣ Rule.Ref) ∷
-    ("sym" ↣ Rule.Sym) ∷
-    ("trn" ↣ Rule.Trn) ∷
-    ("sub" ↣ Rule.Sub) ∷
-    ("rep" ↣ Rule.Rep) ∷
-    ("ler" ↣ Rule.Ler) ∷
-    ("let" ↣ Rule.Let) ∷
-    ("lea" ↣ Rule.Lea) ∷
-    ("rdh" ↣ Rule.Rdh) ∷
-    ("rdm" ↣ Rule.Rdm) ∷
-    ("cls" ↣ Rule.Cls) ∷
-    ("emp" ↣ Rule.Emp) ∷
-    []

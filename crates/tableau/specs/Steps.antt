@@ -8,7 +8,8 @@ use Rattle.tableau.specs.declared.Sort.{Sort}
 use Rattle.tableau.specs.declared.Operator.{Operator}
 use Rattle.tableau.specs.declared.Relation.{Relation}
 use Rattle.tableau.specs.Basics.{then, guard, Four, four, every}
-use Rattle.tableau.specs.Terms.{TermNo, Table, Term, variable, apply, Literal, literal, name, side, term, of, at, numberOf, ifTerm, arguments, sortOf, sameSort, sameOperator, sameRelation, mentioned}
+use Rattle.tableau.specs.Fields.{arguments, ifArgument}
+use Rattle.tableau.specs.Terms.{TermNo, Table, Term, variable, apply, Literal, literal, at, numberOf, sortOf, sameSort, sameOperator, sameRelation, mentioned}
 use Rattle.tableau.specs.Rules.{Pattern, letter, operator, –, LiteralPattern, pattern, Need, p∶, q∶, t≐, isRegion, Row, Kind, rows, congruence, replacement, rule, letterT, letterW}
 
 -- An instance of a row: the term that each of its letters stands for.
@@ -37,10 +38,10 @@ module _ (table : TermNo → Term) where
   fits (letter x) n σ = fitsLetter (σ x) x n σ
   fits (operator o k l m j) n σ =
       then (argumentsOf o (table n)) λ i.
-      then (ifTerm (arguments o .a) (fits k (i .a) σ) (some σ)) λ σ₁.
-      then (ifTerm (arguments o .b) (fits l (i .b) σ₁) (some σ₁)) λ σ₂.
-      then (ifTerm (arguments o .c) (fits m (i .c) σ₂) (some σ₂)) λ σ₃.
-      ifTerm (arguments o .d) (fits j (i .d) σ₃) (some σ₃)
+      then (ifArgument (arguments o .a) (fits k (i .a) σ) (some σ)) λ σ₁.
+      then (ifArgument (arguments o .b) (fits l (i .b) σ₁) (some σ₁)) λ σ₂.
+      then (ifArgument (arguments o .c) (fits m (i .c) σ₂) (some σ₂)) λ σ₃.
+      ifArgument (arguments o .d) (fits j (i .d) σ₃) (some σ₃)
   fits – n σ = none
 
   unfoldable pub fitsLiteral : LiteralPattern → Literal → Letters → Option Letters
@@ -66,10 +67,10 @@ module _ (table : Table) where
   unfoldable pub made : Pattern → Letters → Option TermNo
   made (letter x) σ = σ x
   made (operator o k l m j) σ =
-      then (ifTerm (arguments o .a) (made k σ) (some 0)) λ a.
-      then (ifTerm (arguments o .b) (made l σ) (some 0)) λ b.
-      then (ifTerm (arguments o .c) (made m σ) (some 0)) λ c.
-      then (ifTerm (arguments o .d) (made j σ) (some 0)) λ d.
+      then (ifArgument (arguments o .a) (made k σ) (some 0)) λ a.
+      then (ifArgument (arguments o .b) (made l σ) (some 0)) λ b.
+      then (ifArgument (arguments o .c) (made m σ) (some 0)) λ c.
+      then (ifArgument (arguments o .d) (made j σ) (some 0)) λ d.
       numberOf table (apply o (four a b c d))
   made – σ = none
 
@@ -104,7 +105,7 @@ abbrev pub agree : TermNo → TermNo → TermNo → TermNo → Bool
 agree a b m n = eqb m n || (eqb m a && eqb n b)
 
 unfoldable pub takesTerms : Operator → Bool
-takesTerms o = ifTerm (arguments o .a) true false
+takesTerms o = ifArgument (arguments o .a) true false
 
 abbrev pub congruent : TermNo → TermNo → Term → Term → Bool
 congruent a b (variable s n) e = false

@@ -1,5 +1,5 @@
--- 'T lines' and 'A lines': sorts, words and the arguments they take, terms and their table, literals.
-use mathlib.Core.Bool.{Bool, true, false, _&&_, _||_}
+-- 'T lines' and 'A lines': terms and their table, literals.
+use mathlib.Core.Bool.{Bool, true, false, _&&_, _||_, cond}
 use mathlib.Core.List.{List, [], _∷_}
 use mathlib.Core.Option.{Option, none, some}
 use Prim.Native.Nat.{ℕ, zero, suc}
@@ -8,7 +8,8 @@ use Rattle.tableau.specs.declared.Sort.{Sort}
 use Rattle.tableau.specs.declared.Operator.{Operator}
 use Rattle.tableau.specs.declared.Word.{Word}
 use Rattle.tableau.specs.declared.Relation.{Relation}
-use Rattle.tableau.specs.Basics.{Four, four, every, Named, _↣_}
+use Rattle.tableau.specs.Basics.{Four, four, every}
+use Rattle.tableau.specs.Fields.{arguments, ifArgument}
 
 -- "Places, term numbers and names are three separate kinds of count throughout."
 abbrev pub Place : Type 0
@@ -20,33 +21,7 @@ TermNo = ℕ
 abbrev pub Name : Type 0
 Name = ℕ
 
--- What a field of a line holds: nothing, a place, a name, a side (of `rep`), a term of any sort, a term of one sort.
-pub data Use : Type 0 where
-  unused place name side term : Use
-  of : Sort → Use
-
--- THE WORDS OF T LINES, a row for each: its sort and its arguments, "from field 3 on, in the order given".
-unfoldable pub words : List (Named Word)
-words =
-    ("nul" ↣ Word.Operation Operator.Nul) ∷
-    ("rfv" ↣ Word.Variable Sort.Reference) ∷
-    ("rea" ↣ Word.Operation Operator.Rea) ∷
-    ("emp" ↣ Word.Operation Operator.Emp) ∷
-    ("all" ↣ Word.Operation Operator.All) ∷
-    ("rgv" ↣ Word.Variable Sort.Region) ∷
-    ("cup" ↣ Word.Operation Operator.Cup) ∷
-    ("cap" ↣ Word.Operation Operator.Cap) ∷
-    ("dif" ↣ Word.Operation Operator.Dif) ∷
-    ("sin" ↣ Word.Operation Operator.Sin) ∷
-    ("img" ↣ Word.Operation Operator.Img) ∷
-    ("arv" ↣ Word.Variable Sort.Heap) ∷
-    ("wri" ↣ Word.Operation Operator.Wri) ∷
-    ("fnv" ↣ Word.Variable Sort.Field) ∷
-    ("clv" ↣ Word.Variable Sort.Class) ∷
-    ("typ" ↣ Word.Operation Operator.Typ) ∷
-    ("dty" ↣ Word.Operation Operator.Dty) ∷
-    []
-
+-- the sort of an operator's terms
 unfoldable pub result : Operator → Sort
 result Operator.Nul = Sort.Reference
 result Operator.Rea = Sort.Reference
@@ -60,25 +35,6 @@ result Operator.Img = Sort.Region
 result Operator.Wri = Sort.Heap
 result Operator.Typ = Sort.Class
 result Operator.Dty = Sort.Class
-
-unfoldable pub arguments : Operator → Four Use
-arguments Operator.Nul = four unused unused unused unused
-arguments Operator.Rea = four (of Sort.Heap) (of Sort.Reference) (of Sort.Field) unused
-arguments Operator.Emp = four unused unused unused unused
-arguments Operator.All = four unused unused unused unused
-arguments Operator.Cup = four (of Sort.Region) (of Sort.Region) unused unused
-arguments Operator.Cap = four (of Sort.Region) (of Sort.Region) unused unused
-arguments Operator.Dif = four (of Sort.Region) (of Sort.Region) unused unused
-arguments Operator.Sin = four (of Sort.Reference) unused unused unused
-arguments Operator.Img = four (of Sort.Heap) (of Sort.Region) (of Sort.Field) unused
-arguments Operator.Wri = four (of Sort.Heap) (of Sort.Reference) (of Sort.Field) (of Sort.Reference)
-arguments Operator.Typ = four (of Sort.Reference) unused unused unused
-arguments Operator.Dty = four (of Sort.Field) unused unused unused
-
--- a variable's one argument is its name
-abbrev pub wordFields : Word → Four Use
-wordFields (Word.Variable s) = four name unused unused unused
-wordFields (Word.Operation o) = arguments o
 
 -- A term: "a variable is an `rfv`, `rgv`, `arv`, `fnv` or `clv` with its name"; else an operator with fields 3 to 6, numbers of terms.
 pub data Term : Type 0 where
@@ -160,27 +116,19 @@ at (e ∷ es) (suc (suc n)) = at es (suc n)
 -- "No term is written twice, so equal terms have equal numbers": the number of a term, if it stands in the table
 unfoldable pub numberFrom : ℕ → Table → Term → Option TermNo
 numberFrom i [] e = none
-numberFrom i (x ∷ xs) e = elim (sameTerm e x) [ true ↦ some i | false ↦ numberFrom (suc i) xs e ]
+numberFrom i (x ∷ xs) e = cond (sameTerm e x) (some i) (numberFrom (suc i) xs e)
 
 abbrev pub numberOf : Table → Term → Option TermNo
 numberOf = numberFrom 1
-
--- the first where the field is a term, else the second
-abbrev pub ifTerm : {A : Type 0} → Use → A → A → A
-ifTerm unused x z = z
-ifTerm place x z = z
-ifTerm name x z = z
-ifTerm side x z = z
-ifTerm term x z = x
-ifTerm (of s) x z = x
 
 -- A fold over a table: what a variable gives, and what an operator gives from what its arguments gave (z for an unused field).
 -- "Arguments are earlier terms", so term t needs depth t.
 module _ {A : Type 0} (onVariable : TermNo → Sort → Name → A) (onApply : TermNo → Operator → Four A → A) (z : A) (table : TermNo → Term) where
   unfoldable pub layer : TermNo → Term → (TermNo → A) → A
   layer t (variable s n) below = onVariable t s n
-  layer t (apply o k) below = onApply t o
-      (four (ifTerm (arguments o .a) (below (k .a)) z) (ifTerm (arguments o .b) (below (k .b)) z) (ifTerm (arguments o .c) (below (k .c)) z) (ifTerm (arguments o .d) (below (k .d)) z))
+  layer t (apply o k) below = onApply t o (four
+      (ifArgument (arguments o .a) (below (k .a)) z) (ifArgument (arguments o .b) (below (k .b)) z)
+      (ifArgument (arguments o .c) (below (k .c)) z) (ifArgument (arguments o .d) (below (k .d)) z))
 
   unfoldable pub toDepth : ℕ → TermNo → A
   toDepth zero t = z
@@ -196,25 +144,6 @@ mentions table w = fold (λ t s n. eqb t w) (λ t o m. eqb t w || (m .a || (m .b
 -- LITERALS: "a word and two terms".
 pub data Literal : Type 0 where
   literal : Relation → TermNo → TermNo → Literal
-
-unfoldable pub relations : List (Named Relation)
-relations =
-    ("in" ↣ Relation.In) ∷
-    ("ni" ↣ Relation.Ni) ∷
-    ("eq" ↣ Relation.Eq) ∷
-    ("ne" ↣ Relation.Ne) ∷
-    ("le" ↣ Relation.Le) ∷
-    ("nl" ↣ Relation.Nl) ∷
-    []
-
--- "`in`, `ni` (reference, region); `eq`, `ne` (both of one sort, any); `le`, `nl` (classes)"
-unfoldable pub sides : Relation → Four Use
-sides Relation.In = four (of Sort.Reference) (of Sort.Region) unused unused
-sides Relation.Ni = four (of Sort.Reference) (of Sort.Region) unused unused
-sides Relation.Eq = four term term unused unused
-sides Relation.Ne = four term term unused unused
-sides Relation.Le = four (of Sort.Class) (of Sort.Class) unused unused
-sides Relation.Nl = four (of Sort.Class) (of Sort.Class) unused unused
 
 unfoldable pub oneSort : Relation → Sort → Sort → Bool
 oneSort Relation.In s s′ = true

@@ -8,8 +8,9 @@ use lib.ListN.{length, take, getElem?}
 use Rattle.tableau.specs.declared.Reason.{Reason}
 use Rattle.tableau.specs.declared.Rule.{Rule}
 use Rattle.tableau.specs.Basics.{Four, every}
-use Rattle.tableau.specs.Terms.{Place, Table, Literal, Use, unused, place, name, side, term, of}
-use Rattle.tableau.specs.Rules.{rule, ruleFields}
+use Rattle.tableau.specs.Fields.{Use, unused, place, name, side, term, of, ruleUses}
+use Rattle.tableau.specs.Terms.{Place, Table, Literal}
+use Rattle.tableau.specs.Rules.{rule}
 use Rattle.tableau.specs.Steps.{conclude, isFresh}
 
 -- The answer of a check: a reason to refuse, or what follows.
@@ -97,13 +98,17 @@ grow τ (k ∷ ks) = isOpen (record {
   waiting = map (λ m. record { length = length (τ .branch); alternative = m }) ks ++ τ .waiting;
 })
 
--- A step on an open tree: checks 11 to 16, a line for each, in the order of their numbers.
-unfoldable pub step : Table → Tree → Rule → Four ℕ → Checked Status
-step table τ x n = do
-  require (every (onBranch (τ .branch)) (ruleFields x) n) Reason.NoSuchPlace
-  c ← requireSome (conclude table (literalAt (τ .branch) (n .a)) (literalAt (τ .branch) (n .b)) (n .c) (n .d) (rule x)) Reason.NeedNotMet
-  require (not (c .fresh) || isFresh table (τ .branch) (n .d)) Reason.NotFresh
-  ks ← requireSome (c .adds) Reason.TermNotMade
+-- The alternatives that a step adds to a branch: checks 11 to 14, a line for each, in the order of their numbers.
+unfoldable pub alternatives : Table → List Literal → Rule → Four ℕ → Checked (List (List Literal))
+alternatives table B x n = do
+  require (every (onBranch B) (ruleUses x) n) Reason.NoSuchPlace
+  c ← requireSome (conclude table (literalAt B (n .a)) (literalAt B (n .b)) (n .c) (n .d) (rule x)) Reason.NeedNotMet
+  require (not (c .fresh) || isFresh table B (n .d)) Reason.NotFresh
+  requireSome (c .adds) Reason.TermNotMade
+
+-- What they make of an open tree: checks 15 and 16.
+unfoldable pub grown : Tree → List (List Literal) → Checked Status
+grown τ ks = do
   require (roomOnBranch (length (τ .branch)) ks) Reason.BranchFull
   require (roomToWait (length (τ .waiting)) ks) Reason.WaitingFull
   passed (grow τ ks)

@@ -111,3 +111,6 @@ pub struct Place(pub usize);
 pub struct TermNumber(pub usize);
 
 pub struct Name(pub usize);
+
+// The t of `rep`, a side of a literal: "1 left, 2 right".
+pub struct Side(pub usize);

@@ -1,0 +1,79 @@
+-- An enum whose variants hold nothing: its values are as many as its variants, so what a test says of each of them, it says of every value. Every rule stands
+-- at its place of the table of rules.
+use mathlib.Core.Path.{_≡_, refl, sym, _∙_, ap}
+use mathlib.Core.Bool.{Bool, true, false, _&&_, true≢false}
+use mathlib.Core.List.{List, [], _∷_, map}
+use mathlib.Core.Logic.{_⊎_, inl, inr}
+use Prim.Native.Nat.{ℕ}
+use lib.Dec.{eqb}
+use lib.ListN.{getD}
+use borrow.Author.Tests.{eqb-true}
+use denote.Struct.Field.{Field}
+use denote.Enum.Declared.{Choice, Record, Declared, declared, tagOf, rowss, intoss}
+use denote.Enum.Enum.{tag}
+use Rattle.tableau.specs.declared.Rule.{Rule}
+use Rattle.tableau.specs.Words.{ruleNames}
+use Rattle.tableau.proofs.Rule as rule-type
+use Rattle.tableau.proofs.Bools.{both-true}
+
+-- every variant holds nothing
+abbrev plain : List (List Field) → Bool
+plain [] = true
+plain ([] ∷ Fss) = plain Fss
+plain ((F ∷ Fs) ∷ Fss) = false
+
+-- what f gives each variant, in their order
+abbrev each : {A : Type 0} (Fss : List (List Field)) → (Choice Fss → A) → List A
+each [] f = []
+each ([] ∷ Fss) f = f (inl tt) ∷ each Fss (λ c. f (inr c))
+each ((F ∷ Fs) ∷ Fss) f = []
+
+at-tag : {A : Type 0} (Fss : List (List Field)) → plain Fss ≡ true → (f : Choice Fss → A) (c : Choice Fss) (d : A) → getD (each Fss f) (tag (rowss Fss) (intoss Fss c)) d ≡ f c
+at-tag [] p f c d = absurd c
+at-tag ([] ∷ Fss) p f (inl tt) d = refl
+at-tag ([] ∷ Fss) p f (inr c) d = at-tag Fss p (λ e. f (inr e)) c d
+at-tag ((F ∷ Fs) ∷ Fss) p f c d = absurd (true≢false (sym p))
+
+module _ (N : Record) (p : plain (N .parts) ≡ true) where
+  abbrev values : List (N .D)
+  values = each (N .parts) (N .make)
+
+  -- a value is the one at its place
+  pub at-place : (x d : N .D) → getD values (tagOf (declared N) x) d ≡ x
+  at-place x d = at-tag (N .parts) p (N .make) (N .as-values x) d ∙ N .eta x
+
+  pub same-place : (x y : N .D) → eqb (tagOf (declared N) x) (tagOf (declared N) y) ≡ true → x ≡ y
+  same-place x y e = sym (at-place x x) ∙ ap (λ n. getD values n x) (eqb-true _ _ e) ∙ at-place y x
+
+-- a test that holds of all of a list
+abbrev pub allOf : {A : Type 0} → (A → Bool) → List A → Bool
+allOf f [] = true
+allOf f (x ∷ xs) = f x && allOf f xs
+
+every-choice : {A : Type 0} (Fss : List (List Field)) → plain Fss ≡ true → (f : Choice Fss → A) (g : A → Bool) → allOf g (each Fss f) ≡ true → (c : Choice Fss)
+    → g (f c) ≡ true
+every-choice [] p f g h c = absurd c
+every-choice ([] ∷ Fss) p f g h (inl tt) = both-true (g (f (inl tt))) _ h .0
+every-choice ([] ∷ Fss) p f g h (inr c) = every-choice Fss p (λ e. f (inr e)) g (both-true (g (f (inl tt))) _ h .1) c
+every-choice ((F ∷ Fs) ∷ Fss) p f g h c = absurd (true≢false (sym p))
+
+-- THE TABLE OF RULES: the rules in the order in which it names them
+unfoldable pub rules : List Rule
+rules = map (λ n. n .is) ruleNames
+
+abbrev pub placeOf : Rule → ℕ
+placeOf x = tagOf rule-type.the-type x
+
+-- EVERY RULE STANDS AT ITS PLACE OF THE TABLE
+pub stands : (x d : Rule) → getD rules (placeOf x) d ≡ x
+unfolding rules ruleNames
+stands = at-place rule-type.enum refl
+
+-- so a test that holds of all rules of the table holds of every rule
+pub every-rule : (f : Rule → Bool) → allOf f rules ≡ true → (x : Rule) → f x ≡ true
+unfolding rules ruleNames
+every-rule f h x = ap f (sym (rule-type.eta x)) ∙ every-choice rule-type.parts refl rule-type.make f h (rule-type.as-values x)
+
+-- rules with one place are one rule
+pub same-rule : (x y : Rule) → eqb (placeOf x) (placeOf y) ≡ true → x ≡ y
+same-rule = same-place rule-type.enum refl
