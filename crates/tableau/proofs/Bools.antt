@@ -79,6 +79,21 @@ every-true f x y h =
     let h₃ = both-true (f (x .c) (y .c)) _ (h₂ .1) in
     (h₁ .0, h₂ .0, h₃ .0, h₃ .1)
 
+-- `every`, where each test is run only if those before it hold: the flag that comes out is the whole.
+module _ {A B : Type 0} (f : A → B → Bool) (x : Four A) (y : Four B) where
+  pub first-fails : {r : Bool} → r ≡ f (x .a) (y .a) → r ≡ false → r ≡ every f x y
+  first-fails e n = n ∙ λ i. (sym n ∙ e) i && (f (x .b) (y .b) && (f (x .c) (y .c) && f (x .d) (y .d)))
+
+  pub second-fails : {r₁ r : Bool} → r₁ ≡ f (x .a) (y .a) → r₁ ≡ true → r ≡ f (x .b) (y .b) → r ≡ false → r ≡ every f x y
+  second-fails e₁ t₁ e n = n ∙ λ i. (sym t₁ ∙ e₁) i && ((sym n ∙ e) i && (f (x .c) (y .c) && f (x .d) (y .d)))
+
+  pub third-fails : {r₁ r₂ r : Bool} → r₁ ≡ f (x .a) (y .a) → r₁ ≡ true → r₂ ≡ f (x .b) (y .b) → r₂ ≡ true → r ≡ f (x .c) (y .c) → r ≡ false → r ≡ every f x y
+  third-fails e₁ t₁ e₂ t₂ e n = n ∙ λ i. (sym t₁ ∙ e₁) i && ((sym t₂ ∙ e₂) i && ((sym n ∙ e) i && f (x .d) (y .d)))
+
+  pub three-hold : {r₁ r₂ r₃ r : Bool} → r₁ ≡ f (x .a) (y .a) → r₁ ≡ true → r₂ ≡ f (x .b) (y .b) → r₂ ≡ true → r₃ ≡ f (x .c) (y .c) → r₃ ≡ true
+      → r ≡ f (x .d) (y .d) → r ≡ every f x y
+  three-hold e₁ t₁ e₂ t₂ e₃ t₃ e = λ i. (sym t₁ ∙ e₁) i && ((sym t₂ ∙ e₂) i && ((sym t₃ ∙ e₃) i && e i))
+
 pub eqb-same : (n : ℕ) → eqb n n ≡ true
 eqb-same n = eq-eqb n n refl
 

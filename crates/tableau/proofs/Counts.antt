@@ -14,7 +14,7 @@ use Rattle.tableau.specs.Basics.{Four, bytes, sameBytes, lookup}
 use Rattle.tableau.specs.File.{Line, rank, shape, split, LF}
 use Rattle.tableau.specs.Words.{words, relations, ruleNames, Command, make, assume, infer, commandOf}
 use Rattle.tableau.specs.Rules.{rule}
-use Rattle.tableau.specs.Tree.{Checked, refused, passed, _>>=_, _>>_, require, requireSome, Tree, Status, isOpen, isClosed, alternatives, grown}
+use Rattle.tableau.specs.Tree.{Checked, refused, passed, _>>=_, _>>_, require, requireSome, Tree, Status, isOpen, isClosed, answer, alternatives, grown}
 use Rattle.tableau.specs.Reply.{reasonNumber, Counts, State, start, requireOpen, termLine, literalLine, assumed, stepLine, isClosing, counted}
 use Rattle.tableau.specs.Reply.{runOpen, runRead, runLine, Verdict, accept, refuse, atEnd, runLines, verdict, replyOf, reply}
 use Rattle.tableau.specs.Claims.{hasLetter, closesBranch, countIf, CountsOf, RightCounts}
@@ -119,7 +119,7 @@ requireOpen-range isClosed = refl
 ruleset range = (bind-range, require-range, requireSome-range, requireSome-last, requireOpen-range)
 
 step-range : (σ : State) (τ : Tree) (c : Command) (n : Four ℕ) → CheckInRange (runOpen σ τ c n)
-unfolding runOpen termLine literalLine assumed stepLine alternatives grown reasonNumber
+unfolding runOpen termLine literalLine assumed stepLine answer alternatives grown reasonNumber
 step-range σ τ (make w) n = search range depth 12
 step-range σ τ (assume R) n = search range depth 12
 step-range σ τ (infer x) n = search range depth 12

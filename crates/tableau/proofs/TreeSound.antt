@@ -15,7 +15,7 @@ use Rattle.tableau.specs.Terms.{TermNo, Table, Literal, at, sortOf, resu
 use Rattle.tableau.specs.Meaning.{FiniteHeap, Values, value, AllTrue}
 use Rattle.tableau.specs.Rules.{rule}
 use Rattle.tableau.specs.Steps.{conclude, isFresh}
-use Rattle.tableau.specs.Tree.{passed, Waiting, Tree, Status, isOpen, isClosed, literalAt, onBranch, roomOnBranch, roomToWait, close, grow, alternatives, grown}
+use Rattle.tableau.specs.Tree.{passed, Waiting, Tree, Status, isOpen, isClosed, literalAt, onBranch, roomOnBranch, roomToWait, close, grow, answer, alternatives, grown}
 use Rattle.tableau.specs.Reply.{ofSort}
 use Rattle.tableau.proofs.Bools.{every-true}
 use Rattle.tableau.proofs.Checks.{require-passed, requireSome-passed, requireSome-is, passed-injective}
@@ -116,7 +116,7 @@ module _ (table : Table) (wf : WellFormed (at table)) (H : FiniteHeap) where
   -- A STEP
   pub step-refuted : (τ : Tree) (x : Rule) (n : Four ℕ) (ks : List (List Literal)) (s : Status) → every (ofSort table) (ruleUses x) n ≡ true
       → alternatives table (τ .branch) x n ≡ passed ks → grown τ ks ≡ passed s → StatusRefuted table H s → StatusRefuted table H (isOpen τ)
-  unfolding alternatives grown
+  unfolding answer alternatives grown
   step-refuted τ x n ks s sorts e g d =
       let B = τ .branch in
       let a = every-true (ofSort table) (ruleUses x) n sorts in

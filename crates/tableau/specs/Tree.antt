@@ -98,13 +98,19 @@ grow τ (k ∷ ks) = isOpen (record {
   waiting = map (λ m. record { length = length (τ .branch); alternative = m }) ks ++ τ .waiting;
 })
 
--- The alternatives that a step adds to a branch: checks 11 to 14, a line for each, in the order of their numbers.
+-- The alternatives that rule x adds, where P and Q are the literals at places p and q, and `fresh` says whether w is fresh: checks 12 to 14, a line for each, in
+-- the order of their numbers.
+unfoldable pub answer : Table → Bool → Option Literal → Option Literal → ℕ → ℕ → Rule → Checked (List (List Literal))
+answer table fresh P Q t w x = do
+  c ← requireSome (conclude table P Q t w (rule x)) Reason.NeedNotMet
+  require (not (c .fresh) || fresh) Reason.NotFresh
+  requireSome (c .adds) Reason.TermNotMade
+
+-- The same on a branch: check 11, then those above.
 unfoldable pub alternatives : Table → List Literal → Rule → Four ℕ → Checked (List (List Literal))
 alternatives table B x n = do
   require (every (onBranch B) (ruleUses x) n) Reason.NoSuchPlace
-  c ← requireSome (conclude table (literalAt B (n .a)) (literalAt B (n .b)) (n .c) (n .d) (rule x)) Reason.NeedNotMet
-  require (not (c .fresh) || isFresh table B (n .d)) Reason.NotFresh
-  requireSome (c .adds) Reason.TermNotMade
+  answer table (isFresh table B (n .d)) (literalAt B (n .a)) (literalAt B (n .b)) (n .c) (n .d) x
 
 -- What they make of an open tree: checks 15 and 16.
 unfoldable pub grown : Tree → List (List Literal) → Checked Status

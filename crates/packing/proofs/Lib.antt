@@ -1,0 +1,3 @@
+pub mod PackingLaws
+pub mod ViewLaws
+pub mod CongruenceLaws

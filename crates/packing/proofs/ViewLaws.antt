@@ -1,0 +1,72 @@
+-- The arms of a `let .. else`: which variant a view is, by its key.
+use mathlib.Core.Path.{_≡_, refl, sym, _∙_, ap, subst}
+use mathlib.Core.Bool.{Bool, true, false, not, _&&_}
+use mathlib.Core.List.{List, [], _∷_}
+use mathlib.Core.Logic.{inl, inr}
+use Prim.Native.Nat.{ℕ, suc}
+use native.Mathlib.Omega.{arith}
+use lib.Dec.{eqb}
+use types.Run.{OneOf}
+use borrow.Author.Tests.{eqb-false, not-true}
+use denote.Enum.Declared as Declared
+use Rattle.tableau.specs.declared.Sort.{Sort}
+use Rattle.tableau.specs.declared.Name.{Name}
+use Rattle.tableau.specs.declared.Operator.{Operator}
+use Rattle.tableau.specs.Basics.{Four}
+use Rattle.tableau.specs.Terms.{TermNo, Term, variable, apply, operatorIndex, sortIndex, sameSort}
+use Rattle.tableau.specs.Steps.{isRfv}
+use Rattle.tableau.proofs.Bools.{both-true}
+use Rattle.tableau.proofs.Sort as sort-type
+use Rattle.packing.specs.declared.TermView.{TermView}
+use Rattle.packing.specs.Packing.{viewOf, viewApply}
+use Rattle.packing.proofs.TermView as term-view
+
+-- the keys of the other arms leave k out
+abbrev pub absent : List ℕ → ℕ → Bool
+absent [] k = true
+absent (j ∷ js) k = not (eqb j k) && absent js k
+
+pub not-among : (js : List ℕ) (k x : ℕ) → absent js k ≡ true → OneOf js x → x ≡ k → ⊥
+not-among [] k x a h e = h
+not-among (j ∷ []) k x a h e = eqb-false j k (not-true _ (both-true (not (eqb j k)) _ a .0)) (sym h ∙ e)
+not-among (j ∷ i ∷ js) k x a (inl h) e = eqb-false j k (not-true _ (both-true (not (eqb j k)) _ a .0)) (sym h ∙ e)
+not-among (j ∷ i ∷ js) k x a (inr h) e = not-among (i ∷ js) k x (both-true (not (eqb j k)) _ a .1) h e
+
+-- the key of an operator's view
+pub operator-tag : (o : Operator) (k : Four TermNo) → Declared.tagOf term-view.the-type (viewApply o k) ≡ suc (operatorIndex o)
+unfolding operatorIndex viewApply
+operator-tag Operator.Nul k = refl
+operator-tag Operator.Rea k = refl
+operator-tag Operator.Emp k = refl
+operator-tag Operator.All k = refl
+operator-tag Operator.Cup k = refl
+operator-tag Operator.Cap k = refl
+operator-tag Operator.Dif k = refl
+operator-tag Operator.Sin k = refl
+operator-tag Operator.Img k = refl
+operator-tag Operator.Wri k = refl
+operator-tag Operator.Typ k = refl
+operator-tag Operator.Dty k = refl
+
+-- a term whose view is no variable is no `rfv`
+abbrev pub operators : List ℕ
+operators = 1 ∷ 2 ∷ 3 ∷ 4 ∷ 5 ∷ 6 ∷ 7 ∷ 8 ∷ 9 ∷ 10 ∷ 11 ∷ 12 ∷ []
+
+pub not-variable : (e : Term) (x : TermView) → x ≡ viewOf e → OneOf operators (Declared.tagOf term-view.the-type x) → isRfv e ≡ false
+not-variable (variable s n) x q h = absurd (not-among operators 0 (Declared.tagOf term-view.the-type x) refl h (ap (Declared.tagOf term-view.the-type) q))
+not-variable (apply o k) x q h = refl
+
+-- a variable of another sort is none either
+pub not-reference : (s : Sort) → OneOf (1 ∷ 2 ∷ 3 ∷ 4 ∷ []) (Declared.tagOf sort-type.the-type s) → sameSort Sort.Reference s ≡ false
+unfolding sortIndex
+not-reference Sort.Reference h = absurd (not-among (1 ∷ 2 ∷ 3 ∷ 4 ∷ []) 0 0 refl h refl)
+not-reference Sort.Region h = refl
+not-reference Sort.Heap h = refl
+not-reference Sort.Field h = refl
+not-reference Sort.Class h = refl
+
+-- the term of a view that is a variable
+pub view-variable : (e : Term) (s : Sort) (n : Name) → TermView.Variable s n ≡ viewOf e → isRfv e ≡ sameSort Sort.Reference s
+view-variable (variable s′ n′) s n q = let z : s ≡ s′ = cc in ap (sameSort Sort.Reference) (sym z)
+view-variable (apply o k) s n q =
+    let z : 0 ≡ suc (operatorIndex o) = ap (Declared.tagOf term-view.the-type) q ∙ operator-tag o k in absurd (omega arith)

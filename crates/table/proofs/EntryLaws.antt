@@ -1,0 +1,43 @@
+-- What the arrays tell of the table that they hold.
+use mathlib.Core.Path.{_≡_, refl, sym, _∙_, ap}
+use mathlib.Core.List.{List, [], _∷_}
+use mathlib.Core.Option.{Option, none, some}
+use Prim.Native.Nat.{ℕ, zero, suc, _%_, _<_, _≤_}
+use native.Mathlib.Omega.{arith}
+use lib.ListN.{length, getD, List·getD-eq-default}
+use Rattle.tableau.specs.declared.Sort.{Sort}
+use Rattle.tableau.specs.Terms.{TermNo, Table, Term, at, numberOf, sortOf, sortIndex}
+use Rattle.packing.specs.Packing.{packTerm, unpackTerm, Packs}
+use Rattle.table.specs.Held.{Entries, Searchable, foundOf, SmallFound}
+use Rattle.table.specs.declared.Found.{Found}
+use Rattle.packing.proofs.PackingLaws.{unpack-pack, pack-injective}
+use Rattle.table.proofs.NumberLaws.{Standing, found-in}
+use Rattle.table.proofs.ChainLaws.{Seeking}
+
+-- an entry is its term
+pub entry-term : (table : Table) (terms : List ℕ) → Entries table terms → (t : TermNo) → unpackTerm (getD terms t 0) ≡ at table t
+entry-term table terms E t = ap unpackTerm (E .packed t) ∙ unpack-pack (at table t) (E .packable t)
+
+-- what a search ends with
+module _ (table : Table) (terms chains : List ℕ) (S : Searchable table terms chains) (p : ℕ) (e : Term) (P : Packs e p) where
+  pub here : (t : TermNo) → 0 < t → t ≤ length table → getD terms t 0 ≡ p → foundOf (some t) ≡ foundOf (numberOf table e)
+  here t l m q =
+      let same : at table t ≡ e = pack-injective (at table t) e (S .entries .packable t) (P .packable) (sym (S .entries .packed t) ∙ q ∙ P .is) in
+      ap foundOf (sym (ap (numberOf table) (sym same) ∙ S .numbered t l m))
+
+  pub nowhere : ((j : ℕ) → 0 < j → j ≤ length table → getD terms j 0 ≡ p → ⊥) → foundOf none ≡ foundOf (numberOf table e)
+  nowhere h = go (numberOf table e) refl
+    where
+      go : (o : Option TermNo) → numberOf table e ≡ o → foundOf none ≡ foundOf o
+      go none q = refl
+      go (some j) q =
+          let s = found-in table e j q in
+          absurd (h j (s .first) (s .last) (S .entries .packed j ∙ ap packTerm (s .is) ∙ sym (P .is)))
+
+-- what a search finds is small
+pub found-small : (table : Table) (terms : List ℕ) → Entries table terms → (e : Term) → SmallFound (foundOf (numberOf table e))
+found-small table terms E e = go (numberOf table e) refl
+  where
+    go : (o : Option TermNo) → numberOf table e ≡ o → SmallFound (foundOf o)
+    go none q = tt
+    go (some j) q = let l : j ≤ length table = found-in table e j q .last in omega (arith, E .few)

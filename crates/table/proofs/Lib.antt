@@ -1,0 +1,4 @@
+pub mod NumberLaws
+pub mod ChainLaws
+pub mod EntryLaws
+pub mod GrowthLaws
