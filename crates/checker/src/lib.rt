@@ -17,7 +17,6 @@ ghost use Rattle.tableau.specs.Reply as specification;
 ghost use Rattle.tableau.specs.declared.Letter.{Letter};
 ghost use Rattle.tableau.specs.Terms.{Table};
 ghost use Rattle.terms.specs.Lines.{arrays, HoldsIn};
-ghost use Rattle.reply.specs.Line.{lineBytes};
 ghost use Rattle.reply.specs.Verdict.{verdictOf};
 ghost use Rattle.sections.specs.Sections.{NoLine, Between, verdictAfterTerms};
 ghost use Rattle.checker.specs.Text.{textOf};
@@ -92,7 +91,7 @@ pub extern "C" fn tabcheck(file: &[u8], reply: &mut [u8]) -> u32
 
 // The reply line of a file.
 pub fn reply_line(file: &[u8]) -> Text
-    ensures { λ r. ⌜ r .len ≤ lineBytes ⌝ }
+    ensures { λ r. ⌜ r .len ≤ length (r .bytes) ⌝ }
     ensures { λ r. ⌜ textOf r ≡ specification.replyLine (specification.reply (now (file .entry))) ⌝ }
     ensures { λ r. ⌜ (BeginsWithYes (textOf r) → NoHeap (now (file .entry))) ⌝ }
 {
