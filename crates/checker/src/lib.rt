@@ -12,7 +12,6 @@ ghost use mathlib.Core.Path.{_≡_};
 ghost use Prim.Native.Nat.{_≤_};
 ghost use lib.ListN.{length};
 ghost use Rattle.tableau.specs.Claims.{BeginsWithYes, NoHeap};
-ghost use Rattle.tableau.specs.File.{maxBytes};
 ghost use Rattle.tableau.specs.Reply as specification;
 ghost use Rattle.tableau.specs.declared.Letter.{Letter};
 ghost use Rattle.tableau.specs.Terms.{Table};
