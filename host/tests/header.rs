@@ -2,15 +2,17 @@
 //! include it can call the library.
 
 mod cases;
+mod named;
 mod process;
 mod runner;
 
 use process::{repository, run_on, scratch};
-use std::fs;
-use std::path::PathBuf;
+use std::fs::{self, File};
+use std::path::{Path, PathBuf};
 use std::process::{Command, Output};
 
 const HEADER: &str = include_str!("../../include/tabcheck.h");
+const README: &str = include_str!("../../README.md");
 
 /// The column "When" of the refusals, from 1.
 const WHEN: [&str; 18] = [
@@ -92,7 +94,10 @@ fn succeeded(output: Output) -> String {
 
 /// Compiles a program of `tests/c` and links it with the library.
 fn compiled(name: &str) -> PathBuf {
-    let source = repository().join(format!("host/tests/c/{name}.c"));
+    linked(&repository().join(format!("host/tests/c/{name}.c")), name)
+}
+
+fn linked(source: &Path, name: &str) -> PathBuf {
     let library = repository().join("target/staticlib/libchecker.a");
     let program = scratch(name);
     let mut cc = cc();
@@ -108,6 +113,40 @@ fn a_c_host_gets_every_reply() {
         let output = run_on(&mut Command::new(&program), "caller.in", file);
         String::from_utf8(output.stdout).unwrap()
     });
+}
+
+/// A folder can be opened and not read.
+fn expect_status_2_where_reading_fails(program: &Path) {
+    let folder = File::open(repository()).unwrap();
+    let output = Command::new(program).stdin(folder).output().unwrap();
+    assert_eq!(output.status.code(), Some(2));
+    assert_eq!(output.stdout, b"");
+    let stderr = String::from_utf8(output.stderr).unwrap();
+    assert!(stderr.contains("standard input"), "{stderr}");
+}
+
+#[test]
+fn a_c_host_that_cannot_read_says_so() {
+    expect_status_2_where_reading_fails(&compiled("caller"));
+}
+
+/// The program `accept.c` of the page.
+#[test]
+fn the_c_program_of_the_readme() {
+    let (_, rest) = README.split_once("```c\n").unwrap();
+    let (text, _) = rest.split_once("```\n").unwrap();
+    let source = scratch("accept.c");
+    fs::write(&source, text).unwrap();
+    let program = linked(&source, "accept");
+
+    let f = named::file("marked: F");
+    let runs = [(&f[..], "accepted\n", 0), (b"", "refused: number 17\n", 1)];
+    for (file, said, status) in runs {
+        let output = run_on(&mut Command::new(&program), "accept.in", file);
+        assert_eq!(String::from_utf8_lossy(&output.stdout), said);
+        assert_eq!(output.status.code(), Some(status), "{said}");
+    }
+    expect_status_2_where_reading_fails(&program);
 }
 
 #[test]

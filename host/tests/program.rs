@@ -123,6 +123,26 @@ fn no_reply_where_reading_fails() {
     assert_eq!(stderr, "tabcheck: standard input can't be read\n");
 }
 
+const UNWRITTEN: &str = "tabcheck: the reply can't be written to standard output\n";
+
+/// Every write to this device fails as on a full disk.
+#[test]
+fn a_full_standard_output_is_said() {
+    let full = File::options().write(true).open("/dev/full").unwrap();
+    let mut command = Command::new(program());
+    let output = run_on(command.stdout(full), "full.in", &named::file("marked: F"));
+    assert_eq!(String::from_utf8_lossy(&output.stderr), UNWRITTEN);
+}
+
+#[test]
+fn a_closed_standard_output_is_said() {
+    let mut command = Command::new("sh");
+    command.args(["-c", "exec \"$0\" >&-"]).arg(program());
+    let output = run_on(&mut command, "closed.in", &named::file("marked: F"));
+    assert_eq!(output.stdout, b"");
+    assert_eq!(String::from_utf8_lossy(&output.stderr), UNWRITTEN);
+}
+
 #[test]
 fn the_script_runs_the_program_from_anywhere() {
     program();

@@ -1,19 +1,21 @@
 -- The whole file: its length, its sections one behind the other, its reply and the build host's call.
 use mathlib.Core.Path.{_≡_, refl, sym, _∙_, ap, subst}
 use mathlib.Core.Bool.{Bool, true, false}
-use mathlib.Core.List.{List, []}
+use mathlib.Core.List.{List, [], _++_}
 use Prim.Native.Nat.{ℕ, _+_, _<_, _≤_}
 use native.Mathlib.Omega.{arith}
 use lib.Dec.{eqb, leb}
-use lib.ListN.{length, take}
+use lib.ListN.{length, getD}
 use borrow.Author.Tests.{le-leb, lt-leb, eq-eqb, ne-eqb}
 use Rattle.tableau.specs.declared.Letter.{Letter}
 use Rattle.tableau.specs.declared.Reason.{Reason}
-use Rattle.tableau.specs.Claims.{NoHeap, Demand3}
+use Rattle.tableau.specs.Basics.{bytes}
+use Rattle.tableau.specs.Claims.{BeginsWithYes, NoHeap, Demand3}
 use Rattle.tableau.specs.File.{LF, split, maxBytes}
 use Rattle.tableau.specs.Terms.{Table}
 use Rattle.tableau.specs.Tree.{passed, isOpen}
-use Rattle.tableau.specs.Reply.{start, refuse, Verdict, runLines, verdict, Reply, replyOf, reply, reasonNumber, replyBytes, Call, call, bufferLength}
+use Rattle.tableau.specs.Reply.{start, refuse, Verdict, runLines, verdict, Reply, replyOf, reply, reasonNumber, sixNumbers, replyBytes}
+use Rattle.tableau.specs.Reply.{commaNumbers, yesOrNo, replyLine, call, bufferLength}
 use Rattle.tableau.proofs.Counts.{number-in-range}
 use Rattle.tableau.proofs.Soundness.{demand3}
 use Rattle.terms.specs.Packing.{unpackLiteral}
@@ -27,17 +29,11 @@ use Rattle.sections.specs.Sections.{stateOf, withLiterals}
 -- CHECK 1
 pub too-long : (file : List ℕ) → maxBytes < length file → refuse Reason.TooLong 0 ≡ verdict file
 unfolding verdict
-too-long file h = go (leb (length file) maxBytes) (lt-leb (length file) maxBytes h)
-  where
-    go : (b : Bool) → b ≡ false → refuse Reason.TooLong 0 ≡ elim b [ true ↦ runLines (split LF file) 0 (passed start) | false ↦ refuse Reason.TooLong 0 ]
-    go b e = rw e
+too-long file h = rw (lt-leb (length file) maxBytes h, verdict)
 
 pub short-enough : (file : List ℕ) → length file ≤ maxBytes → verdictFrom file 0 0 (passed start) ≡ verdict file
 unfolding verdict
-short-enough file h = go (leb (length file) maxBytes) (le-leb (length file) maxBytes h)
-  where
-    go : (b : Bool) → b ≡ true → runLines (split LF file) 0 (passed start) ≡ elim b [ true ↦ runLines (split LF file) 0 (passed start) | false ↦ refuse Reason.TooLong 0 ]
-    go b e = rw e
+short-enough file h = rw (le-leb (length file) maxBytes h, verdict)
 
 -- the tree after the A lines: their literals, and nothing that waits
 pub tree-begins : (table : Table) (l : Letter) (t : Tree) (m : ℕ) → IsBranch (t .branch) m → t .len ≡ m → stackOf unpackLiteral (t .waiting) (t .count) ≡ []
@@ -66,23 +62,22 @@ no-heap file h = go (reply file .isYes) refl
     go true e = demand3 file e
     go false e = absurd (omega (arith, number-in-range file .1 e .0, h))
 
--- THE CALL
-pub buffer-right : (file b : List ℕ) → length b ≡ bufferLength → call file b ≡ record { returns = reply file .number; buffer = replyBytes (reply file) }
-unfolding call
-buffer-right file b h = go (eqb (length b) bufferLength) (eq-eqb (length b) bufferLength h)
+-- DEMAND 3 of the line
+pub line-no-heap : (file : List ℕ) → BeginsWithYes (replyLine (reply file)) → NoHeap file
+unfolding Demand3 replyLine yesOrNo bytes
+line-no-heap file = go (reply file .isYes) refl
   where
-    go : (x : Bool) → x ≡ true → _≡_ {A = Call} (elim x [
-      | true ↦ record { returns = reply file .number; buffer = replyBytes (reply file) }
-      | false ↦ record { returns = reasonNumber Reason.BufferLength; buffer = b }
-    ]) (record { returns = reply file .number; buffer = replyBytes (reply file) })
-    go x e = rw e
+    go : (b : Bool) → reply file .isYes ≡ b → BeginsWithYes (yesOrNo b ++ commaNumbers (sixNumbers (reply file))) → NoHeap file
+    go true e h = demand3 file e
+    go false e h = absurd (omega (arith, ap (λ (t : List ℕ). getD t 0 0) h))
 
-pub buffer-wrong : (file b : List ℕ) → (length b ≡ bufferLength → ⊥) → call file b ≡ record { returns = 18; buffer = b }
-unfolding call reasonNumber
-buffer-wrong file b h = go (eqb (length b) bufferLength) (ne-eqb (length b) bufferLength h)
-  where
-    go : (x : Bool) → x ≡ false → _≡_ {A = Call} (elim x [
-      | true ↦ record { returns = reply file .number; buffer = replyBytes (reply file) }
-      | false ↦ record { returns = reasonNumber Reason.BufferLength; buffer = b }
-    ]) (record { returns = 18; buffer = b })
-    go x e = rw e
+-- THE CALL
+pub buffer-right : (file b : List ℕ) → length b ≡ bufferLength
+    → call file b ≡ record { returns = reply file .number; buffer = replyBytes (reply file) }
+unfolding call
+buffer-right file b h = rw (eq-eqb (length b) bufferLength h, call)
+
+pub buffer-wrong : (file b : List ℕ) → (length b ≡ bufferLength → ⊥)
+    → call file b ≡ record { returns = reasonNumber Reason.BufferLength; buffer = b }
+unfolding call
+buffer-wrong file b h = rw (ne-eqb (length b) bufferLength h, call)

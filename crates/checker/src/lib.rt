@@ -1,5 +1,6 @@
 // The checker: the lines of a whole file, the build host's call, the reply line.
 use lines::Cursor;
+use reply::Reply;
 use reply::Verdict;
 use sections::Section;
 use sections::assumption_lines;
@@ -9,15 +10,24 @@ use tableau::Reason;
 use tree::Tree;
 ghost use mathlib.Core.Path.{_≡_};
 ghost use Prim.Native.Nat.{_≤_};
-ghost use lib.ListN.{length, take};
-ghost use Rattle.tableau.specs.Claims.{NoHeap};
-ghost use Rattle.tableau.specs.File.{maxBytes};
+ghost use lib.ListN.{length};
+ghost use Rattle.tableau.specs.Claims.{BeginsWithYes, NoHeap};
 ghost use Rattle.tableau.specs.Reply as specification;
 ghost use Rattle.tableau.specs.declared.Letter.{Letter};
 ghost use Rattle.tableau.specs.Terms.{Table};
 ghost use Rattle.terms.specs.Lines.{arrays, HoldsIn};
 ghost use Rattle.reply.specs.Verdict.{verdictOf};
 ghost use Rattle.sections.specs.Sections.{NoLine, Between, verdictAfterTerms};
+ghost use Rattle.checker.specs.Text.{textOf};
+
+// A file has at most so many bytes (check 1).
+pub const FILE_BYTES: usize = 60000;
+
+// The reply line: the first `len` of its bytes.
+pub struct Text {
+    pub bytes: [u8; Reply::LINE_BYTES],
+    pub len: usize,
+}
 
 // The A and S lines, where n terms are made.
 fn after_terms(
@@ -48,7 +58,7 @@ fn after_terms(
 fn check(file: &[u8]) -> Verdict
     ensures { λ r. ⌜ verdictOf r ≡ specification.verdict (now (file .entry)) ⌝ }
 {
-    if 60000 < file.len() {
+    if FILE_BYTES < file.len() {
         return Verdict::Refused(Reason::TooLong, 0);
     }
     let mut terms: [u64; 601] = [0; 601];
@@ -61,15 +71,16 @@ fn check(file: &[u8]) -> Verdict
     }
 }
 
-// The call of a build host: the refusal number, 0 after a yes; the six numbers in the buffer, or the buffer untouched where its length is not 24.
+// The call of a build host: the refusal number, 0 after a yes; the six numbers in the buffer, or the buffer untouched where its
+// length is wrong.
 #[no_mangle]
 pub extern "C" fn tabcheck(file: &[u8], reply: &mut [u8]) -> u32
     ensures { λ r. ⌜ r ≡ specification.call (now (file .entry)) (now (reply .entry)) .returns ⌝ }
     ensures { λ r. ⌜ now (reply .exit) ≡ specification.call (now (file .entry)) (now (reply .entry)) .buffer ⌝ }
     ensures { λ r. ⌜ (r ≡ 0 → NoHeap (now (file .entry))) ⌝ }
 {
-    if reply.len() != 24 {
-        return 18;
+    if reply.len() != Reply::BUFFER_BYTES {
+        return reply::reason_number(Reason::BufferLength) as u32;
     }
     let answer = reply::reply_of(check(file));
     let number = answer.number;
@@ -77,17 +88,14 @@ pub extern "C" fn tabcheck(file: &[u8], reply: &mut [u8]) -> u32
     number as u32
 }
 
-// The reply line: the first `len` of its bytes.
-pub struct Text {
-    pub bytes: [u8; 136],
-    pub len: usize,
-}
-
+// The reply line of a file.
 pub fn reply_line(file: &[u8]) -> Text
-    ensures { λ r. ⌜ (r .len ≤ 136) × (take (r .len) (r .bytes) ≡ specification.replyLine (specification.reply (now (file .entry)))) ⌝ }
+    ensures { λ r. ⌜ r .len ≤ length (r .bytes) ⌝ }
+    ensures { λ r. ⌜ textOf r ≡ specification.replyLine (specification.reply (now (file .entry))) ⌝ }
+    ensures { λ r. ⌜ (BeginsWithYes (textOf r) → NoHeap (now (file .entry))) ⌝ }
 {
     let answer = reply::reply_of(check(file));
-    let mut bytes: [u8; 136] = [0; 136];
+    let mut bytes: [u8; Reply::LINE_BYTES] = [0; Reply::LINE_BYTES];
     let len = reply::write_line(answer, &mut bytes);
     Text { bytes, len }
 }

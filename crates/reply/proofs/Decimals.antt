@@ -28,13 +28,16 @@ enough zero g n ds hf hg = absurd (omega arith)
 enough (suc f) zero n ds hf hg = absurd (omega arith)
 enough (suc f) (suc g) n ds hf hg = elim (decLt n 10) [
   | yes h ↦ last f n ds h ∙ sym (last g n ds h)
-  | no h ↦ next f n ds (omega arith) ∙ enough f g (n / 10) ((48 + n % 10) ∷ ds) (omega arith) (omega arith) ∙ sym (next g n ds (omega arith))
+  | no h ↦
+      let t = (48 + n % 10) ∷ ds in
+      next f n ds (omega arith) ∙ enough f g (n / 10) t (omega arith) (omega arith) ∙ sym (next g n ds (omega arith))
 ]
 
 pub last-digit : (n : ℕ) (ds : List ℕ) → n < 10 → decimalFrom (suc n) n ds ≡ (48 + n) ∷ ds
 last-digit n = last n n
 
-pub next-digit : (n : ℕ) (ds : List ℕ) → 10 ≤ n → decimalFrom (suc n) n ds ≡ decimalFrom (suc (n / 10)) (n / 10) ((48 + n % 10) ∷ ds)
+pub next-digit : (n : ℕ) (ds : List ℕ) → 10 ≤ n
+    → decimalFrom (suc n) n ds ≡ decimalFrom (suc (n / 10)) (n / 10) ((48 + n % 10) ∷ ds)
 next-digit n ds h = next n n ds h ∙ enough n (suc (n / 10)) (n / 10) ((48 + n % 10) ∷ ds) (omega arith) (omega arith)
 
 -- a number of two digits or more has one digit less without its last

@@ -11,7 +11,8 @@ use lib.Seq.{take-suc-set, drop-cons, drop-set-lt, getD-set-same}
 pub stored-behind : (xs : List ℕ) (n v : ℕ) → n < length xs → take (n + 1) (set xs n v) ≡ take n xs ++ (v ∷ [])
 stored-behind xs n v h = rw add-one (take-suc-set xs n v h)
 
-pub stored : (p q xs : List ℕ) (n m v : ℕ) → n < length xs → m ≡ n + 1 → take n xs ≡ p ++ q → take m (set xs n v) ≡ p ++ (q ++ (v ∷ []))
+pub stored : (p q xs : List ℕ) (n m v : ℕ) → n < length xs → m ≡ n + 1 → take n xs ≡ p ++ q
+    → take m (set xs n v) ≡ p ++ (q ++ (v ∷ []))
 stored p q xs n m v h e f = rw (e, stored-behind xs n v h, f) (append-assoc p q (v ∷ []))
 
 -- before the last ones

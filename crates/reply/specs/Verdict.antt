@@ -12,4 +12,12 @@ verdictOf (Verdict.Accepted c) = specification.accept (countsOf c)
 verdictOf (Verdict.Refused r i) = specification.refuse r i
 
 abbrev pub replyRecord : Reply → specification.Reply
-replyRecord r = record { isYes = r .«is_yes»; number = r .number; line = r .line; terms = r .terms; assumptions = r .assumptions; steps = r .steps; closings = r .closings }
+replyRecord r = record {
+  isYes = r .«is_yes»;
+  number = r .number;
+  line = r .line;
+  terms = r .terms;
+  assumptions = r .assumptions;
+  steps = r .steps;
+  closings = r .closings;
+}

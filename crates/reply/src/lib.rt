@@ -34,7 +34,16 @@ pub struct Reply {
     pub closings: usize,
 }
 
-fn reason_number(reason: Reason) -> usize
+impl Reply {
+    // The reply buffer of a build host: six numbers of four bytes.
+    pub const BUFFER_BYTES: usize = 24;
+
+    // Room for the reply line: `yes`, six commas with a number of up to 20 digits each, LF.
+    pub const LINE_BYTES: usize = 136;
+}
+
+// The refusal number of document 01.
+pub fn reason_number(reason: Reason) -> usize
     ensures { λ r. ⌜ r ≡ reasonNumber reason ⌝ }
 {
     match reason {

@@ -6,14 +6,18 @@ ghost use Prim.Native.Nat.{_+_, _≤_};
 ghost use lib.ListN.{length, take};
 ghost use Rattle.tableau.specs.File.{comma};
 ghost use Rattle.tableau.specs.Reply.{decimal, yesOrNo, replyLine};
-ghost use Rattle.reply.specs.Line.{Put};
+ghost use Rattle.reply.specs.Line.{lineBytes, numberDigits, Put};
 ghost use Rattle.reply.specs.Verdict.{replyRecord};
 
 const LF: u8 = 10;
 
-fn put_text(line: &mut [u8; 136], len: usize, text: &[u8]) -> usize
-    requires { ⌜ (len + length (now text) ≤ 136) × (length (now line) ≡ 136) ⌝ }
-    ensures { λ r. ⌜ (r ≡ len + length (now (text .entry))) × Put (now (line .entry)) len (now (text .entry)) (now (line .exit)) r ⌝ }
+// A 64-bit number has no more.
+const DIGITS: usize = 20;
+
+fn put_text(line: &mut [u8; Reply::LINE_BYTES], len: usize, text: &[u8]) -> usize
+    requires { ⌜ (len + length (now text) ≤ lineBytes) × (length (now line) ≡ lineBytes) ⌝ }
+    ensures { λ r. ⌜ r ≡ len + length (now (text .entry)) ⌝ }
+    ensures { λ r. ⌜ Put (now (line .entry)) len (now (text .entry)) (now (line .exit)) r ⌝ }
 {
     let mut i = 0;
     while i < text.len() {
@@ -24,12 +28,13 @@ fn put_text(line: &mut [u8; 136], len: usize, text: &[u8]) -> usize
 }
 
 // The digits are found from the last to the first: those from `pos + 1` on stand, and `rest` is what they leave of the value.
-fn put_decimal(line: &mut [u8; 136], len: usize, value: usize) -> usize
-    requires { ⌜ (len + 20 ≤ 136) × (length (now line) ≡ 136) ⌝ }
-    ensures { λ r. ⌜ (r ≤ len + 20) × Put (now (line .entry)) len (decimal value) (now (line .exit)) r ⌝ }
+fn put_decimal(line: &mut [u8; Reply::LINE_BYTES], len: usize, value: usize) -> usize
+    requires { ⌜ (len + numberDigits ≤ lineBytes) × (length (now line) ≡ lineBytes) ⌝ }
+    ensures { λ r. ⌜ r ≤ len + numberDigits ⌝ }
+    ensures { λ r. ⌜ Put (now (line .entry)) len (decimal value) (now (line .exit)) r ⌝ }
 {
-    let mut digits = [0; 20];
-    let mut pos = 19;
+    let mut digits = [0; DIGITS];
+    let mut pos = DIGITS - 1;
     let mut rest = value;
     while 10 <= rest {
         digits[pos] = (48 + rest % 10) as u8;
@@ -40,17 +45,19 @@ fn put_decimal(line: &mut [u8; 136], len: usize, value: usize) -> usize
     put_text(line, len, &digits[pos..])
 }
 
-fn put_field(line: &mut [u8; 136], len: usize, value: usize) -> usize
-    requires { ⌜ (len + 21 ≤ 136) × (length (now line) ≡ 136) ⌝ }
-    ensures { λ r. ⌜ (r ≤ len + 21) × Put (now (line .entry)) len (comma ∷ decimal value) (now (line .exit)) r ⌝ }
+fn put_field(line: &mut [u8; Reply::LINE_BYTES], len: usize, value: usize) -> usize
+    requires { ⌜ (len + 1 + numberDigits ≤ lineBytes) × (length (now line) ≡ lineBytes) ⌝ }
+    ensures { λ r. ⌜ r ≤ len + 1 + numberDigits ⌝ }
+    ensures { λ r. ⌜ Put (now (line .entry)) len (comma ∷ decimal value) (now (line .exit)) r ⌝ }
 {
     line[len] = b',';
     put_decimal(line, len + 1, value)
 }
 
-fn put_answer(line: &mut [u8; 136], yes: bool) -> usize
-    requires { ⌜ length (now line) ≡ 136 ⌝ }
-    ensures { λ r. ⌜ (r ≤ 3) × Put (now (line .entry)) 0 (yesOrNo yes) (now (line .exit)) r ⌝ }
+fn put_answer(line: &mut [u8; Reply::LINE_BYTES], yes: bool) -> usize
+    requires { ⌜ length (now line) ≡ lineBytes ⌝ }
+    ensures { λ r. ⌜ r ≤ 3 ⌝ }
+    ensures { λ r. ⌜ Put (now (line .entry)) 0 (yesOrNo yes) (now (line .exit)) r ⌝ }
 {
     if yes {
         return put_text(line, 0, b"yes");
@@ -58,9 +65,10 @@ fn put_answer(line: &mut [u8; 136], yes: bool) -> usize
     put_text(line, 0, b"no")
 }
 
-pub fn write_line(reply: Reply, line: &mut [u8; 136]) -> usize
-    requires { ⌜ length (now line) ≡ 136 ⌝ }
-    ensures { λ r. ⌜ (r ≤ 136) × (take r (now (line .exit)) ≡ replyLine (replyRecord reply)) × (length (now (line .exit)) ≡ 136) ⌝ }
+pub fn write_line(reply: Reply, line: &mut [u8; Reply::LINE_BYTES]) -> usize
+    requires { ⌜ length (now line) ≡ lineBytes ⌝ }
+    ensures { λ r. ⌜ (r ≤ lineBytes) × (length (now (line .exit)) ≡ lineBytes) ⌝ }
+    ensures { λ r. ⌜ take r (now (line .exit)) ≡ replyLine (replyRecord reply) ⌝ }
 {
     let is_yes = reply.is_yes;
     let number = reply.number;

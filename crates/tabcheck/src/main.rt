@@ -1,10 +1,12 @@
 // The program: reads a file from standard input and writes its reply line, and nothing else, to standard output.
-ghost use Prim.Native.Nat.{_≤_};
 ghost use lib.ListN.{length};
 ghost use Rattle.tabcheck.specs.Input.{Fits};
 use libc::STDERR_FILENO;
 use libc::STDIN_FILENO;
 use libc::STDOUT_FILENO;
+
+// One byte more than a file may have: when it is filled, the file is too long, whatever follows.
+const SPACE: usize = checker::FILE_BYTES + 1;
 
 // What came in: so many bytes, or a part that a failed read cut off.
 enum Input {
@@ -31,23 +33,21 @@ fn read_input(space: &mut [u8]) -> Input
     Input::Read(done)
 }
 
-fn write_start(line: &[u8; 136], n: usize)
-    requires { ⌜ n ≤ 136 ⌝ }
-{
-    let whole: &[u8] = line;
-    io::write_all(STDOUT_FILENO, &whole[..n]);
-}
-
+// Standard output has the whole reply line, or standard error says that it may not.
 fn write_reply(file: &[u8]) {
     let text = checker::reply_line(file);
     let bytes = text.bytes;
     let len = text.len;
-    write_start(&bytes, len);
+    if !io::write_all(STDOUT_FILENO, &bytes[..len]) {
+        io::write_all(
+            STDERR_FILENO,
+            b"tabcheck: the reply can't be written to standard output\n",
+        );
+    }
 }
 
 fn main() {
-    // One byte more than a file may have: when it is filled, the file is too long, whatever follows.
-    let mut space: [u8; 60001] = [0; 60001];
+    let mut space: [u8; SPACE] = [0; SPACE];
     let input = read_input(&mut space);
     // After a failed read there is no reply: the bytes before it are not the file, and a yes to them would be read as a yes to
     // the file. A program can't set its exit status, so an empty standard output has to say it.

@@ -4,6 +4,7 @@ use mathlib.Core.Bool.{Bool, true, false, _&&_, _||_}
 use mathlib.Core.List.{List, [], _∷_, _++_}
 use mathlib.Core.Option.{Option, none, some}
 use Prim.Native.Nat.{ℕ, suc}
+use lib.ListN.{take}
 use Rattle.tableau.specs.declared.Letter.{Letter}
 use Rattle.tableau.specs.Basics.{Four, bytes, sameBytes}
 use Rattle.tableau.specs.File.{Line, sameLetter, shape, split, LF}
@@ -115,3 +116,7 @@ CountsOf file r false = NoCounts r
 -- "Counts after a yes are the file's"; "a refusal reports zero for every count"
 unfoldable pub RightCounts : Checker → Type 0
 RightCounts checker = (file : List ℕ) → CountsOf file (checker file) (checker file .isYes)
+
+-- "A file is accepted when the checker says yes: its reply line begins with `yes`, or the call returns 0."
+abbrev pub BeginsWithYes : List ℕ → Type 0
+BeginsWithYes text = take 3 text ≡ bytes "yes"

@@ -1,9 +1,9 @@
 -- 'Four sham checkers have to fall short': each a function from bytes to a reply.
 use mathlib.Core.Path.{_≡_}
-use mathlib.Core.Bool.{Bool, true, false, cond}
+use mathlib.Core.Bool.{Bool, true, false, cond, _||_}
 use mathlib.Core.List.{List, [], _∷_}
 use mathlib.Core.Option.{Option}
-use Prim.Native.Nat.{ℕ, suc, _+_}
+use Prim.Native.Nat.{ℕ}
 use lib.Dec.{eqb}
 use Rattle.tableau.specs.declared.Letter.{Letter}
 use Rattle.tableau.specs.declared.Reason.{Reason}
@@ -47,18 +47,16 @@ firstStepOnly = firstOnly (hasLetter Letter.S)
 abbrev pub firstAlternativeOnly : Checker
 firstAlternativeOnly = firstOnly closesBranch
 
--- "One that invents step or closing counts": right but for n steps or closings too many
-abbrev pub addSteps : ℕ → Reply → Reply
-addSteps n r = record { isYes = r .isYes; number = r .number; line = r .line; terms = r .terms; assumptions = r .assumptions; steps = n + r .steps; closings = r .closings }
+-- "One that invents step or closing counts": any checker with a count that is not the file's own, at a file that it or the rules accept
+pub record Invents (count : Reply → ℕ) (test : Option Line → Bool) (checker : Checker) (file : List ℕ) : Type 0 where
+  pub accepted : (checker file .isYes || reply file .isYes) ≡ true
+  pub differs : ¬ (count (checker file) ≡ countIf test (linesOf file))
 
-abbrev pub addClosings : ℕ → Reply → Reply
-addClosings n r = record { isYes = r .isYes; number = r .number; line = r .line; terms = r .terms; assumptions = r .assumptions; steps = r .steps; closings = n + r .closings }
+abbrev pub InventsSteps : Checker → List ℕ → Type 0
+InventsSteps = Invents (λ r. r .steps) (hasLetter Letter.S)
 
-abbrev pub inventedSteps : ℕ → Checker
-inventedSteps n = λ file. addSteps n (reply file)
-
-abbrev pub inventedClosings : ℕ → Checker
-inventedClosings n = λ file. addClosings n (reply file)
+abbrev pub InventsClosings : Checker → List ℕ → Type 0
+InventsClosings = Invents (λ r. r .closings) closesBranch
 
 -- a checker's reply to a file is not the one that the second demand asks for
 abbrev pub Breaks2At : Checker → List ℕ → Type 0
@@ -71,5 +69,7 @@ pub record ShamsFallShort : Type 0 where
   pub yes-to-no-bytes : (t a s c : ℕ) → Breaks2At (yesToAll t a s c) []
   pub first-step : ¬ Demand3 firstStepOnly
   pub first-alternative : ¬ Demand3 firstAlternativeOnly
-  pub invented-steps : (n : ℕ) → Breaks2At (inventedSteps (suc n)) (fileOf F)
-  pub invented-closings : (n : ℕ) → Breaks2At (inventedClosings (suc n)) (fileOf F)
+  pub invented-steps : (checker : Checker) (file : List ℕ) → InventsSteps checker file → Breaks2At checker file
+  pub invented-closings : (checker : Checker) (file : List ℕ) → InventsClosings checker file → Breaks2At checker file
+  -- there are such checkers: F's own reply to every file, with a step or a closing more
+  pub some-invent : InventsSteps (yesToAll 4 2 3 1) (fileOf F) × InventsClosings (yesToAll 4 2 2 2) (fileOf F)

@@ -1,4 +1,5 @@
-/* A build host in C: checks the file on standard input, and prints the reply line. */
+/* A build host in C: checks the file on standard input, and prints the reply line. Ends with 0 after a yes, with 1 after a no, and
+ * with 2 and no reply where standard input can't be read to its end. */
 #include <stdio.h>
 
 #include "tabcheck.h"
@@ -15,6 +16,10 @@ int main(void)
     static uint8_t file[60001]; /* a byte more than a file may have, so that a longer one is refused */
     uint8_t reply[TABCHECK_REPLY_BYTES];
     size_t length = fread(file, 1, sizeof file, stdin);
+    if (ferror(stdin)) { /* a yes to the bytes before the failure would be taken for a yes to the file */
+        perror("caller: standard input");
+        return 2;
+    }
     int accepted = tabcheck(file, length, reply, sizeof reply) == TABCHECK_YES;
 
     printf("%s,%u,%u,", accepted ? "yes" : "no", number(reply, TABCHECK_REFUSAL), number(reply, TABCHECK_LINE));

@@ -5,7 +5,7 @@ use native.Mathlib.Omega.{arith}
 use lib.ListN.{length}
 use lib.Seq.{take-all}
 use borrow.Author.Needs.{needs}
-use Rattle.tableau.specs.Reply.{replyBytes, numberBytes}
+use Rattle.tableau.specs.Reply.{replyBytes, numberBytes, bufferLength}
 use Rattle.reply.proofs.buffer.write_numbers.Statement.{statement}
 use Rattle.reply.proofs.buffer.write_numbers.Tie as tie
 
@@ -18,8 +18,8 @@ returns c =
     let n3 = n4 .before .before .before .before in
     let n2 = n3 .before .before .before .before in
     let n1 = n2 .before .before .before .before in
-    let l : length (n6 .put-number6 .last .0) ≤ 24 = omega arith in
-    sym (take-all 24 (n6 .put-number6 .last .0) l)
+    let l : length (n6 .put-number6 .last .0) ≤ bufferLength = omega arith in
+    sym (take-all bufferLength (n6 .put-number6 .last .0) l)
     ∙ rw (
       n6 .put-number6 .ensures,
       n5 .put-number5 .ensures,

@@ -7,6 +7,7 @@ use lib.ListN.{length, take, drop, set, length-set, length-drop, length-take}
 use lib.Seq.{take-all}
 use borrow.Author.Needs.{needs}
 use Rattle.tableau.specs.Reply.{decimalFrom, decimal}
+use Rattle.reply.specs.Line.{numberDigits}
 use Rattle.reply.proofs.Stores.{stored-before}
 use Rattle.reply.proofs.Decimals.{next-digit, last-digit, room}
 use Rattle.reply.proofs.text.put_decimal.Statement.{statement}
@@ -14,7 +15,8 @@ use Rattle.reply.proofs.text.put_decimal.Tie as tie
 
 abbrev Inv-loop : tie.InvT-loop
 Inv-loop line len value digits₀ pos₀ rest₀ digits pos rest =
-    (pos < 20) × (length digits ≡ 20) × (rest < 10 ^ (pos + 1)) × (decimalFrom (suc rest) rest (drop (pos + 1) digits) ≡ decimal value)
+    (pos < numberDigits) × (length digits ≡ numberDigits) × (rest < 10 ^ (pos + 1))
+    × (decimalFrom (suc rest) rest (drop (pos + 1) digits) ≡ decimal value)
 
 abbrev μ-loop : tie.MeasureT-loop
 μ-loop line len value digits₀ pos₀ rest₀ digits pos rest = rest
@@ -36,9 +38,9 @@ returns c =
     let a = c .before .before .before .before .before .before .args in
     let l = c .before .before .before .before .before .loop in
     let digits = set (l .digits) (l .pos) (48 + l .rest) in
-    let fits : length (drop (l .pos) digits) ≤ 20 - l .pos = simp (length-drop, length-set) (omega arith) in
-    let text : take (20 - l .pos) (drop (l .pos) digits) ≡ decimal (a .value) =
-    take-all (20 - l .pos) (drop (l .pos) digits) fits
+    let fits : length (drop (l .pos) digits) ≤ numberDigits - l .pos = simp (length-drop, length-set) (omega arith) in
+    let text : take (numberDigits - l .pos) (drop (l .pos) digits) ≡ decimal (a .value) =
+    take-all (numberDigits - l .pos) (drop (l .pos) digits) fits
     ∙ stored-before (l .digits) (l .pos) (48 + l .rest) (omega arith)
     ∙ sym (last-digit (l .rest) (drop (l .pos + 1) (l .digits)) (omega arith))
     ∙ l .inv .3 in
@@ -50,6 +52,7 @@ put-decimal-spec =
     (tie.spec
     Inv-loop
     μ-loop
+    (λ c. omega arith)
     (λ c. (omega arith, refl, omega arith, refl))
     (λ c. omega arith)
     (λ c. omega arith)

@@ -6,12 +6,13 @@ use native.Mathlib.Numerals.{add-one}
 use native.Mathlib.Omega.{arith}
 use lib.ListN.{length, take, length-set}
 use lib.Seq.{take-suc, take-length}
+use Rattle.reply.specs.Line.{lineBytes}
 use Rattle.reply.proofs.Stores.{stored}
 use Rattle.reply.proofs.text.put_text.Statement.{statement}
 use Rattle.reply.proofs.text.put_text.Tie as tie
 
 abbrev Inv-loop : tie.InvT-loop
-Inv-loop line₀ len text i₀ line i = (i ≤ length text) × (length line ≡ 136) × (take (len + i) line ≡ take len line₀ ++ take i text)
+Inv-loop line₀ len text i₀ line i = (i ≤ length text) × (length line ≡ lineBytes) × (take (len + i) line ≡ take len line₀ ++ take i text)
 
 abbrev μ-loop : tie.MeasureT-loop
 μ-loop line₀ len text i₀ line i = length text - i

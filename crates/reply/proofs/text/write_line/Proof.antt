@@ -27,7 +27,7 @@ returns c =
     let ns4 = r .assumptions ∷ ns5 in
     let ns3 = r .terms ∷ ns4 in
     let ns2 = r .line ∷ ns3 in (
-      omega arith,
+      (omega arith, simp length-set (f6 .ensures .1 .size)),
       stored-behind (f6 .last .0) (f6 .result) LF (omega arith)
           ∙ first-field (r .closings) [] (f6 .ensures .1)
           ∙ first-field (r .steps) ns6 (c5 .put-field5 .ensures .1)
@@ -36,7 +36,6 @@ returns c =
           ∙ first-field (r .line) ns3 (c2 .put-field2 .ensures .1)
           ∙ first-field (r .number) ns2 (c1 .put-field .ensures .1)
           ∙ rw (c0 .put-answer .ensures .1 .held),
-      simp length-set (f6 .ensures .1 .size),
     )
 
 pub write-line-spec : {M : Type 1} → statement M
