@@ -1,4 +1,4 @@
 pub mod Arrays
 pub mod Branch
 pub mod Waiting
-pub mod Outcomes
+pub mod Changes

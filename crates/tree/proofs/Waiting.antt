@@ -9,7 +9,7 @@ use lib.Seq.{getD-set-same, getD-set-other}
 use Rattle.tableau.specs.Terms.{Literal}
 use Rattle.tableau.specs.Tree.{maxPlaces, maxWaiting, Waiting}
 use Rattle.tree.specs.declared.Alternative.{Alternative}
-use Rattle.tree.specs.State.{codesOf, Holds, packed, cutOf, unpacked, IsStack, waitingOf, stackOf}
+use Rattle.tree.specs.State.{codesOf, AtMost, packed, cutOf, unpacked, IsStack, waitingOf, stackOf}
 use Rattle.tree.proofs.Arrays.{all-set}
 
 -- the third code is not packed
@@ -19,7 +19,7 @@ short (suc zero) x y z z′ h = refl
 short (suc (suc zero)) x y z z′ h = refl
 short (suc (suc (suc n))) x y z z′ h = absurd (omega arith)
 
-module _ (cut : ℕ) (a : Alternative) (h : cut ≤ maxPlaces) (g : Holds 2 a) where
+module _ (cut : ℕ) (a : Alternative) (h : cut ≤ maxPlaces) (g : AtMost 2 a) where
   cut-packed : cutOf (packed cut a) ≡ cut
   cut-packed = omega arith
 
@@ -36,7 +36,7 @@ module _ (cut : ℕ) (a : Alternative) (h : cut ≤ maxPlaces) (g : Holds 2 a) w
       let e₂ : unpacked (packed cut a) .second ≡ a .second = rw (counted, q) (omega arith) in
       rw (count-packed, e₁, e₂) (short (a .count) (a .first) (a .second) 0 (a .third) (g .count))
 
-pub unpacked-holds : (w : ℕ) → Holds 3 (unpacked w)
+pub unpacked-holds : (w : ℕ) → AtMost 3 (unpacked w)
 unpacked-holds w = record { count = omega arith; first = omega arith; second = omega arith; third = omega arith }
 
 pub stack-length : (f : ℕ → Literal) (l : List ℕ) (n : ℕ) → length (stackOf f l n) ≡ n
@@ -65,7 +65,7 @@ pub push-none : {l : List ℕ} {n : ℕ} (cut : ℕ) → IsStack l n → Pushed 
 push-none cut w = record { stack = w; waiting = λ f. refl }
 
 pub push-one : {l : List ℕ} {n cut : ℕ} {more : List (List ℕ)} {l′ : List ℕ} {n′ : ℕ} (n″ : ℕ) (a : Alternative) → Pushed l n cut more l′ n′
-    → n′ < maxWaiting → cut + a .count ≤ maxPlaces → Holds 2 a → n″ ≡ n′ + 1 → Pushed l n cut (codesOf a ∷ more) (set l′ n′ (packed cut a)) n″
+    → n′ < maxWaiting → cut + a .count ≤ maxPlaces → AtMost 2 a → n″ ≡ n′ + 1 → Pushed l n cut (codesOf a ∷ more) (set l′ n′ (packed cut a)) n″
 push-one {l} {n} {cut} {more} {l′} {n′} n″ a p room places h next =
     let w = packed cut a in
     let c : cut ≤ maxPlaces = omega arith in

@@ -5,7 +5,8 @@ use mathlib.Core.List.{List, [], _∷_, _++_, map}
 use mathlib.Core.Option.{some}
 use Prim.Native.Nat.{ℕ, zero, suc, _+_, _*_, _/_, _%_, _^_, _≤_, _<_}
 use lib.ListN.{length, take, getD}
-use Rattle.tableau.specs.Terms.{Literal, place}
+use Rattle.tableau.specs.Fields.{place}
+use Rattle.tableau.specs.Terms.{Literal}
 use Rattle.tableau.specs.Tree as specification
 use Rattle.tableau.specs.Tree.{literalAt, onBranch, maxPlaces, maxWaiting, Waiting}
 use Rattle.tree.specs.declared.Alternative.{Alternative}
@@ -20,7 +21,7 @@ abbrev pub codesOf : Alternative → List ℕ
 codesOf a = take (a .count) (a .first ∷ a .second ∷ a .third ∷ [])
 
 -- at most n codes
-pub record Holds (n : ℕ) (a : Alternative) : Type 0 where
+pub record AtMost (n : ℕ) (a : Alternative) : Type 0 where
   pub count : a .count ≤ n
   pub first : a .first < codeLimit
   pub second : a .second < codeLimit

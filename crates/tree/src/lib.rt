@@ -5,9 +5,9 @@ ghost use mathlib.Core.Bool.{true};
 ghost use mathlib.Core.List.{[], _∷_, map};
 ghost use Prim.Native.Nat.{ℕ, _+_, _≤_, _<_, min, max};
 ghost use Rattle.tableau.specs.Terms.{Literal};
-ghost use Rattle.tableau.specs.Tree.{maxPlaces, root, passed, close};
-ghost use Rattle.tree.specs.State.{codeLimit, codesOf, Holds, packed, cutOf, unpacked, IsBranch, HasPlace, IsAt, Appended, treeOf, Within};
-ghost use Rattle.tree.specs.Outcome.{grown, Gives, Extends};
+ghost use Rattle.tableau.specs.Tree.{maxPlaces, root, passed, close, grown};
+ghost use Rattle.tree.specs.State.{codeLimit, codesOf, AtMost, packed, cutOf, unpacked, IsBranch, HasPlace, IsAt, Appended, treeOf, Within};
+ghost use Rattle.tree.specs.Change.{Gives, Extends};
 use tableau::Place;
 use tableau::Reason;
 
@@ -40,7 +40,7 @@ pub enum Extended {
 }
 
 // The answer stands beside the tree, since an enum can't hold its arrays.
-pub struct Outcome {
+pub struct Change {
     pub tree: Tree,
     pub answer: Answer,
 }
@@ -68,7 +68,7 @@ impl Alternative {
 
     pub fn one(first: u32) -> Self
         requires { ⌜ first < codeLimit ⌝ }
-        ensures { λ r. ⌜ Holds 1 r × (codesOf r ≡ first ∷ []) ⌝ }
+        ensures { λ r. ⌜ AtMost 1 r × (codesOf r ≡ first ∷ []) ⌝ }
     {
         Self {
             count: 1,
@@ -80,7 +80,7 @@ impl Alternative {
 
     pub fn two(first: u32, second: u32) -> Self
         requires { ⌜ (first < codeLimit) × (second < codeLimit) ⌝ }
-        ensures { λ r. ⌜ Holds 2 r × (codesOf r ≡ first ∷ second ∷ []) ⌝ }
+        ensures { λ r. ⌜ AtMost 2 r × (codesOf r ≡ first ∷ second ∷ []) ⌝ }
     {
         Self {
             count: 2,
@@ -92,7 +92,7 @@ impl Alternative {
 
     pub fn three(first: u32, second: u32, third: u32) -> Self
         requires { ⌜ (first < codeLimit) × (second < codeLimit) × (third < codeLimit) ⌝ }
-        ensures { λ r. ⌜ Holds 3 r × (codesOf r ≡ first ∷ second ∷ third ∷ []) ⌝ }
+        ensures { λ r. ⌜ AtMost 3 r × (codesOf r ≡ first ∷ second ∷ third ∷ []) ⌝ }
     {
         Self {
             count: 3,
@@ -103,7 +103,7 @@ impl Alternative {
     }
 
     fn pack(self, cut: usize) -> u64
-        requires { ⌜ Holds 2 self × (cut ≤ maxPlaces) ⌝ }
+        requires { ⌜ AtMost 2 self × (cut ≤ maxPlaces) ⌝ }
         ensures { λ r. ⌜ r ≡ packed cut self ⌝ }
     {
         let codes = self.first as u64 + Self::CODES * self.second as u64;
@@ -165,7 +165,7 @@ impl Tree {
 
     // The result is the new length.
     pub fn append(branch: &mut [u32; Tree::PLACES], len: usize, a: Alternative) -> usize
-        requires { ⌜ IsBranch (now branch) len × Holds 3 a × (len + a .count ≤ maxPlaces) ⌝ }
+        requires { ⌜ IsBranch (now branch) len × AtMost 3 a × (len + a .count ≤ maxPlaces) ⌝ }
         ensures { λ r. ⌜ Appended (now (branch .entry)) len (codesOf a) (now (branch .exit)) r ⌝ }
     {
         let n = a.count;
@@ -186,7 +186,7 @@ impl Tree {
 
     // One alternative, with check 15.
     pub fn extend(branch: &mut [u32; Tree::PLACES], len: usize, a: Alternative) -> Extended
-        requires { ⌜ IsBranch (now branch) len × Holds 3 a ⌝ }
+        requires { ⌜ IsBranch (now branch) len × AtMost 3 a ⌝ }
         ensures { λ r. ⌜ Extends (now (branch .entry)) len a (now (branch .exit)) r ⌝ }
     {
         if Self::PLACES < len + a.count {
@@ -195,40 +195,21 @@ impl Tree {
         Extended::To(Self::append(branch, len, a))
     }
 
-    // A step with one alternative.
-    pub fn add(mut self, a: Alternative) -> Outcome
-        requires { ⌜ Within self × Holds 3 a ⌝ }
-        ensures { λ r. ⌜ Gives self (λ f τ. grown τ (map (map f) (codesOf a ∷ []))) r ⌝ }
-    {
-        let len = self.len;
-        let Extended::To(n) = Self::extend(&mut self.branch, len, a) else {
-            return Outcome {
-                tree: self,
-                answer: Answer::Refused(Reason::BranchFull),
-            };
-        };
-        self.len = n;
-        Outcome {
-            tree: self,
-            answer: Answer::Open,
-        }
-    }
-
     // A step with two alternatives, with checks 15 and 16.
-    pub fn split2(mut self, first: Alternative, second: Alternative) -> Outcome
-        requires { ⌜ Within self × Holds 3 first × Holds 2 second ⌝ }
+    pub fn split2(mut self, first: Alternative, second: Alternative) -> Change
+        requires { ⌜ Within self × AtMost 3 first × AtMost 2 second ⌝ }
         ensures { λ r. ⌜ Gives self (λ f τ. grown τ (map (map f) (codesOf first ∷ codesOf second ∷ []))) r ⌝ }
     {
         let len = self.len;
         let count = self.count;
         if Self::PLACES < len + greatest(first.count, second.count) {
-            return Outcome {
+            return Change {
                 tree: self,
                 answer: Answer::Refused(Reason::BranchFull),
             };
         }
         if Self::WAITING < count + 1 {
-            return Outcome {
+            return Change {
                 tree: self,
                 answer: Answer::Refused(Reason::WaitingFull),
             };
@@ -237,27 +218,27 @@ impl Tree {
         self.len = n;
         self.waiting[count] = second.pack(len);
         self.count = count + 1;
-        Outcome {
+        Change {
             tree: self,
             answer: Answer::Open,
         }
     }
 
     // The same with three. The second is stored last, so that it is taken first.
-    pub fn split3(mut self, first: Alternative, second: Alternative, third: Alternative) -> Outcome
-        requires { ⌜ Within self × Holds 3 first × Holds 2 second × Holds 2 third ⌝ }
+    pub fn split3(mut self, first: Alternative, second: Alternative, third: Alternative) -> Change
+        requires { ⌜ Within self × AtMost 3 first × AtMost 2 second × AtMost 2 third ⌝ }
         ensures { λ r. ⌜ Gives self (λ f τ. grown τ (map (map f) (codesOf first ∷ codesOf second ∷ codesOf third ∷ []))) r ⌝ }
     {
         let len = self.len;
         let count = self.count;
         if Self::PLACES < len + greatest(first.count, greatest(second.count, third.count)) {
-            return Outcome {
+            return Change {
                 tree: self,
                 answer: Answer::Refused(Reason::BranchFull),
             };
         }
         if Self::WAITING < count + 2 {
-            return Outcome {
+            return Change {
                 tree: self,
                 answer: Answer::Refused(Reason::WaitingFull),
             };
@@ -267,20 +248,20 @@ impl Tree {
         self.waiting[count] = third.pack(len);
         self.waiting[count + 1] = second.pack(len);
         self.count = count + 2;
-        Outcome {
+        Change {
             tree: self,
             answer: Answer::Open,
         }
     }
 
     // A closing step. The lesser of the recorded length and the length asks for no order among the recorded lengths.
-    pub fn close(mut self) -> Outcome
+    pub fn close(mut self) -> Change
         requires { ⌜ Within self ⌝ }
         ensures { λ r. ⌜ Gives self (λ f τ. passed (close (τ .branch) (τ .waiting))) r ⌝ }
     {
         let count = self.count;
         if count == 0 {
-            return Outcome {
+            return Change {
                 tree: self,
                 answer: Answer::Closed,
             };
@@ -292,7 +273,7 @@ impl Tree {
         let cut = least(recorded, len);
         let n = Self::append(&mut self.branch, cut, Alternative::unpack(w));
         self.len = n;
-        Outcome {
+        Change {
             tree: self,
             answer: Answer::Open,
         }

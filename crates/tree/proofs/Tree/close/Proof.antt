@@ -5,7 +5,7 @@ use Prim.Native.Nat.{_-_, min}
 use mathlib.Core.Path.{_≡_}
 use Rattle.tree.specs.State.{cutOf}
 use Rattle.tree.proofs.Waiting.{unpacked-holds}
-use Rattle.tree.proofs.Outcomes.{top, close-last, close-open}
+use Rattle.tree.proofs.Changes.{top, close-last, close-open}
 use Rattle.tree.proofs.Tree.close.Statement.{statement}
 use Rattle.tree.proofs.Tree.close.Tie as tie
 

@@ -4,7 +4,7 @@ use native.Mathlib.Omega.{arith}
 use mathlib.Core.Path.{refl}
 use mathlib.Core.List.{[], _∷_}
 use Rattle.tree.proofs.Waiting.{push-none, push-one}
-use Rattle.tree.proofs.Outcomes.{branch-full, waiting-full, grow-open}
+use Rattle.tree.proofs.Changes.{branch-full, waiting-full, grow-open}
 use Rattle.tree.proofs.Tree.split2.Statement.{statement}
 use Rattle.tree.proofs.Tree.split2.Tie as tie
 

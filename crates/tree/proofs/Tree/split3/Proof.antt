@@ -5,7 +5,7 @@ use Prim.Native.Nat.{_+_}
 use mathlib.Core.Path.{refl}
 use mathlib.Core.List.{[], _∷_}
 use Rattle.tree.proofs.Waiting.{push-none, push-one}
-use Rattle.tree.proofs.Outcomes.{branch-full, waiting-full, grow-open}
+use Rattle.tree.proofs.Changes.{branch-full, waiting-full, grow-open}
 use Rattle.tree.proofs.Tree.split3.Statement.{statement}
 use Rattle.tree.proofs.Tree.split3.Tie as tie
 

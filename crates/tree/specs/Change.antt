@@ -1,34 +1,18 @@
--- The checks 15 and 16 with what follows them, and what a method hands back.
+-- What a method of the tree hands back, and what is added to the branch in place.
 use mathlib.Core.Path.{_≡_}
-use mathlib.Core.List.{List, []}
+use mathlib.Core.List.{List}
 use Prim.Native.Nat.{ℕ, _+_, _≤_, _<_}
-use lib.Dec.{ltb}
-use lib.ListN.{length}
-use Rattle.tableau.specs.declared.Reason.{Reason}
 use Rattle.tableau.specs.Terms.{Literal}
 use Rattle.tableau.specs.Tree as specification
-use Rattle.tableau.specs.Tree.{Checked, refused, passed, _>>_, require, Status, isOpen, isClosed, roomOnBranch, roomToWait, grow, maxPlaces}
-use Rattle.tableau.specs.Reply.{added}
+use Rattle.tableau.specs.Tree.{Checked, refused, passed, Status, isOpen, isClosed, maxPlaces}
 use Rattle.tree.specs.declared.Alternative.{Alternative}
 use Rattle.tree.specs.declared.Extended.{Extended}
 use Rattle.tree.specs.declared.Tree.{Tree}
 use Rattle.tree.specs.declared.Answer.{Answer}
-use Rattle.tree.specs.declared.Outcome.{Outcome}
+use Rattle.tree.specs.declared.Change.{Change}
 use Rattle.tree.specs.State.{codesOf, Appended, treeOf, Within}
 
--- a step's checks 15 and 16 on its alternatives, and the tree after them
-unfoldable pub grown : specification.Tree → List (List Literal) → Checked Status
-grown τ ks = do
-  require (roomOnBranch (length (τ .branch)) ks) Reason.BranchFull
-  require (roomToWait (length (τ .waiting)) ks) Reason.WaitingFull
-  passed (grow τ ks)
-
--- an A line's check 15 on its literal, and the tree after it
-unfoldable pub assumed : specification.Tree → Literal → Checked Status
-assumed τ l = do
-  require (ltb (length (τ .branch)) maxPlaces) Reason.BranchFull
-  passed (added τ l)
-
+-- the answer of a method, as the specification says it
 abbrev pub answered : specification.Tree → Answer → Checked Status
 answered τ Answer.Open = passed (isOpen τ)
 answered τ Answer.Closed = passed isClosed
@@ -41,7 +25,7 @@ Kept Answer.Closed t t′ = t′ ≡ t
 Kept (Answer.Refused r) t t′ = t′ ≡ t
 
 -- For every reading of the codes, the outcome is what g says of the tree before.
-pub record Gives (t : Tree) (g : (ℕ → Literal) → specification.Tree → Checked Status) (o : Outcome) : Type 0 where
+pub record Gives (t : Tree) (g : (ℕ → Literal) → specification.Tree → Checked Status) (o : Change) : Type 0 where
   pub within : Within (o .tree)
   pub result : (f : ℕ → Literal) → answered (treeOf f (o .tree)) (o .answer) ≡ g f (treeOf f t)
   pub kept : Kept (o .answer) t (o .tree)

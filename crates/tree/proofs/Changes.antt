@@ -1,4 +1,4 @@
--- Laws of the outcomes: what is to be shown of the arrays for a method to give what the specification says.
+-- Laws of the methods: what is to be shown of the arrays for a method to give what the specification says.
 use Prim.Native.Nat.{ℕ, _+_, _-_, _≤_, _<_, min, max}
 use mathlib.Core.Path.{_≡_, refl, sym, _∙_, subst}
 use mathlib.Core.Bool.{true, false}
@@ -10,14 +10,14 @@ use lib.ListN.{length, take, getD, length-map}
 use lib.Seq.{length-take-le}
 use Rattle.tableau.specs.declared.Reason.{Reason}
 use Rattle.tableau.specs.Terms.{Literal}
-use Rattle.tableau.specs.Tree.{maxPlaces, maxWaiting, passed, roomOnBranch, roomToWait, close, grow}
+use Rattle.tableau.specs.Tree.{maxPlaces, maxWaiting, passed, roomOnBranch, roomToWait, close, grow, grown}
 use Rattle.tree.specs.declared.Alternative.{Alternative}
 use Rattle.tree.specs.declared.Extended.{Extended}
 use Rattle.tree.specs.declared.Tree.{Tree}
 use Rattle.tree.specs.declared.Answer.{Answer}
-use Rattle.tree.specs.declared.Outcome.{Outcome}
-use Rattle.tree.specs.State.{Holds, codesOf, cutOf, unpacked, Appended, treeOf, Within}
-use Rattle.tree.specs.Outcome.{grown, Gives, Extends}
+use Rattle.tree.specs.declared.Change.{Change}
+use Rattle.tree.specs.State.{AtMost, codesOf, cutOf, unpacked, Appended, treeOf, Within}
+use Rattle.tree.specs.Change.{Gives, Extends}
 use Rattle.tree.proofs.Arrays.{take-min, take-map}
 use Rattle.tree.proofs.Waiting.{Pushed, push-none, stack-length, stack-pop}
 
@@ -60,7 +60,7 @@ module _ (t : Tree) (w : Within t) where
 
   -- A STEP with the alternatives a and ks
   module _ (a : Alternative) (ks : List Alternative) (s : Short (a ∷ ks)) where
-    abbrev pub Grows : Outcome → Type 0
+    abbrev pub Grows : Change → Type 0
     Grows = Gives t (λ f τ. grown τ (map (map f) (map codesOf (a ∷ ks))))
 
     waiting-length : (f : ℕ → Literal) → length (map (map f) (map codesOf ks)) + length (treeOf f t .waiting) ≡ length ks + t .count
@@ -98,11 +98,11 @@ module _ (t : Tree) (w : Within t) where
       }
 
   -- ONE ALTERNATIVE, added in place
-  module _ (a : Alternative) (h : Holds 3 a) (b : List ℕ) where
-    abbrev with : ℕ → Answer → Outcome
+  module _ (a : Alternative) (h : AtMost 3 a) (b : List ℕ) where
+    abbrev with : ℕ → Answer → Change
     with n r = record { tree = record { branch = b; len = n; waiting = t .waiting; count = t .count }; answer = r }
 
-    abbrev Adds : Outcome → Type 0
+    abbrev Adds : Change → Type 0
     Adds = Gives t (λ f τ. grown τ (map (map f) (codesOf a ∷ [])))
 
     pub extend-open : (n : ℕ) → Extends (t .branch) (t .len) a b (Extended.To n) → Adds (with n Answer.Open)
@@ -114,7 +114,7 @@ module _ (t : Tree) (w : Within t) where
         (sym (e .1)) (branch-full a [] (omega arith) (omega (arith, e .0)))
 
   -- A CLOSING
-  abbrev pub Closes : Outcome → Type 0
+  abbrev pub Closes : Change → Type 0
   Closes = Gives t (λ f τ. passed (close (τ .branch) (τ .waiting)))
 
   pub close-last : t .count ≡ 0 → Closes record { tree = t; answer = Answer.Closed }
