@@ -15,22 +15,11 @@ use Rattle.tableau.specs.declared.Operator.{Operator}
 use Rattle.tableau.specs.Basics.{Four}
 use Rattle.tableau.specs.Terms.{TermNo, Term, variable, apply, operatorIndex, sortIndex, sameSort}
 use Rattle.tableau.specs.Steps.{isRfv}
-use Rattle.tableau.proofs.Bools.{both-true}
+pub use Rattle.tableau.proofs.Places.{absent, not-among}
 use Rattle.tableau.proofs.Sort as sort-type
 use Rattle.packing.specs.declared.TermView.{TermView}
 use Rattle.packing.specs.Packing.{viewOf, viewApply}
 use Rattle.packing.proofs.TermView as term-view
-
--- the keys of the other arms leave k out
-abbrev pub absent : List ℕ → ℕ → Bool
-absent [] k = true
-absent (j ∷ js) k = not (eqb j k) && absent js k
-
-pub not-among : (js : List ℕ) (k x : ℕ) → absent js k ≡ true → OneOf js x → x ≡ k → ⊥
-not-among [] k x a h e = h
-not-among (j ∷ []) k x a h e = eqb-false j k (not-true _ (both-true (not (eqb j k)) _ a .0)) (sym h ∙ e)
-not-among (j ∷ i ∷ js) k x a (inl h) e = eqb-false j k (not-true _ (both-true (not (eqb j k)) _ a .0)) (sym h ∙ e)
-not-among (j ∷ i ∷ js) k x a (inr h) e = not-among (i ∷ js) k x (both-true (not (eqb j k)) _ a .1) h e
 
 -- the key of an operator's view
 pub operator-tag : (o : Operator) (k : Four TermNo) → Declared.tagOf term-view.the-type (viewApply o k) ≡ suc (operatorIndex o)

@@ -1,7 +1,5 @@
-// A step: what it reads off the branch and the term table, what its rule answers, what the tree becomes.
-pub mod first;
-pub mod growth;
-pub mod lookups;
+// An S line, as far as the alternatives that it adds: checks 8, 9 and 11 to 14. (Check 6 was asked when the line was taken apart.)
+pub mod checks;
+pub mod concluding;
+pub mod inferring;
 pub mod reading;
-pub mod second;
-pub mod third;

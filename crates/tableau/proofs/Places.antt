@@ -1,13 +1,14 @@
 -- An enum whose variants hold nothing: its values are as many as its variants, so what a test says of each of them, it says of every value. Every rule stands
 -- at its place of the table of rules.
 use mathlib.Core.Path.{_≡_, refl, sym, _∙_, ap}
-use mathlib.Core.Bool.{Bool, true, false, _&&_, true≢false}
+use mathlib.Core.Bool.{Bool, true, false, not, _&&_, _||_, cond, true≢false}
 use mathlib.Core.List.{List, [], _∷_, map}
 use mathlib.Core.Logic.{_⊎_, inl, inr}
 use Prim.Native.Nat.{ℕ}
 use lib.Dec.{eqb}
 use lib.ListN.{getD}
-use borrow.Author.Tests.{eqb-true}
+use types.Run.{OneOf}
+use borrow.Author.Tests.{eqb-true, eqb-false, ne-eqb, not-true}
 use denote.Struct.Field.{Field}
 use denote.Enum.Declared.{Choice, Record, Declared, declared, tagOf, rowss, intoss}
 use denote.Enum.Enum.{tag}
@@ -45,6 +46,17 @@ module _ (N : Record) (p : plain (N .parts) ≡ true) where
   pub same-place : (x y : N .D) → eqb (tagOf (declared N) x) (tagOf (declared N) y) ≡ true → x ≡ y
   same-place x y e = sym (at-place x x) ∙ ap (λ n. getD values n x) (eqb-true _ _ e) ∙ at-place y x
 
+-- THE OTHER ARMS OF A MATCH: the keys of the other arms leave k out
+abbrev pub absent : List ℕ → ℕ → Bool
+absent [] k = true
+absent (j ∷ js) k = not (eqb j k) && absent js k
+
+pub not-among : (js : List ℕ) (k x : ℕ) → absent js k ≡ true → OneOf js x → x ≡ k → ⊥
+not-among [] k x a h e = h
+not-among (j ∷ []) k x a h e = eqb-false j k (not-true _ (both-true (not (eqb j k)) _ a .0)) (sym h ∙ e)
+not-among (j ∷ i ∷ js) k x a (inl h) e = eqb-false j k (not-true _ (both-true (not (eqb j k)) _ a .0)) (sym h ∙ e)
+not-among (j ∷ i ∷ js) k x a (inr h) e = not-among (i ∷ js) k x (both-true (not (eqb j k)) _ a .1) h e
+
 -- a test that holds of all of a list
 abbrev pub allOf : {A : Type 0} → (A → Bool) → List A → Bool
 allOf f [] = true
@@ -77,3 +89,29 @@ every-rule f h x = ap f (sym (rule-type.eta x)) ∙ every-choice rule-type.parts
 -- rules with one place are one rule
 pub same-rule : (x y : Rule) → eqb (placeOf x) (placeOf y) ≡ true → x ≡ y
 same-rule = same-place rule-type.enum refl
+
+-- the rule is one of these
+abbrev isOneOf : Rule → List Rule → Bool
+isOneOf x [] = false
+isOneOf x (y ∷ ys) = eqb (placeOf x) (placeOf y) || isOneOf x ys
+
+not-one-of : (ks : List ℕ) (ys : List Rule) (x : Rule) → allOf (λ (y : Rule). absent ks (placeOf y)) ys ≡ true → OneOf ks (placeOf x) → isOneOf x ys ≡ false
+not-one-of ks [] x a h = refl
+not-one-of ks (y ∷ ys) x a h =
+    let b = both-true (absent ks (placeOf y)) _ a in
+    λ i. ne-eqb (placeOf x) (placeOf y) (not-among ks (placeOf y) (placeOf x) (b .0) h) i || not-one-of ks ys x (b .1) h i
+
+-- the places of the other rules, in the order of the table
+abbrev placesIn : List Rule → List Rule → List ℕ
+placesIn named [] = []
+placesIn named (x ∷ xs) = cond (isOneOf x named) (placesIn named xs) (placeOf x ∷ placesIn named xs)
+
+abbrev pub placesBut : List Rule → List ℕ
+placesBut named = placesIn named rules
+
+-- a test that holds of every rule but the named ones holds in the arm that is left when each of those has its own
+pub other-rule : (f : Rule → Bool) (named : List Rule) → allOf (λ x. isOneOf x named || f x) rules ≡ true
+    → allOf (λ (y : Rule). absent (placesBut named) (placeOf y)) named ≡ true → (x : Rule) → OneOf (placesBut named) (placeOf x) → f x ≡ true
+other-rule f named h a x o =
+    let e = every-rule (λ y. isOneOf y named || f y) h x in
+    sym (λ i. not-one-of (placesBut named) named x a o i || f x) ∙ e
