@@ -1,22 +1,16 @@
 -- Laws of the masks of used fields.
 use mathlib.Core.Bool.{Bool, true, false, cond, _||_, not}
-use mathlib.Core.List.{List, [], _∷_}
-use mathlib.Core.Option.{some}
-use mathlib.Core.Path.{_≡_, refl, ap, _∙_}
-use Prim.Native.Nat.{ℕ, zero, suc, _+_, _<_}
-use native.Mathlib.Omega.{arith}
+use mathlib.Core.Path.{_≡_, refl, _∙_}
+use Prim.Native.Nat.{ℕ, _+_}
 use lib.Bits.{bitAnd}
 use lib.Dec.{eqb}
-use lib.ListN.{length, getD}
+use borrow.Author.Tests.{eqb-true}
 use Rattle.tableau.specs.declared.Relation.{Relation}
-use Rattle.tableau.specs.declared.Rule.{Rule}
-use Rattle.tableau.specs.Basics.{Four, Named}
+use Rattle.tableau.specs.Basics.{Four, every}
+use Rattle.tableau.specs.Fields.{Use, unused, place, name, side, term, of, sides}
 use Rattle.tableau.specs.Reply.{zeroIfUnused}
-use Rattle.tableau.specs.Rules.{ruleFields}
-use Rattle.tableau.specs.Terms.{Use, unused, place, name, side, term, of, sides}
-use Rattle.tableau.proofs.Bools.{none≢some, some-inj}
-use Rattle.lines.specs.Unused.{bitOf, maskOf}
-use Rattle.lines.specs.Words.{entryAt}
+use Rattle.tableau.proofs.Bools.{every-true}
+use Rattle.syntax.specs.Syntax.{bitOf, maskOf}
 
 abbrev isUsed : Use → Bool
 isUsed unused = false
@@ -79,16 +73,15 @@ module _ (f : Four Use) (used : ℕ) (e : used ≡ maskOf f) where
       rw as-mask
       (rw (k .0, zero-if), rw (k .1, zero-if), rw (k .2, zero-if), rw (k .3, zero-if))
 
--- The masks of a table of rules, in its order.
-unfoldable pub masks : List (Named Rule) → List ℕ
-masks [] = []
-masks (n ∷ ns) = maskOf (ruleFields (n .is)) ∷ masks ns
-
-pub mask-at : (t : List (Named Rule)) (i : ℕ) (x : Rule) → entryAt t i ≡ some x → (i < length (masks t)) × (getD (masks t) i 0 ≡ maskOf (ruleFields x))
-unfolding entryAt masks
-mask-at [] i x e = none≢some e
-mask-at (n ∷ ns) zero x e = (omega arith, ap (λ (y : Rule). maskOf (ruleFields y)) (some-inj e))
-mask-at (n ∷ ns) (suc i) x e = let j = mask-at ns i x e in (omega (arith, j .0), j .1)
+  -- so where the check passes, a field outside the mask is 0
+  pub zeros : (k : Four ℕ) → every zeroIfUnused f k ≡ true
+      → (has used 1 ≡ false → k .a ≡ 0) × (has used 2 ≡ false → k .b ≡ 0) × (has used 4 ≡ false → k .c ≡ 0) × (has used 8 ≡ false → k .d ≡ 0)
+  zeros k h = let t = every-true zeroIfUnused f k h in (
+    λ z. eqb-true (k .a) 0 (rw (tests (k .a) .0, z) at (t .0)),
+    λ z. eqb-true (k .b) 0 (rw (tests (k .b) .1, z) at (t .1)),
+    λ z. eqb-true (k .c) 0 (rw (tests (k .c) .2, z) at (t .2)),
+    λ z. eqb-true (k .d) 0 (rw (tests (k .d) .3, z) at (t .3)),
+  )
 
 -- every relation uses two fields
 pub two-sides : (R : Relation) → 3 ≡ maskOf (sides R)

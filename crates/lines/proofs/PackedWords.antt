@@ -10,8 +10,7 @@ use lib.ListN.{length}
 use borrow.Author.Tests.{eq-eqb, ne-eqb, eqb-true, eqb-false, leb-true}
 use Rattle.tableau.specs.Basics.{bytes, sameBytes, Named, lookup}
 use Rattle.tableau.specs.File.{allSmall, isWord}
-use Rattle.tableau.specs.Rules.{ruleNames}
-use Rattle.tableau.specs.Terms.{words, relations}
+use Rattle.tableau.specs.Words.{words, relations, ruleNames}
 use Rattle.tableau.proofs.Bools.{both-true}
 use Rattle.lines.specs.Lines.{packWord}
 use Rattle.lines.specs.Words.{lookupPacked}

@@ -1,9 +1,9 @@
 -- Laws of the word tables: the index of a word in a byte string, and a table looked up by it.
 use mathlib.Core.Bool.{Bool, true, false, cond}
 use mathlib.Core.List.{List, [], _∷_}
-use mathlib.Core.Option.{none, some}
+use mathlib.Core.Option.{Option, none, some}
 use mathlib.Core.Path.{_≡_, refl}
-use Prim.Native.Nat.{ℕ, zero, suc, _+_, _≤_, _<_}
+use Prim.Native.Nat.{ℕ, suc, _+_, _≤_, _<_}
 use native.Mathlib.Numerals.{add-one, add-two, add-four}
 use native.Mathlib.Omega.{arith}
 use lib.Dec.{eqb}
@@ -12,7 +12,7 @@ use lib.Seq.{drop-cons}
 use borrow.Author.Tests.{eq-eqb, ne-eqb}
 use Rattle.tableau.specs.Basics.{bytes, Named}
 use Rattle.lines.specs.Lines.{packWord}
-use Rattle.lines.specs.Words.{lookupPacked, entryAt, wordsOf, indexOf, packedTexts}
+use Rattle.lines.specs.Words.{lookupPacked, wordsOf, indexOf}
 
 -- The words of a byte string from the byte i on.
 module _ (w : ℕ) (l : List ℕ) (i : ℕ) where
@@ -51,39 +51,39 @@ module _ (w : ℕ) (l : List ℕ) (i : ℕ) where
       short (a ∷ b ∷ c ∷ []) k = refl
       short (a ∷ b ∷ c ∷ d ∷ m) k = absurd (omega arith)
 
-lookup-index : {A : Type 0} (t : List (Named A)) (w : ℕ) → lookupPacked t w ≡ entryAt t (indexOf w (packedTexts t))
-unfolding lookupPacked entryAt packedTexts indexOf
-lookup-index [] w = refl
-lookup-index (n ∷ ns) w = pick (eqb w (packWord (bytes (n .text)))) (lookup-index ns w)
+-- the texts of a table, packed
+unfoldable pub packedTexts : {A : Type 0} → List (Named A) → List ℕ
+packedTexts [] = []
+packedTexts (n ∷ ns) = packWord (bytes (n .text)) ∷ packedTexts ns
+
+-- the rows of a table: what row makes of each entry
+unfoldable pub rowsOf : {A B : Type 0} → (A → B) → List (Named A) → List B
+rowsOf row [] = []
+rowsOf row (n ∷ ns) = row (n .is) ∷ rowsOf row ns
+
+-- WHAT THE INDEX OF A WORD SAYS OF IT: the row there is that of the entry that is looked up; past the rows there is no such entry.
+module _ {A B : Type 0} (row : A → B) (P : Option A → B → Type 0) (right : (x : A) → P (some x) (row x)) (d : B) where
+  at-index : (t : List (Named A)) (w : ℕ) → indexOf w (packedTexts t) < length (rowsOf row t)
+      → P (lookupPacked t w) (getD (rowsOf row t) (indexOf w (packedTexts t)) d)
+  unfolding lookupPacked indexOf packedTexts rowsOf
+  at-index [] w h = absurd (omega arith)
+  at-index (n ∷ ns) w h = pick (eqb w (packWord (bytes (n .text)))) h (at-index ns w)
+    where
+      pick : (here : Bool) → cond here 0 (suc (indexOf w (packedTexts ns))) < length (rowsOf row (n ∷ ns))
+          → (indexOf w (packedTexts ns) < length (rowsOf row ns) → P (lookupPacked ns w) (getD (rowsOf row ns) (indexOf w (packedTexts ns)) d))
+          → P (cond here (some (n .is)) (lookupPacked ns w)) (getD (rowsOf row (n ∷ ns)) (cond here 0 (suc (indexOf w (packedTexts ns)))) d)
+      pick true h k = right (n .is)
+      pick false h k = k (omega arith)
+
+  pub found : (t : List (Named A)) (w i : ℕ) → i ≡ indexOf w (packedTexts t) → i < length (rowsOf row t) → P (lookupPacked t w) (getD (rowsOf row t) i d)
+  found t w i e h = rw e (at-index t w (rw e at h))
+
+pub not-found : {A : Type 0} (t : List (Named A)) (w i : ℕ) → i ≡ indexOf w (packedTexts t) → length t ≤ i → lookupPacked t w ≡ none
+unfolding lookupPacked indexOf packedTexts
+not-found [] w i e h = refl
+not-found (n ∷ ns) w i e h = pick (eqb w (packWord (bytes (n .text)))) (rw e at h) (not-found ns w (indexOf w (packedTexts ns)) refl)
   where
-    pick : (b : Bool) → lookupPacked ns w ≡ entryAt ns (indexOf w (packedTexts ns))
-        → cond b (some (n .is)) (lookupPacked ns w) ≡ entryAt (n ∷ ns) (cond b 0 (suc (indexOf w (packedTexts ns))))
-    pick true h = refl
-    pick false h = h
-
-past-end : {A : Type 0} (t : List (Named A)) (i : ℕ) → length t ≤ i → entryAt t i ≡ none
-unfolding entryAt
-past-end [] i h = refl
-past-end (n ∷ ns) zero h = absurd (omega arith)
-past-end (n ∷ ns) (suc i) h = past-end ns i (omega arith)
-
--- what the index of a word says of it
-module _ {A : Type 0} (t : List (Named A)) (w : ℕ) {r : ℕ} (e : r ≡ indexOf w (packedTexts t)) where
-  pub found : (x : A) → entryAt t r ≡ some x → lookupPacked t w ≡ some x
-  found x h = rw (lookup-index t w, ← e) h
-
-  pub not-found : length t ≤ r → lookupPacked t w ≡ none
-  not-found h = rw (lookup-index t w, ← e) (past-end t r h)
-
--- i is none of the first n numbers, as a `match` says it
-unfoldable pub NoneOf : ℕ → ℕ → Type 0
-NoneOf i zero = Unit {0}
-NoneOf i (suc n) = NoneOf i n × (i ≡ n → ⊥)
-
-at-least : (i n : ℕ) → NoneOf i n → n ≤ i
-unfolding NoneOf
-at-least i zero h = omega arith
-at-least i (suc n) h = let k = h .1 in omega (arith, at-least i n (h .0))
-
-pub last : (i n : ℕ) → NoneOf i n → i < n + 1 → i ≡ n
-last i n h g = omega (arith, at-least i n h)
+    pick : (here : Bool) → length (n ∷ ns) ≤ cond here 0 (suc (indexOf w (packedTexts ns)))
+        → (length ns ≤ indexOf w (packedTexts ns) → lookupPacked ns w ≡ none) → cond here (some (n .is)) (lookupPacked ns w) ≡ none
+    pick true h k = absurd (omega arith)
+    pick false h k = k (omega arith)

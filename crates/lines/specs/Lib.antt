@@ -1,4 +1,4 @@
 pub mod Lines
 pub mod Remains
 pub mod Words
-pub mod Unused
+pub mod Taken

@@ -2,12 +2,15 @@
 use mathlib.Core.Bool.{cond}
 use mathlib.Core.List.{List, [], _∷_}
 use mathlib.Core.Option.{Option, none, some}
-use Prim.Native.Nat.{ℕ, zero, suc}
+use mathlib.Core.Path.{_≡_}
+use Prim.Native.Nat.{ℕ, suc}
 use lib.Dec.{eqb}
-use Rattle.tableau.specs.declared.Word.{Word}
-use Rattle.tableau.specs.declared.Relation.{Relation}
-use Rattle.tableau.specs.declared.Rule.{Rule}
 use Rattle.tableau.specs.Basics.{bytes, Named}
+use Rattle.tableau.specs.Words.{words, relations, ruleNames}
+use Rattle.tableau.specs.Fields.{wordFields, ruleUses}
+use Rattle.syntax.specs.Syntax.{maskOf}
+use Rattle.lines.specs.declared.words.WordRow.{WordRow}
+use Rattle.lines.specs.declared.words.RuleRow.{RuleRow}
 use Rattle.lines.specs.declared.words.WordFound.{WordFound}
 use Rattle.lines.specs.declared.words.RelationFound.{RelationFound}
 use Rattle.lines.specs.declared.words.RuleFound.{RuleFound}
@@ -18,23 +21,25 @@ unfoldable pub lookupPacked : {A : Type 0} → List (Named A) → ℕ → Option
 lookupPacked [] w = none
 lookupPacked (n ∷ ns) w = cond (eqb w (packWord (bytes (n .text)))) (some (n .is)) (lookupPacked ns w)
 
--- what a table has at an index, counted from 0
-unfoldable pub entryAt : {A : Type 0} → List (Named A) → ℕ → Option A
-entryAt [] i = none
-entryAt (n ∷ ns) zero = some (n .is)
-entryAt (n ∷ ns) (suc i) = entryAt ns i
+-- a row has the mask of its word
+abbrev pub WordFits : WordRow → Type 0
+WordFits row = row .used .0 ≡ maskOf (wordFields (row .word))
 
-abbrev pub wordFound : Option Word → WordFound
-wordFound none = WordFound.Unknown
-wordFound (some x) = WordFound.Known x
+abbrev pub RuleFits : RuleRow → Type 0
+RuleFits row = row .used .0 ≡ maskOf (ruleUses (row .rule))
 
-abbrev pub relationFound : Option Relation → RelationFound
-relationFound none = RelationFound.Unknown
-relationFound (some x) = RelationFound.Known x
+-- what is found of a packed word is what the table has of it
+abbrev pub WordKnown : ℕ → WordFound → Type 0
+WordKnown w (WordFound.Known row) = (lookupPacked words w ≡ some (row .word)) × WordFits row
+WordKnown w WordFound.Unknown = lookupPacked words w ≡ none
 
-abbrev pub ruleFound : Option Rule → RuleFound
-ruleFound none = RuleFound.Unknown
-ruleFound (some x) = RuleFound.Known x
+abbrev pub RelationKnown : ℕ → RelationFound → Type 0
+RelationKnown w (RelationFound.Known R) = lookupPacked relations w ≡ some R
+RelationKnown w RelationFound.Unknown = lookupPacked relations w ≡ none
+
+abbrev pub RuleKnown : ℕ → RuleFound → Type 0
+RuleKnown w (RuleFound.Known row) = (lookupPacked ruleNames w ≡ some (row .rule)) × RuleFits row
+RuleKnown w RuleFound.Unknown = lookupPacked ruleNames w ≡ none
 
 -- The words of a byte string, packed: three bytes each, and a space.
 unfoldable pub wordsOf : List ℕ → List ℕ
@@ -48,8 +53,3 @@ wordsOf (a ∷ b ∷ c ∷ s ∷ l) = packWord (a ∷ b ∷ c ∷ []) ∷ wordsO
 unfoldable pub indexOf : ℕ → List ℕ → ℕ
 indexOf w [] = 0
 indexOf w (k ∷ ks) = cond (eqb w k) 0 (suc (indexOf w ks))
-
--- the texts of a table, packed
-unfoldable pub packedTexts : {A : Type 0} → List (Named A) → List ℕ
-packedTexts [] = []
-packedTexts (n ∷ ns) = packWord (bytes (n .text)) ∷ packedTexts ns

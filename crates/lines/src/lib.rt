@@ -7,16 +7,21 @@ ghost use Rattle.tableau.specs.File.{letters};
 ghost use Rattle.lines.specs.Lines.{lineAt};
 ghost use Rattle.lines.specs.Remains.{letterFound, Sound, Reads, Begins};
 
-mod unused;
+mod taking;
 mod words;
 
 use tableau::Letter;
-pub use unused::relation_unused_zero;
-pub use unused::unused_zero;
-pub use unused::word_unused_zero;
+pub use taking::LiteralTaken;
+pub use taking::StepTaken;
+pub use taking::TermTaken;
+pub use taking::literal_of;
+pub use taking::step_of;
+pub use taking::term_of;
 pub use words::RelationFound;
 pub use words::RuleFound;
+pub use words::RuleRow;
 pub use words::WordFound;
+pub use words::WordRow;
 pub use words::relation_of;
 pub use words::rule_of;
 pub use words::word_of;

@@ -1,20 +1,29 @@
-// The words of T, A and S lines. Each letter's words stand in one fixed byte string; a search in it is compiled to a switch.
+// The words of T, A and S lines: what each stands for, and the fields that it uses. Each letter's words stand in one fixed byte string, in the
+// order of the letter's table.
 ghost use mathlib.Core.List.{[], _∷_};
-ghost use mathlib.Core.Option.{some};
 ghost use mathlib.Core.Path.{_≡_};
-ghost use Prim.Native.Nat.{_<_};
-ghost use Rattle.tableau.specs.Rules.{ruleNames};
-ghost use Rattle.tableau.specs.Terms.{words, relations};
 ghost use Rattle.lines.specs.Lines.{packWord};
-ghost use Rattle.lines.specs.Words.{lookupPacked, entryAt, wordFound, relationFound, ruleFound, wordsOf, indexOf, packedTexts};
+ghost use Rattle.lines.specs.Words.{wordsOf, indexOf, WordKnown, RelationKnown, RuleKnown};
+use syntax::Mask;
 use tableau::Operator;
 use tableau::Relation;
 use tableau::Rule;
 use tableau::Sort;
 use tableau::Word;
 
+// What a word stands for, with the mask of the fields that it uses.
+pub struct WordRow {
+    pub word: Word,
+    pub used: Mask,
+}
+
+pub struct RuleRow {
+    pub rule: Rule,
+    pub used: Mask,
+}
+
 pub enum WordFound {
-    Known(Word),
+    Known(WordRow),
     Unknown,
 }
 
@@ -24,9 +33,219 @@ pub enum RelationFound {
 }
 
 pub enum RuleFound {
-    Known(Rule),
+    Known(RuleRow),
     Unknown,
 }
+
+const WORD_COUNT: usize = 17;
+
+const WORDS: [WordRow; WORD_COUNT] = [
+    WordRow {
+        word: Word::Operation(Operator::Nul),
+        used: Mask(0),
+    },
+    WordRow {
+        word: Word::Variable(Sort::Reference),
+        used: Mask(Mask::P),
+    },
+    WordRow {
+        word: Word::Operation(Operator::Rea),
+        used: Mask(Mask::P | Mask::Q | Mask::T),
+    },
+    WordRow {
+        word: Word::Operation(Operator::Emp),
+        used: Mask(0),
+    },
+    WordRow {
+        word: Word::Operation(Operator::All),
+        used: Mask(0),
+    },
+    WordRow {
+        word: Word::Variable(Sort::Region),
+        used: Mask(Mask::P),
+    },
+    WordRow {
+        word: Word::Operation(Operator::Cup),
+        used: Mask(Mask::P | Mask::Q),
+    },
+    WordRow {
+        word: Word::Operation(Operator::Cap),
+        used: Mask(Mask::P | Mask::Q),
+    },
+    WordRow {
+        word: Word::Operation(Operator::Dif),
+        used: Mask(Mask::P | Mask::Q),
+    },
+    WordRow {
+        word: Word::Operation(Operator::Sin),
+        used: Mask(Mask::P),
+    },
+    WordRow {
+        word: Word::Operation(Operator::Img),
+        used: Mask(Mask::P | Mask::Q | Mask::T),
+    },
+    WordRow {
+        word: Word::Variable(Sort::Heap),
+        used: Mask(Mask::P),
+    },
+    WordRow {
+        word: Word::Operation(Operator::Wri),
+        used: Mask(Mask::P | Mask::Q | Mask::T | Mask::W),
+    },
+    WordRow {
+        word: Word::Variable(Sort::Field),
+        used: Mask(Mask::P),
+    },
+    WordRow {
+        word: Word::Variable(Sort::Class),
+        used: Mask(Mask::P),
+    },
+    WordRow {
+        word: Word::Operation(Operator::Typ),
+        used: Mask(Mask::P),
+    },
+    WordRow {
+        word: Word::Operation(Operator::Dty),
+        used: Mask(Mask::P),
+    },
+];
+
+const RELATION_COUNT: usize = 6;
+
+const RELATIONS: [Relation; RELATION_COUNT] = [
+    Relation::In,
+    Relation::Ni,
+    Relation::Eq,
+    Relation::Ne,
+    Relation::Le,
+    Relation::Nl,
+];
+
+const RULE_COUNT: usize = 30;
+
+// "Which fields each rule uses is one fixed table of thirty rows."
+const RULES: [RuleRow; RULE_COUNT] = [
+    RuleRow {
+        rule: Rule::Eqr,
+        used: Mask(Mask::P | Mask::Q),
+    },
+    RuleRow {
+        rule: Rule::Eql,
+        used: Mask(Mask::P | Mask::Q),
+    },
+    RuleRow {
+        rule: Rule::Ext,
+        used: Mask(Mask::P | Mask::W),
+    },
+    RuleRow {
+        rule: Rule::Fir,
+        used: Mask(Mask::W),
+    },
+    RuleRow {
+        rule: Rule::Cpe,
+        used: Mask(Mask::P),
+    },
+    RuleRow {
+        rule: Rule::Cpi,
+        used: Mask(Mask::P | Mask::Q | Mask::T),
+    },
+    RuleRow {
+        rule: Rule::Cue,
+        used: Mask(Mask::P),
+    },
+    RuleRow {
+        rule: Rule::Cui,
+        used: Mask(Mask::P | Mask::T),
+    },
+    RuleRow {
+        rule: Rule::Dfe,
+        used: Mask(Mask::P),
+    },
+    RuleRow {
+        rule: Rule::Dfi,
+        used: Mask(Mask::P | Mask::Q | Mask::T),
+    },
+    RuleRow {
+        rule: Rule::Sge,
+        used: Mask(Mask::P),
+    },
+    RuleRow {
+        rule: Rule::Sgi,
+        used: Mask(Mask::T),
+    },
+    RuleRow {
+        rule: Rule::Cut,
+        used: Mask(Mask::T | Mask::W),
+    },
+    RuleRow {
+        rule: Rule::All,
+        used: Mask(Mask::P),
+    },
+    RuleRow {
+        rule: Rule::Nul,
+        used: Mask(Mask::P),
+    },
+    RuleRow {
+        rule: Rule::Sep,
+        used: Mask(Mask::P | Mask::Q),
+    },
+    RuleRow {
+        rule: Rule::Img,
+        used: Mask(Mask::P | Mask::T),
+    },
+    RuleRow {
+        rule: Rule::Wit,
+        used: Mask(Mask::P | Mask::W),
+    },
+    RuleRow {
+        rule: Rule::Ref,
+        used: Mask(Mask::T),
+    },
+    RuleRow {
+        rule: Rule::Sym,
+        used: Mask(Mask::P),
+    },
+    RuleRow {
+        rule: Rule::Trn,
+        used: Mask(Mask::P | Mask::Q),
+    },
+    RuleRow {
+        rule: Rule::Sub,
+        used: Mask(Mask::P | Mask::T | Mask::W),
+    },
+    RuleRow {
+        rule: Rule::Rep,
+        used: Mask(Mask::P | Mask::Q | Mask::T),
+    },
+    RuleRow {
+        rule: Rule::Ler,
+        used: Mask(Mask::T),
+    },
+    RuleRow {
+        rule: Rule::Let,
+        used: Mask(Mask::P | Mask::Q),
+    },
+    RuleRow {
+        rule: Rule::Lea,
+        used: Mask(Mask::P | Mask::Q),
+    },
+    RuleRow {
+        rule: Rule::Rdh,
+        used: Mask(Mask::T),
+    },
+    RuleRow {
+        rule: Rule::Rdm,
+        used: Mask(Mask::T),
+    },
+    RuleRow {
+        rule: Rule::Cls,
+        used: Mask(Mask::P | Mask::Q),
+    },
+    RuleRow {
+        rule: Rule::Emp,
+        used: Mask(Mask::P),
+    },
+];
 
 fn pack(a: u8, b: u8, c: u8) -> usize
     ensures { λ r. ⌜ r ≡ packWord (a ∷ b ∷ c ∷ []) ⌝ }
@@ -50,136 +269,41 @@ fn search(word: usize, words: &[u8]) -> usize
     n
 }
 
-fn word_at(index: usize) -> Word
-    requires { ⌜ index < 17 ⌝ }
-    ensures { λ r. ⌜ entryAt words index ≡ some r ⌝ }
-{
-    match index {
-        0 => Word::Operation(Operator::Nul),
-        1 => Word::Variable(Sort::Reference),
-        2 => Word::Operation(Operator::Rea),
-        3 => Word::Operation(Operator::Emp),
-        4 => Word::Operation(Operator::All),
-        5 => Word::Variable(Sort::Region),
-        6 => Word::Operation(Operator::Cup),
-        7 => Word::Operation(Operator::Cap),
-        8 => Word::Operation(Operator::Dif),
-        9 => Word::Operation(Operator::Sin),
-        10 => Word::Operation(Operator::Img),
-        11 => Word::Variable(Sort::Heap),
-        12 => Word::Operation(Operator::Wri),
-        13 => Word::Variable(Sort::Field),
-        14 => Word::Variable(Sort::Class),
-        15 => Word::Operation(Operator::Typ),
-        _ => Word::Operation(Operator::Dty),
-    }
-}
-
-fn search_words(word: usize) -> usize
-    ensures { λ r. ⌜ r ≡ indexOf word (packedTexts words) ⌝ }
-{
-    search(
-        word,
-        b"nul rfv rea emp all rgv cup cap dif sin img arv wri fnv clv typ dty ",
-    )
-}
-
 // A word of a T line.
 pub fn word_of(word: usize) -> WordFound
-    ensures { λ r. ⌜ r ≡ wordFound (lookupPacked words word) ⌝ }
+    ensures { λ r. ⌜ WordKnown word r ⌝ }
 {
-    let index = search_words(word);
-    if index < 17 {
-        return WordFound::Known(word_at(index));
+    let index = search(
+        word,
+        b"nul rfv rea emp all rgv cup cap dif sin img arv wri fnv clv typ dty ",
+    );
+    if index < WORD_COUNT {
+        return WordFound::Known(WORDS[index]);
     }
     WordFound::Unknown
 }
 
-fn relation_at(index: usize) -> Relation
-    requires { ⌜ index < 6 ⌝ }
-    ensures { λ r. ⌜ entryAt relations index ≡ some r ⌝ }
-{
-    match index {
-        0 => Relation::In,
-        1 => Relation::Ni,
-        2 => Relation::Eq,
-        3 => Relation::Ne,
-        4 => Relation::Le,
-        _ => Relation::Nl,
-    }
-}
-
-fn search_relations(word: usize) -> usize
-    ensures { λ r. ⌜ r ≡ indexOf word (packedTexts relations) ⌝ }
-{
-    search(word, b"in\0 ni\0 eq\0 ne\0 le\0 nl\0 ")
-}
-
 // A word of an A line.
 pub fn relation_of(word: usize) -> RelationFound
-    ensures { λ r. ⌜ r ≡ relationFound (lookupPacked relations word) ⌝ }
+    ensures { λ r. ⌜ RelationKnown word r ⌝ }
 {
-    let index = search_relations(word);
-    if index < 6 {
-        return RelationFound::Known(relation_at(index));
+    let index = search(word, b"in\0 ni\0 eq\0 ne\0 le\0 nl\0 ");
+    if index < RELATION_COUNT {
+        return RelationFound::Known(RELATIONS[index]);
     }
     RelationFound::Unknown
 }
 
-fn rule_at(index: usize) -> Rule
-    requires { ⌜ index < 30 ⌝ }
-    ensures { λ r. ⌜ entryAt ruleNames index ≡ some r ⌝ }
-{
-    match index {
-        0 => Rule::Eqr,
-        1 => Rule::Eql,
-        2 => Rule::Ext,
-        3 => Rule::Fir,
-        4 => Rule::Cpe,
-        5 => Rule::Cpi,
-        6 => Rule::Cue,
-        7 => Rule::Cui,
-        8 => Rule::Dfe,
-        9 => Rule::Dfi,
-        10 => Rule::Sge,
-        11 => Rule::Sgi,
-        12 => Rule::Cut,
-        13 => Rule::All,
-        14 => Rule::Nul,
-        15 => Rule::Sep,
-        16 => Rule::Img,
-        17 => Rule::Wit,
-        18 => Rule::Ref,
-        19 => Rule::Sym,
-        20 => Rule::Trn,
-        21 => Rule::Sub,
-        22 => Rule::Rep,
-        23 => Rule::Ler,
-        24 => Rule::Let,
-        25 => Rule::Lea,
-        26 => Rule::Rdh,
-        27 => Rule::Rdm,
-        28 => Rule::Cls,
-        _ => Rule::Emp,
-    }
-}
-
-fn search_rules(word: usize) -> usize
-    ensures { λ r. ⌜ r ≡ indexOf word (packedTexts ruleNames) ⌝ }
-{
-    search(
-        word,
-        b"eqr eql ext fir cpe cpi cue cui dfe dfi sge sgi cut all nul sep img wit ref sym trn sub rep ler let lea rdh rdm cls emp ",
-    )
-}
-
 // A word of an S line.
 pub fn rule_of(word: usize) -> RuleFound
-    ensures { λ r. ⌜ r ≡ ruleFound (lookupPacked ruleNames word) ⌝ }
+    ensures { λ r. ⌜ RuleKnown word r ⌝ }
 {
-    let index = search_rules(word);
-    if index < 30 {
-        return RuleFound::Known(rule_at(index));
+    let index = search(
+        word,
+        b"eqr eql ext fir cpe cpi cue cui dfe dfi sge sgi cut all nul sep img wit ref sym trn sub rep ler let lea rdh rdm cls emp ",
+    );
+    if index < RULE_COUNT {
+        return RuleFound::Known(RULES[index]);
     }
     RuleFound::Unknown
 }

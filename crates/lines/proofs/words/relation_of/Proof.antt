@@ -1,19 +1,24 @@
--- An index below 6 is that of an entry of the table.
-use mathlib.Core.Path.{sym, ap}
-use Rattle.tableau.specs.Terms.{relations}
-use Rattle.lines.specs.Words.{relationFound}
-use Rattle.lines.proofs.Tables.{found, not-found}
+-- The byte string and the table are those of the specification, which antt computes.
+use mathlib.Core.Option.{some}
+use mathlib.Core.Path.{_≡_, refl}
+use borrow.Author.Needs.{needs}
+use Rattle.tableau.specs.Basics.{bytes}
+use Rattle.tableau.specs.Words.{relations}
+use Rattle.lines.specs.Words.{wordsOf}
+use Rattle.lines.proofs.Tables.{packedTexts, rowsOf, found, not-found}
 use Rattle.lines.proofs.words.relation_of.Statement.{statement}
 use Rattle.lines.proofs.words.relation_of.Tie as tie
 
 known : tie.Need-returns
+unfolding wordsOf packedTexts rowsOf relations bytes
 known c =
     let k = c .before .before in
-    sym (ap relationFound (found relations (k .before .args .word) (k .search-relations .ensures) (c .relation-at .result) (c .relation-at .ensures)))
+    found (λ R. R) (λ x R. x ≡ some R) (λ R. refl) _ relations (k .before .before .args .word) (k .search .result) (k .search .ensures) (c .before .if1 .taken)
 
 unknown : tie.Need-returns-2
-unfolding relations
-unknown c = sym (ap relationFound (not-found relations (c .before .before .args .word) (c .before .search-relations .ensures) (c .if1 .left)))
+unfolding wordsOf packedTexts relations bytes
+unknown c =
+    not-found relations (c .before .before .before .args .word) (c .before .search .result) (c .before .search .ensures) (c .if1 .left)
 
 pub relation-of-spec : {M : Type 1} → statement M
-relation-of-spec = tie.close (tie.spec (λ c κs. tt) (λ c κs. c .if1 .taken) known unknown)
+relation-of-spec = tie.close (tie.spec (λ c. search needs) (λ c κs. tt) (λ c. search needs) known unknown)

@@ -1,19 +1,32 @@
--- An index below 17 is that of an entry of the table.
-use mathlib.Core.Path.{sym, ap}
-use Rattle.tableau.specs.Terms.{words}
-use Rattle.lines.specs.Words.{wordFound}
-use Rattle.lines.proofs.Tables.{found, not-found}
+-- The byte string and the table are those of the specification, which antt computes.
+use mathlib.Core.Option.{some}
+use mathlib.Core.Path.{_≡_, refl}
+use borrow.Author.Needs.{needs}
+use Rattle.tableau.specs.declared.Word.{Word}
+use Rattle.tableau.specs.Basics.{bytes}
+use Rattle.tableau.specs.Fields.{arguments, wordFields}
+use Rattle.tableau.specs.Words.{words}
+use Rattle.syntax.specs.Syntax.{maskOf}
+use Rattle.lines.specs.declared.words.WordRow.{WordRow}
+use Rattle.lines.specs.Words.{wordsOf, WordFits}
+use Rattle.lines.proofs.Tables.{packedTexts, rowsOf, found, not-found}
 use Rattle.lines.proofs.words.word_of.Statement.{statement}
 use Rattle.lines.proofs.words.word_of.Tie as tie
 
+row : Word → WordRow
+row x = record { word = x; used = record { 0 = maskOf (wordFields x) } }
+
 known : tie.Need-returns
+unfolding wordsOf packedTexts rowsOf words arguments bytes row
 known c =
     let k = c .before .before in
-    sym (ap wordFound (found words (k .before .args .word) (k .search-words .ensures) (c .word-at .result) (c .word-at .ensures)))
+    found row (λ x r. (x ≡ some (r .word)) × WordFits r) (λ x. (refl, refl)) _ words (k .before .before .args .word) (k .search .result)
+    (k .search .ensures) (c .before .if1 .taken)
 
 unknown : tie.Need-returns-2
-unfolding words
-unknown c = sym (ap wordFound (not-found words (c .before .before .args .word) (c .before .search-words .ensures) (c .if1 .left)))
+unfolding wordsOf packedTexts words bytes
+unknown c =
+    not-found words (c .before .before .before .args .word) (c .before .search .result) (c .before .search .ensures) (c .if1 .left)
 
 pub word-of-spec : {M : Type 1} → statement M
-word-of-spec = tie.close (tie.spec (λ c κs. tt) (λ c κs. c .if1 .taken) known unknown)
+word-of-spec = tie.close (tie.spec (λ c. search needs) (λ c κs. tt) (λ c. search needs) (λ c. search needs) known unknown)
