@@ -1,50 +1,63 @@
 // A lines.
 use crate::LineResult;
 use crate::Section;
-use commands::assuming::assume;
 use lines::Cursor;
 use lines::Fields;
 use lines::LineRead;
+use lines::LiteralTaken;
 use lines::RelationFound;
 use tableau::Letter;
 use tableau::Reason;
 use terms::Assumption;
+use terms::assume_literal;
 use tree::Alternative;
 use tree::Extended;
 use tree::Tree;
 ghost use mathlib.Core.Path.{_≡_};
-ghost use Prim.Native.Nat.{_<_, _≤_};
+ghost use Prim.Native.Nat.{_+_, _<_, _≤_};
 ghost use lib.ListN.{length};
+ghost use Rattle.tableau.specs.File.{maxBytes};
 ghost use Rattle.tableau.specs.Terms.{Table};
-ghost use Rattle.terms.specs.Holds.{Entries};
+ghost use Rattle.table.specs.Held.{Entries};
 ghost use Rattle.tree.specs.State.{codeLimit, IsBranch};
-ghost use Rattle.sections.specs.Sections.{NoLine, Between, Pushed, AssumptionLine, AssumptionSection};
+ghost use Rattle.running.specs.Running.{NoLine};
+ghost use Rattle.sections.specs.Sections.{Between, Pushed, AssumptionLine, AssumptionSection};
 
-// Check 15 of an A line, whose literal is stored in place.
-fn push(branch: &mut [u32; 1000], len: usize, literal: u32) -> LineResult
+// Check 15 of the A line with this number, whose literal is stored in place.
+fn push(branch: &mut [u32; Tree::PLACES], len: usize, literal: u32, line: usize) -> LineResult
     requires { ⌜ IsBranch (now branch) len × (literal < codeLimit) ⌝ }
-    ensures { λ r. ⌜ Pushed (now (branch .entry)) len literal (now (branch .exit)) r ⌝ }
+    ensures { λ r. ⌜ Pushed (now (branch .entry)) len literal line (now (branch .exit)) r ⌝ }
 {
     match Tree::extend(branch, len, Alternative::one(literal)) {
         Extended::To(_) => LineResult::Passed,
-        Extended::Full => LineResult::Refused(Reason::BranchFull),
+        Extended::Full => LineResult::Refused(Reason::BranchFull, line),
     }
 }
 
-// Checks 4, 6, 8, 9 and 15 of an A line, where n terms are made and len literals are on the branch.
-fn one(terms: &[u64; 601], n: usize, branch: &mut [u32; 1000], len: usize, f: Fields) -> LineResult
+// Checks 4, 6, 8, 9 and 15 of an A line, where n terms are made and len literals are on the branch: it is line n + len + 1.
+fn one(
+    terms: &[u64; table::NUMBERS],
+    n: usize,
+    branch: &mut [u32; Tree::PLACES],
+    len: usize,
+    f: Fields,
+) -> LineResult
     requires { ⌜ ((table : Table) × Entries table (now terms) × (length table ≡ n)) ⌝ }
     requires { ⌜ IsBranch (now branch) len × (f .letter ≡ Letter.A) ⌝ }
     ensures { λ r. ⌜ ((table : Table) → Entries table (now (terms .entry)) → length table ≡ n
         → AssumptionLine table f (now (branch .entry)) len (now (branch .exit)) r) ⌝ }
 {
+    let line = n + len + 1;
     let word = f.word;
     let RelationFound::Known(relation) = lines::relation_of(word) else {
-        return LineResult::Refused(Reason::UnknownWord);
+        return LineResult::Refused(Reason::UnknownWord, line);
     };
-    match assume(terms, n, relation, f.a, f.b, f.c, f.d) {
-        Assumption::Refused(reason) => LineResult::Refused(reason),
-        Assumption::Assumed(literal) => push(branch, len, literal),
+    let LiteralTaken::Literal(literal) = lines::literal_of(relation, f) else {
+        return LineResult::Refused(Reason::UnusedField, line);
+    };
+    match assume_literal(terms, n, literal) {
+        Assumption::Refused(reason) => LineResult::Refused(reason, line),
+        Assumption::Assumed(code) => push(branch, len, code, line),
     }
 }
 
@@ -52,8 +65,8 @@ pub fn run(
     file: &[u8],
     cursor: Cursor,
     n: usize,
-    terms: &[u64; 601],
-    branch: &mut [u32; 1000],
+    terms: &[u64; table::NUMBERS],
+    branch: &mut [u32; Tree::PLACES],
 ) -> Section
     requires { ⌜ ((table : Table) × Entries table (now terms) × (length table ≡ n)) ⌝ }
     requires { ⌜ Between n (cursor .at) (now file) × NoLine Letter.T (now file) (cursor .at) × IsBranch (now branch) 0 ⌝ }
@@ -70,8 +83,8 @@ pub fn run(
         let Letter::A = letter else {
             return Section::Ended(Cursor { at }, len);
         };
-        if let LineResult::Refused(reason) = one(terms, n, branch, len, f) {
-            return Section::Refused(reason, n + len + 1);
+        if let LineResult::Refused(reason, line) = one(terms, n, branch, len, f) {
+            return Section::Refused(reason, line);
         }
         len += 1;
         at = f.next.at;

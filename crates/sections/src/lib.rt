@@ -6,10 +6,10 @@ pub mod assumption_lines;
 pub mod step_lines;
 pub mod term_lines;
 
-// The result of a line that was read.
+// The result of a line of any letter; a refusal has its reason beside the number of the line.
 pub enum LineResult {
     Passed,
-    Refused(Reason),
+    Refused(Reason, usize),
 }
 
 // The result of the lines of one letter: where the next line begins and how many they are, or the reason of the first bad line beside its

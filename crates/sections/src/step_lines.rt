@@ -1,17 +1,18 @@
 // S lines.
-use commands::inferring::infer;
 use lines::Cursor;
-use lines::Fields;
 use lines::LineRead;
 use lines::RuleFound;
+use lines::StepTaken;
 use reply::Counts;
 use reply::Verdict;
 use rules::outcome::Outcome;
-use steps::growth::grow;
+use steps::inferring::infer;
+use syntax::Step;
 use tableau::Letter;
 use tableau::Reason;
 use tableau::Rule;
 use tree::Answer;
+use tree::Change;
 use tree::Extended;
 use tree::Tree;
 ghost use mathlib.Core.Path.{_≡_};
@@ -19,10 +20,11 @@ ghost use Prim.Native.Nat.{_+_, _<_, _≤_};
 ghost use lib.ListN.{length};
 ghost use Rattle.tableau.specs.File.{maxBytes};
 ghost use Rattle.tableau.specs.Terms.{Table};
-ghost use Rattle.terms.specs.Lines.{arrays, HoldsIn};
+ghost use Rattle.terms.specs.Held.{arrays, Held};
 ghost use Rattle.tree.specs.State.{Within};
+ghost use Rattle.rules.specs.Answer.{Room};
 ghost use Rattle.reply.specs.Verdict.{verdictOf};
-ghost use Rattle.sections.specs.Sections.{Between, StepLine, StepSection, closingsOf, closesTree, verdictAtEnd};
+ghost use Rattle.sections.specs.Sections.{Between, Branches, Grows, StepLine, StepSection, closingsOf, closesTree, verdictAtEnd};
 
 // `cls` and `emp` close.
 fn closings(rule: Rule) -> usize
@@ -44,32 +46,56 @@ fn is_closed(answer: Answer) -> bool
     }
 }
 
-// An S line whose rule is known, or the first of the checks 2 to 5 that it breaks.
+// An S line whose rule is known, taken apart, with the position after it; or the first of the checks 2 to 6 that it breaks.
 enum StepRead {
-    Step(Rule, Fields),
-    Refused(Reason),
+    Step(Step, Cursor),
+    Refused(Reason, usize),
 }
 
-// Checks 2 to 5 of the line that begins at the position.
-fn read_step(file: &[u8], at: usize, closed: bool) -> StepRead
+// Checks 2 to 6 of the line that begins at the position.
+fn read_step(file: &[u8], at: usize, closed: bool, line: usize) -> StepRead
     requires { ⌜ at < length (now file) ⌝ }
-    ensures { λ r. ⌜ StepLine (now (file .entry)) at closed r ⌝ }
+    ensures { λ r. ⌜ StepLine (now (file .entry)) at closed line r ⌝ }
 {
     let LineRead::Line(f) = lines::read_line(file, Cursor { at }) else {
-        return StepRead::Refused(Reason::BadShape);
+        return StepRead::Refused(Reason::BadShape, line);
     };
     let letter = f.letter;
     let Letter::S = letter else {
-        return StepRead::Refused(Reason::LetterOrder);
+        return StepRead::Refused(Reason::LetterOrder, line);
     };
     let word = f.word;
-    let RuleFound::Known(rule) = lines::rule_of(word) else {
-        return StepRead::Refused(Reason::UnknownWord);
+    let RuleFound::Known(row) = lines::rule_of(word) else {
+        return StepRead::Refused(Reason::UnknownWord, line);
     };
     if closed {
-        return StepRead::Refused(Reason::TreeClosed);
+        return StepRead::Refused(Reason::TreeClosed, line);
     }
-    StepRead::Step(rule, f)
+    let StepTaken::Step(step) = lines::step_of(row, f) else {
+        return StepRead::Refused(Reason::UnusedField, line);
+    };
+    let next = f.next;
+    StepRead::Step(step, next)
+}
+
+// What a step makes of the tree, with checks 15 and 16. A step that adds one alternative is not handed here: that is stored in place.
+fn grow(tree: Tree, outcome: Outcome) -> Change
+    requires { ⌜ Within tree × Room outcome × Branches outcome ⌝ }
+    ensures { λ r. ⌜ Grows tree outcome r ⌝ }
+{
+    match outcome {
+        Outcome::Closes => tree.close(),
+        Outcome::Splits(a, b) => tree.split2(a, b),
+        Outcome::SplitsThree(a, b, c) => tree.split3(a, b, c),
+        Outcome::Refused(reason) => Change {
+            tree,
+            answer: Answer::Refused(reason),
+        },
+        Outcome::Adds(_) => Change {
+            tree,
+            answer: Answer::Open,
+        },
+    }
 }
 
 // The end of the file: a closed tree is accepted, an open one breaks check 17.
@@ -94,14 +120,13 @@ pub fn run(
     n: usize,
     m: usize,
     mut tree: Tree,
-    terms: &[u64; 601],
-    head: &[u16; 967],
-    next: &[u16; 601],
-    uses: &[u64; 6010],
+    terms: &[u64; table::NUMBERS],
+    chains: &[u16; table::LINKS],
+    rows: &[u64; mentions::WORDS],
 ) -> Verdict
-    requires { ⌜ ((table : Table) × HoldsIn table (arrays (now terms) (now head) (now next) (now uses)) n) ⌝ }
+    requires { ⌜ ((table : Table) × Held table (arrays (now terms) (now chains) (now rows)) n) ⌝ }
     requires { ⌜ Between (n + m) (cursor .at) (now file) × Within tree ⌝ }
-    ensures { λ r. ⌜ ((table : Table) → HoldsIn table (arrays (now (terms .entry)) (now (head .entry)) (now (next .entry)) (now (uses .entry))) n
+    ensures { λ r. ⌜ ((table : Table) → Held table (arrays (now (terms .entry)) (now (chains .entry)) (now (rows .entry))) n
         → StepSection (now (file .entry)) (cursor .at) n table m tree (verdictOf r)) ⌝ }
 {
     let mut at = cursor.at;
@@ -110,16 +135,16 @@ pub fn run(
     let mut closed = false;
     while at < file.len() {
         let line = n + m + steps + 1;
-        match read_step(file, at, closed) {
-            StepRead::Refused(reason) => {
-                return Verdict::Refused(reason, line);
+        match read_step(file, at, closed, line) {
+            StepRead::Refused(reason, number) => {
+                return Verdict::Refused(reason, number);
             }
-            StepRead::Step(rule, f) => {
+            StepRead::Step(step, next) => {
                 let len = tree.len;
-                let outcome = infer(rule, f, &tree.branch, len, terms, head, next, uses, n);
-                at = f.next.at;
+                let outcome = infer(step, &tree.branch, len, terms, chains, rows, n);
+                at = next.at;
                 steps += 1;
-                closed_count += closings(rule);
+                closed_count += closings(step.rule);
                 // A method would copy the tree.
                 if let Outcome::Adds(a) = outcome {
                     let Extended::To(more) = Tree::extend(&mut tree.branch, len, a) else {

@@ -1,52 +1,58 @@
 // T lines.
+use crate::LineResult;
 use crate::Section;
-use commands::making::make;
 use lines::Cursor;
 use lines::Fields;
 use lines::LineRead;
+use lines::TermTaken;
 use lines::WordFound;
 use tableau::Letter;
 use tableau::Reason;
 use terms::Making;
+use terms::make_term;
 ghost use mathlib.Core.Path.{_≡_};
 ghost use mathlib.Core.List.{[]};
 ghost use Prim.Native.Nat.{_<_, _≤_};
 ghost use lib.ListN.{length};
 ghost use Rattle.tableau.specs.File.{maxBytes};
 ghost use Rattle.tableau.specs.Terms.{Table};
-ghost use Rattle.terms.specs.Lines.{arrays, HoldsIn};
+ghost use Rattle.terms.specs.Held.{arrays, Held};
 ghost use Rattle.sections.specs.Sections.{TermLine, TermSection};
 
-// Checks 4 and 6 to 10 of a T line, where n terms are made.
+// Checks 4 and 6 to 10 of a T line, where n terms are made: it is line n + 1.
 fn one(
-    terms: &mut [u64; 601],
-    head: &mut [u16; 967],
-    next: &mut [u16; 601],
-    uses: &mut [u64; 6010],
+    terms: &mut [u64; table::NUMBERS],
+    chains: &mut [u16; table::LINKS],
+    rows: &mut [u64; mentions::WORDS],
     n: usize,
     f: Fields,
-) -> Making
-    requires { ⌜ ((table : Table) × HoldsIn table (arrays (now terms) (now head) (now next) (now uses)) n) ⌝ }
+) -> LineResult
+    requires { ⌜ ((table : Table) × Held table (arrays (now terms) (now chains) (now rows)) n) ⌝ }
     requires { ⌜ (f .letter ≡ Letter.T) × (f .a < 10000) ⌝ }
-    ensures { λ r. ⌜ ((table : Table) → HoldsIn table (arrays (now (terms .entry)) (now (head .entry)) (now (next .entry)) (now (uses .entry))) n
-        → TermLine table f (arrays (now (terms .exit)) (now (head .exit)) (now (next .exit)) (now (uses .exit))) n r) ⌝ }
+    ensures { λ r. ⌜ ((table : Table) → Held table (arrays (now (terms .entry)) (now (chains .entry)) (now (rows .entry))) n
+        → TermLine table f (arrays (now (terms .exit)) (now (chains .exit)) (now (rows .exit))) n r) ⌝ }
 {
     let word = f.word;
-    let WordFound::Known(w) = lines::word_of(word) else {
-        return Making::Refused(Reason::UnknownWord);
+    let WordFound::Known(row) = lines::word_of(word) else {
+        return LineResult::Refused(Reason::UnknownWord, n + 1);
     };
-    make(terms, head, next, uses, n, w, f.a, f.b, f.c, f.d)
+    let TermTaken::Term(term) = lines::term_of(row, f) else {
+        return LineResult::Refused(Reason::UnusedField, n + 1);
+    };
+    match make_term(terms, chains, rows, n, term) {
+        Making::Made => LineResult::Passed,
+        Making::Refused(reason) => LineResult::Refused(reason, n + 1),
+    }
 }
 
 pub fn run(
     file: &[u8],
-    terms: &mut [u64; 601],
-    head: &mut [u16; 967],
-    next: &mut [u16; 601],
-    uses: &mut [u64; 6010],
+    terms: &mut [u64; table::NUMBERS],
+    chains: &mut [u16; table::LINKS],
+    rows: &mut [u64; mentions::WORDS],
 ) -> Section
-    requires { ⌜ HoldsIn [] (arrays (now terms) (now head) (now next) (now uses)) 0 × (length (now file) ≤ maxBytes) ⌝ }
-    ensures { λ r. ⌜ TermSection (now (file .entry)) (arrays (now (terms .exit)) (now (head .exit)) (now (next .exit)) (now (uses .exit))) r ⌝ }
+    requires { ⌜ Held [] (arrays (now terms) (now chains) (now rows)) 0 × (length (now file) ≤ maxBytes) ⌝ }
+    ensures { λ r. ⌜ TermSection (now (file .entry)) (arrays (now (terms .exit)) (now (chains .exit)) (now (rows .exit))) r ⌝ }
 {
     let mut at = 0;
     let mut n = 0;
@@ -58,8 +64,8 @@ pub fn run(
         let Letter::T = letter else {
             return Section::Ended(Cursor { at }, n);
         };
-        if let Making::Refused(reason) = one(terms, head, next, uses, n, f) {
-            return Section::Refused(reason, n + 1);
+        if let LineResult::Refused(reason, line) = one(terms, chains, rows, n, f) {
+            return Section::Refused(reason, line);
         }
         n += 1;
         at = f.next.at;

@@ -1,5 +1,2 @@
-// An S line, as far as the alternatives that it adds: checks 8, 9 and 11 to 14. (Check 6 was asked when the line was taken apart.)
-pub mod checks;
-pub mod concluding;
-pub mod inferring;
+// x
 pub mod reading;

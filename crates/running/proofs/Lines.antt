@@ -2,7 +2,7 @@
 use mathlib.Core.Path.{_≡_, refl, sym, _∙_, ap, subst}
 use mathlib.Core.Bool.{Bool, true, false, _&&_, true≢false}
 use mathlib.Core.List.{List, [], _∷_}
-use mathlib.Core.Option.{Option, none, some, Option·none-ne-some}
+use mathlib.Core.Option.{Option, none, some}
 use Prim.Native.Nat.{ℕ, zero, suc, _+_, _*_, _-_, _^_, _<_, _≤_}
 use native.Mathlib.Omega.{arith}
 use native.Mathlib.Nat.{lt-of-lt-of-le, mul-le-mul-left, mul-assoc, pow-suc, pow-le-pow-right}
@@ -13,16 +13,18 @@ use borrow.Author.Tests.{leb-true}
 use Rattle.tableau.specs.declared.Letter.{Letter}
 use Rattle.tableau.specs.declared.Reason.{Reason}
 use Rattle.tableau.specs.Basics.{then, guard, Four, four, lookup}
-use Rattle.tableau.specs.File.{LF, comma, split, onFirst, Line, shape, sixFields, letters, isWord, isDigit, digits, number, maxDigits}
+use Rattle.tableau.specs.File.{LF, comma, inOrder, split, onFirst, Line, shape, sixFields, letters, isWord, isDigit, digits, number, maxDigits}
 use Rattle.tableau.specs.Tree.{Checked, refused, passed, _>>=_, _>>_, require, requireSome}
-use Rattle.tableau.specs.Reply.{Command, some-of, make, assume, infer, commandOf, State, inOrder, runCommand, runLine, Verdict, refuse, atEnd, runLines}
-use Rattle.tableau.proofs.Bools.{both-true}
+use Rattle.tableau.specs.Words.{Command, some-of, make, assume, infer, commandOf}
+use Rattle.tableau.specs.Reply.{State, requireOpen, runOpen, runRead, runLine, Verdict, refuse, atEnd, runLines}
+use Rattle.tableau.proofs.Bools.{both-true, then-inv, guard-inv, none≢some}
 use Rattle.lines.specs.declared.Fields.{Fields}
 use Rattle.lines.specs.declared.LineRead.{LineRead}
 use Rattle.lines.specs.Lines.{packWord, lineRead, firstLine, lineAt}
+use Rattle.lines.specs.Taken.{numbersOf}
 use Rattle.lines.proofs.PackedWords.{words-packed, relations-packed, rules-packed}
 use Rattle.lines.proofs.Remaining.{pieces, split-same, split-other}
-use Rattle.sections.specs.Running.{verdictFrom, packedCommand, runFields, LineHere}
+use Rattle.running.specs.Running.{verdictFrom, packedCommand, runFields, LineHere, NoLine}
 
 -- THE CUT AT LF: behind the first piece and its LF stand the others.
 pub behind : (c : ℕ) (text l m : List ℕ) (ls : List (List ℕ)) → split c text ≡ l ∷ m ∷ ls
@@ -65,21 +67,12 @@ one-piece c (x ∷ text) h e = cut (eqb x c) (pieces c text) e
     cut true g e = some-piece c text (let q : split c text ≡ [] = cc in q)
     cut false g e = let z : onFirst x (g .0 ∷ g .1) ≡ [] ∷ [] = ap (onFirst x) (sym (g .2)) ∙ e in let y : true ≡ false = cc in true≢false y
 
--- what a value that passed a test says of the test
-then-some : {A B : Type 0} {y : B} (m : Option A) (k : A → Option B) → then m k ≡ some y → (x : A) × (m ≡ some x) × (k x ≡ some y)
-then-some none k e = absurd (Option·none-ne-some _ e)
-then-some (some x) k e = (x, refl, e)
-
-guard-some : {A : Type 0} {y : A} (b : Bool) (m : Option A) → guard b m ≡ some y → (b ≡ true) × (m ≡ some y)
-guard-some true m e = (refl, e)
-guard-some false m e = absurd (Option·none-ne-some _ e)
-
 -- NUMBERS of at most four digits
 digits-small : (bs : List ℕ) (n m : ℕ) → digits bs n ≡ some m → m < 10 ^ length bs * suc n
 unfolding digits
 digits-small [] n m e = let q : n ≡ m = cc in omega (arith, q)
 digits-small (b ∷ bs) n m e =
-    let g = guard-some (isDigit b) (digits bs (10 * n + (b - 48))) e in
+    let g = guard-inv (isDigit b) (digits bs (10 * n + (b - 48))) e in
     let d = leb-true b 57 (both-true (leb 48 b) (leb b 57) (g .0) .1) in
     let h = digits-small bs (10 * n + (b - 48)) m (g .1) in
     let l : suc (10 * n + (b - 48)) ≤ 10 * suc n = omega (arith, d) in
@@ -87,9 +80,9 @@ digits-small (b ∷ bs) n m e =
 
 number-small : (p : List ℕ) (n : ℕ) → number p ≡ some n → n < 10000
 unfolding number
-number-small [] n e = absurd (Option·none-ne-some _ e)
+number-small [] n e = none≢some e
 number-small (b ∷ bs) n e =
-    let g = guard-some _ (digits (b ∷ bs) 0) e in
+    let g = guard-inv _ (digits (b ∷ bs) 0) e in
     let l = leb-true (length (b ∷ bs)) maxDigits (both-true (leb (length (b ∷ bs)) maxDigits) _ (g .0) .0) in
     let h = digits-small (b ∷ bs) 0 n (g .1) in
     let k : 10 ^ length (b ∷ bs) ≤ 10 ^ 4 = pow-le-pow-right (omega arith) l in
@@ -101,21 +94,21 @@ some-at P x y e p = let q : x ≡ y = cc in subst P q p
 -- A LINE of six fields: its word is a word, its first number is small
 pub shaped : (ps : List (List ℕ)) (L : Line) → sixFields ps ≡ some L → (isWord (L .word) ≡ true) × (L .fields .a < 10000)
 unfolding sixFields
-shaped [] L e = absurd (Option·none-ne-some _ e)
-shaped (k ∷ []) L e = absurd (Option·none-ne-some _ e)
-shaped (k ∷ w ∷ []) L e = absurd (Option·none-ne-some _ e)
-shaped (k ∷ w ∷ a ∷ []) L e = absurd (Option·none-ne-some _ e)
-shaped (k ∷ w ∷ a ∷ b ∷ []) L e = absurd (Option·none-ne-some _ e)
-shaped (k ∷ w ∷ a ∷ b ∷ c ∷ []) L e = absurd (Option·none-ne-some _ e)
+shaped [] L e = none≢some e
+shaped (k ∷ []) L e = none≢some e
+shaped (k ∷ w ∷ []) L e = none≢some e
+shaped (k ∷ w ∷ a ∷ []) L e = none≢some e
+shaped (k ∷ w ∷ a ∷ b ∷ []) L e = none≢some e
+shaped (k ∷ w ∷ a ∷ b ∷ c ∷ []) L e = none≢some e
 shaped (k ∷ w ∷ a ∷ b ∷ c ∷ d ∷ []) L e =
-    let h₁ = then-some (lookup letters k) _ e in
-    let h₂ = guard-some (isWord w) _ (h₁ .2) in
-    let h₃ = then-some (number a) _ (h₂ .1) in
-    let h₄ = then-some (number b) _ (h₃ .2) in
-    let h₅ = then-some (number c) _ (h₄ .2) in
-    let h₆ = then-some (number d) _ (h₅ .2) in
+    let h₁ = then-inv (lookup letters k) _ e in
+    let h₂ = guard-inv (isWord w) _ (h₁ .2) in
+    let h₃ = then-inv (number a) _ (h₂ .1) in
+    let h₄ = then-inv (number b) _ (h₃ .2) in
+    let h₅ = then-inv (number c) _ (h₄ .2) in
+    let h₆ = then-inv (number d) _ (h₅ .2) in
     some-at (λ L. (isWord (L .word) ≡ true) × (L .fields .a < 10000)) _ L (h₆ .2) (h₂ .0, number-small a (h₃ .0) (h₃ .1))
-shaped (k ∷ w ∷ a ∷ b ∷ c ∷ d ∷ x ∷ ps) L e = absurd (Option·none-ne-some _ e)
+shaped (k ∷ w ∷ a ∷ b ∷ c ∷ d ∷ x ∷ ps) L e = none≢some e
 
 -- the command of a packed word is that of the word
 pub command-packed : (l : Letter) (w : List ℕ) → isWord w ≡ true → packedCommand l (packWord w) ≡ commandOf l w
@@ -129,14 +122,8 @@ abbrev line-fields : ℕ → Line → Fields
 line-fields n L = record { letter = L .letter; word = packWord (L .word); a = L .fields .a; b = L .fields .b; c = L .fields .c; d = L .fields .d; next = record { at = n } }
 
 run-shaped : (σ : State) (l : List ℕ) (L : Line) (n : ℕ) → shape l ≡ some L → runLine σ l ≡ runFields σ (line-fields n L)
-unfolding runLine runFields
-run-shaped σ l L n e =
-    ap (λ (s : Option Line). requireSome s Reason.BadShape >>= run) e
-    ∙ ap (λ (c : Option Command). require (inOrder (σ .letter) (L .letter)) Reason.LetterOrder >> (requireSome c Reason.UnknownWord >>= λ x. runCommand σ (L .letter) x (L .fields)))
-    (sym (command-packed (L .letter) (L .word) (shaped (split comma l) L e .0)))
-  where
-    run : Line → Checked State
-    run k = require (inOrder (σ .letter) (k .letter)) Reason.LetterOrder >> (requireSome (commandOf (k .letter) (k .word)) Reason.UnknownWord >>= λ x. runCommand σ (k .letter) x (k .fields))
+unfolding runRead runFields
+run-shaped σ l L n e = ap (runRead σ) e ∙ rw (command-packed (L .letter) (L .word) (shaped (split comma l) L e .0))
 
 -- what follows the first piece, in the run
 run-piece : (σ : State) (i : ℕ) (l m : List ℕ) (ls : List (List ℕ)) → runLines (l ∷ m ∷ ls) i (passed σ) ≡ runLines (m ∷ ls) (suc i) (runLine σ l)
@@ -188,7 +175,7 @@ line-here file at f e = go (split LF (drop at file)) refl e
 
 pub bad-line : (file : List ℕ) (at : ℕ) → at < length file → lineAt file at ≡ LineRead.BadShape → (i : ℕ) (σ : State)
     → verdictFrom file at i (passed σ) ≡ refuse Reason.BadShape (suc i)
-unfolding lineAt runLines runLine
+unfolding lineAt runLines runRead
 bad-line file at before e i σ = go (split LF (drop at file)) refl e
   where
     unshaped : (l : List ℕ) → shape l ≡ none → runLine σ l ≡ refused Reason.BadShape
@@ -216,3 +203,25 @@ at-end file at h i σ = rw (drop-of-length-le file h)
 pub no-line : (file : List ℕ) (at : ℕ) → length file ≤ at → lineAt file at ≡ LineRead.BadShape
 unfolding split lineAt
 no-line file at h = rw (drop-of-length-le file h)
+
+-- CHECKS 3 AND 4 of a line that is read: out of order, with an unknown word, or a command
+module _ (σ : State) (f : Fields) {l : Letter} (k : f .letter ≡ l) where
+  pub run-disordered : inOrder (σ .letter) l ≡ false → runFields σ f ≡ refused Reason.LetterOrder
+  unfolding runFields
+  run-disordered o = rw (k, o)
+
+  pub run-unknown : inOrder (σ .letter) l ≡ true → packedCommand l (f .word) ≡ none → runFields σ f ≡ refused Reason.UnknownWord
+  unfolding runFields
+  run-unknown o e = rw (k, o, e)
+
+  pub run-known : (c : Command) → inOrder (σ .letter) l ≡ true → packedCommand l (f .word) ≡ some c
+      → runFields σ f ≡ (requireOpen (σ .status) >>= λ τ. runOpen σ τ c (numbersOf f))
+  unfolding runFields
+  run-known c o e = rw (k, o, e)
+
+-- THE END OF A SECTION: the file ends here, or the line has another letter.
+pub none-at-end : (k : Letter) (file : List ℕ) (at : ℕ) → length file ≤ at → NoLine k file at
+none-at-end k file at h f e l = bad≢line (sym (no-line file at h) ∙ e)
+
+pub none-here : (k : Letter) (file : List ℕ) (at : ℕ) (f : Fields) → lineAt file at ≡ LineRead.Line f → (f .letter ≡ k → ⊥) → NoLine k file at
+none-here k file at f e h g e′ l = h (ap (λ (x : Fields). x .letter) (line-injective (sym e ∙ e′)) ∙ l)

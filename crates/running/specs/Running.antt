@@ -6,15 +6,14 @@ use Prim.Native.Nat.{ℕ, suc, _<_, _≤_}
 use lib.ListN.{length, drop}
 use Rattle.tableau.specs.declared.Letter.{Letter}
 use Rattle.tableau.specs.declared.Reason.{Reason}
-use Rattle.tableau.specs.Basics.{four}
-use Rattle.tableau.specs.File.{LF, split}
-use Rattle.tableau.specs.Terms.{words, relations}
-use Rattle.tableau.specs.Rules.{ruleNames}
+use Rattle.tableau.specs.File.{LF, inOrder, split}
+use Rattle.tableau.specs.Words.{words, relations, ruleNames, Command, make, assume, infer, some-of}
 use Rattle.tableau.specs.Tree.{Checked, passed, _>>=_, _>>_, require, requireSome}
-use Rattle.tableau.specs.Reply.{Command, make, assume, infer, some-of, State, inOrder, runCommand, Verdict, runLines}
+use Rattle.tableau.specs.Reply.{State, requireOpen, runOpen, Verdict, runLines}
 use Rattle.lines.specs.declared.Fields.{Fields}
 use Rattle.lines.specs.declared.LineRead.{LineRead}
 use Rattle.lines.specs.Lines.{lineAt}
+use Rattle.lines.specs.Taken.{numbersOf}
 use Rattle.lines.specs.Words.{lookupPacked}
 
 -- the verdict, where i lines are read and the next begins at the position
@@ -27,12 +26,13 @@ packedCommand Letter.T w = some-of make (lookupPacked words w)
 packedCommand Letter.A w = some-of assume (lookupPacked relations w)
 packedCommand Letter.S w = some-of infer (lookupPacked ruleNames w)
 
--- checks 3 and 4 of a line that is read, then those of its command
+-- checks 3 to 5 of a line that is read, then those of its command
 unfoldable pub runFields : State → Fields → Checked State
 runFields σ f = do
   require (inOrder (σ .letter) (f .letter)) Reason.LetterOrder
   c ← requireSome (packedCommand (f .letter) (f .word)) Reason.UnknownWord
-  runCommand σ (f .letter) c (four (f .a) (f .b) (f .c) (f .d))
+  τ ← requireOpen (σ .status)
+  runOpen σ τ c (numbersOf f)
 
 -- A line with these fields begins at the position: it ends inside the file, its numbers have at most four digits, and the run goes on behind it.
 pub record LineHere (file : List ℕ) (at : ℕ) (f : Fields) : Type 0 where
@@ -40,3 +40,7 @@ pub record LineHere (file : List ℕ) (at : ℕ) (f : Fields) : Type 0 where
   pub inside : f .next .at ≤ length file
   pub small : f .a < 10000
   pub runs : (i : ℕ) (σ : State) → verdictFrom file at i (passed σ) ≡ verdictFrom file (f .next .at) (suc i) (runFields σ f)
+
+-- no line of letter k begins at the position
+abbrev pub NoLine : Letter → List ℕ → ℕ → Type 0
+NoLine k file at = (f : Fields) → lineAt file at ≡ LineRead.Line f → f .letter ≡ k → ⊥
