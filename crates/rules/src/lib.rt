@@ -1,9 +1,4 @@
-// The thirty rules, in the order of document 01. Each takes the literals at its places and the terms that it looks at or would add, and
-// answers what it concludes: no array and no tree.
-pub mod closing;
-pub mod equality;
-pub mod heaps;
-pub mod images;
-pub mod order;
+// What the functions of all thirty rules share: the outcome, its making, the search for a term that a rule would add. Each rule is one function, in
+// `equality_rules`, `heap_rules` or `region_rules`: it takes the literals at its places and its terms, and looks up what it needs.
 pub mod outcome;
-pub mod regions;
+pub mod searches;

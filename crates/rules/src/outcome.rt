@@ -1,13 +1,15 @@
 // What a rule concludes, its literals packed.
+use packing::literals::pack;
+use syntax::Literal;
 use tableau::Reason;
 use tableau::Relation;
 use tableau::TermNumber;
-use terms::packing::pack_sides;
 use tree::Alternative;
+ghost use mathlib.Core.Path.{_≡_};
 ghost use mathlib.Core.List.{[], _∷_};
-ghost use Prim.Native.Nat.{_<_};
-ghost use Rattle.tree.specs.State.{codeLimit};
-ghost use Rattle.rules.specs.Answer.{Coded, literalIn, SmallIn, Forms, Builds};
+ghost use Rattle.syntax.specs.Syntax.{literalIn};
+ghost use Rattle.packing.specs.Packing.{PackableLiteral};
+ghost use Rattle.rules.specs.Answer.{literalWith, Forms, Builds};
 
 pub enum Outcome {
     Refused(Reason),
@@ -17,81 +19,89 @@ pub enum Outcome {
     SplitsThree(Alternative, Alternative, Alternative),
 }
 
-// A literal that a rule adds.
-pub struct Added(pub Relation, pub TermNumber, pub TermNumber);
-
-// Numbers of terms are below 1024, so that nothing is lost here.
-fn code(l: Added) -> u32
-    ensures { λ r. ⌜ (r < codeLimit) × Coded l r ⌝ }
+pub fn literal(relation: Relation, left: TermNumber, right: TermNumber) -> Literal
+    ensures { λ r. ⌜ r ≡ literalWith relation left right ⌝ }
 {
-    let relation = l.0;
-    let m = l.1;
-    let n = l.2;
-    pack_sides(relation, TermNumber(m.0 % 1024), TermNumber(n.0 % 1024))
+    Literal {
+        relation,
+        left,
+        right,
+    }
 }
 
-fn one(l: Added) -> Alternative
-    ensures { λ r. ⌜ Forms 1 (SmallIn l) r (literalIn l ∷ []) ⌝ }
+fn one(l: Literal) -> Alternative
+    requires { ⌜ PackableLiteral (literalIn l) ⌝ }
+    ensures { λ r. ⌜ Forms 1 r (literalIn l ∷ []) ⌝ }
 {
-    Alternative::one(code(l))
+    Alternative::one(pack(l))
 }
 
-fn two(l: Added, m: Added) -> Alternative
-    ensures { λ r. ⌜ Forms 2 (SmallIn l × SmallIn m) r (literalIn l ∷ literalIn m ∷ []) ⌝ }
+fn two(l: Literal, m: Literal) -> Alternative
+    requires { ⌜ PackableLiteral (literalIn l) × PackableLiteral (literalIn m) ⌝ }
+    ensures { λ r. ⌜ Forms 2 r (literalIn l ∷ literalIn m ∷ []) ⌝ }
 {
-    Alternative::two(code(l), code(m))
+    Alternative::two(pack(l), pack(m))
 }
 
-fn three(l: Added, m: Added, n: Added) -> Alternative
-    ensures { λ r. ⌜ Forms 3 (SmallIn l × SmallIn m × SmallIn n) r (literalIn l ∷ literalIn m ∷ literalIn n ∷ []) ⌝ }
+fn three(l: Literal, m: Literal, n: Literal) -> Alternative
+    requires { ⌜ PackableLiteral (literalIn l) × PackableLiteral (literalIn m) × PackableLiteral (literalIn n) ⌝ }
+    ensures { λ r. ⌜ Forms 3 r (literalIn l ∷ literalIn m ∷ literalIn n ∷ []) ⌝ }
 {
-    Alternative::three(code(l), code(m), code(n))
+    Alternative::three(pack(l), pack(m), pack(n))
 }
 
-pub fn adds_one(l: Added) -> Outcome
-    ensures { λ r. ⌜ Builds (SmallIn l) r ((literalIn l ∷ []) ∷ []) ⌝ }
+pub fn adds_one(l: Literal) -> Outcome
+    requires { ⌜ PackableLiteral (literalIn l) ⌝ }
+    ensures { λ r. ⌜ Builds r ((literalIn l ∷ []) ∷ []) ⌝ }
 {
     Outcome::Adds(one(l))
 }
 
 // l, m
-pub fn adds_two(l: Added, m: Added) -> Outcome
-    ensures { λ r. ⌜ Builds (SmallIn l × SmallIn m) r ((literalIn l ∷ literalIn m ∷ []) ∷ []) ⌝ }
+pub fn adds_two(l: Literal, m: Literal) -> Outcome
+    requires { ⌜ PackableLiteral (literalIn l) × PackableLiteral (literalIn m) ⌝ }
+    ensures { λ r. ⌜ Builds r ((literalIn l ∷ literalIn m ∷ []) ∷ []) ⌝ }
 {
     Outcome::Adds(two(l, m))
 }
 
 // l, m, n
-pub fn adds_three(l: Added, m: Added, n: Added) -> Outcome
-    ensures { λ r. ⌜ Builds (SmallIn l × SmallIn m × SmallIn n) r ((literalIn l ∷ literalIn m ∷ literalIn n ∷ []) ∷ []) ⌝ }
+pub fn adds_three(l: Literal, m: Literal, n: Literal) -> Outcome
+    requires { ⌜ PackableLiteral (literalIn l) × PackableLiteral (literalIn m) × PackableLiteral (literalIn n) ⌝ }
+    ensures { λ r. ⌜ Builds r ((literalIn l ∷ literalIn m ∷ literalIn n ∷ []) ∷ []) ⌝ }
 {
     Outcome::Adds(three(l, m, n))
 }
 
 // l ∥ m
-pub fn splits(l: Added, m: Added) -> Outcome
-    ensures { λ r. ⌜ Builds (SmallIn l × SmallIn m) r ((literalIn l ∷ []) ∷ (literalIn m ∷ []) ∷ []) ⌝ }
+pub fn splits(l: Literal, m: Literal) -> Outcome
+    requires { ⌜ PackableLiteral (literalIn l) × PackableLiteral (literalIn m) ⌝ }
+    ensures { λ r. ⌜ Builds r ((literalIn l ∷ []) ∷ (literalIn m ∷ []) ∷ []) ⌝ }
 {
     Outcome::Splits(one(l), one(m))
 }
 
 // l, m ∥ n
-pub fn splits_two_one(l: Added, m: Added, n: Added) -> Outcome
-    ensures { λ r. ⌜ Builds (SmallIn l × SmallIn m × SmallIn n) r ((literalIn l ∷ literalIn m ∷ []) ∷ (literalIn n ∷ []) ∷ []) ⌝ }
+pub fn splits_two_one(l: Literal, m: Literal, n: Literal) -> Outcome
+    requires { ⌜ PackableLiteral (literalIn l) × PackableLiteral (literalIn m) × PackableLiteral (literalIn n) ⌝ }
+    ensures { λ r. ⌜ Builds r ((literalIn l ∷ literalIn m ∷ []) ∷ (literalIn n ∷ []) ∷ []) ⌝ }
 {
     Outcome::Splits(two(l, m), one(n))
 }
 
 // l, m ∥ n, o
-pub fn splits_two_two(l: Added, m: Added, n: Added, o: Added) -> Outcome
-    ensures { λ r. ⌜ Builds (SmallIn l × SmallIn m × SmallIn n × SmallIn o) r ((literalIn l ∷ literalIn m ∷ []) ∷ (literalIn n ∷ literalIn o ∷ []) ∷ []) ⌝ }
+pub fn splits_two_two(l: Literal, m: Literal, n: Literal, o: Literal) -> Outcome
+    requires { ⌜ PackableLiteral (literalIn l) × PackableLiteral (literalIn m) ⌝ }
+    requires { ⌜ PackableLiteral (literalIn n) × PackableLiteral (literalIn o) ⌝ }
+    ensures { λ r. ⌜ Builds r ((literalIn l ∷ literalIn m ∷ []) ∷ (literalIn n ∷ literalIn o ∷ []) ∷ []) ⌝ }
 {
     Outcome::Splits(two(l, m), two(n, o))
 }
 
 // l ∥ m ∥ n
-pub fn splits_three(l: Added, m: Added, n: Added) -> Outcome
-    ensures { λ r. ⌜ Builds (SmallIn l × SmallIn m × SmallIn n) r ((literalIn l ∷ []) ∷ (literalIn m ∷ []) ∷ (literalIn n ∷ []) ∷ []) ⌝ }
+pub fn splits_three(l: Literal, m: Literal, n: Literal) -> Outcome
+    requires { ⌜ PackableLiteral (literalIn l) × PackableLiteral (literalIn m) × PackableLiteral (literalIn n) ⌝ }
+    ensures { λ r. ⌜ Builds r ((literalIn l ∷ []) ∷ (literalIn m ∷ []) ∷ (literalIn n ∷ []) ∷ []) ⌝ }
 {
     Outcome::SplitsThree(one(l), one(m), one(n))
 }

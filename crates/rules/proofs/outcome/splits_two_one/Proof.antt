@@ -1,4 +1,3 @@
-use borrow.Author.Needs.{needs}
 use native.Mathlib.Omega.{arith}
 use Rattle.rules.proofs.Laws.{splits}
 use Rattle.rules.proofs.outcome.splits_two_one.Statement.{statement}
@@ -6,6 +5,4 @@ use Rattle.rules.proofs.outcome.splits_two_one.Tie as tie
 
 pub splits-two-one-spec : {M : Type 1} → statement M
 splits-two-one-spec =
-    tie.close
-    (tie.spec (λ c κs. search needs) (λ c κs. search needs)
-    (λ c. splits (omega arith) (omega arith) (λ h. ((h .0, h .1), h .2)) (c .before .two .ensures) (c .one .ensures)))
+    tie.close (tie.spec (λ c κs. (c .pre .0, c .pre .1)) (λ c κs. c .before .pre .2) (λ c. splits (omega arith) (omega arith) (c .before .two .ensures) (c .one .ensures)))

@@ -1,17 +1,23 @@
 use mathlib.Core.Path.{_∙_, ap}
 use mathlib.Core.List.{[], _∷_, map}
-use Rattle.terms.specs.Packing.{unpackLiteral}
+use Rattle.packing.specs.Packing.{unpackLiteral}
+use Rattle.rules.proofs.Laws.{packed-back}
 use borrow.Author.Needs.{needs}
 use Rattle.rules.proofs.outcome.three.Statement.{statement}
 use Rattle.rules.proofs.outcome.three.Tie as tie
 
 returns : tie.Need-returns
-returns c = record {
-  holds = c .three .ensures .0;
-  is = λ h. ap (map unpackLiteral) (c .three .ensures .1)
-      ∙ (λ i. c .before .before .before .code .ensures .1 (h .0) i ∷ c .before .before .code2 .ensures .1 (h .1) i ∷ c .before .code3 .ensures .1 (h .2) i ∷ []);
-}
+returns c =
+    let d = c .before .before .before in
+    let s = d .before .pre in
+    record {
+      atMost = c .three .ensures .0;
+      is = ap (map unpackLiteral) (c .three .ensures .1)
+          ∙ (λ i. packed-back _ (s .0) (d .pack .ensures .0) i ∷ packed-back _ (s .1) (c .before .before .pack2 .ensures .0) i
+          ∷ packed-back _ (s .2) (c .before .pack3 .ensures .0) i ∷ []);
+    }
 
 pub three-spec : {M : Type 1} → statement M
 three-spec =
-    tie.close (tie.spec (λ c κs. search needs) (λ c κs. search needs) (λ c κs. search needs) (λ c κs. search needs) returns)
+    tie.close
+    (tie.spec (λ c κs. c .pre .0) (λ c κs. c .before .pre .1) (λ c κs. c .before .before .pre .2) (λ c κs. search needs) returns)
