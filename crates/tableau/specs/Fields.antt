@@ -6,7 +6,6 @@ use Rattle.tableau.specs.declared.Word.{Word}
 use Rattle.tableau.specs.declared.Relation.{Relation}
 use Rattle.tableau.specs.declared.Rule.{Rule}
 use Rattle.tableau.specs.Basics.{Four, four, mapFour}
-use Rattle.tableau.specs.Words.{Command, make, assume, infer}
 
 -- What a field of a line holds: nothing, a place, a name, a side (of `rep`), a term of any sort, a term of one sort.
 pub data Use : Type 0 where
@@ -137,9 +136,3 @@ termUse (of s) = of s
 
 abbrev pub ruleUses : Rule → Four Use
 ruleUses x = four (placeUse (ruleFields x .p)) (placeUse (ruleFields x .q)) (thirdUse (ruleFields x .t)) (termUse (ruleFields x .w))
-
--- THE FIELDS OF ANY LINE, by what it asks for.
-abbrev pub usesOf : Command → Four Use
-usesOf (make w) = wordFields w
-usesOf (assume R) = sides R
-usesOf (infer x) = ruleUses x
