@@ -61,29 +61,32 @@ unfoldable pub rowsOf : {A B : Type 0} → (A → B) → List (Named A) → List
 rowsOf row [] = []
 rowsOf row (n ∷ ns) = row (n .is) ∷ rowsOf row ns
 
--- WHAT THE INDEX OF A WORD SAYS OF IT: the row there is that of the entry that is looked up; past the rows there is no such entry.
-module _ {A B : Type 0} (row : A → B) (P : Option A → B → Type 0) (right : (x : A) → P (some x) (row x)) (d : B) where
+-- WHAT THE INDEX OF A WORD SAYS OF IT. The row there is that of the entry that is looked up, so what holds of every entry and its row holds of the two;
+module _ {A B : Type 0} (row : A → B) (P : Option A → B → Type 0) (holds : (x : A) → P (some x) (row x)) (d : B) where
   at-index : (t : List (Named A)) (w : ℕ) → indexOf w (packedTexts t) < length (rowsOf row t)
       → P (lookupPacked t w) (getD (rowsOf row t) (indexOf w (packedTexts t)) d)
   unfolding lookupPacked indexOf packedTexts rowsOf
   at-index [] w h = absurd (omega arith)
-  at-index (n ∷ ns) w h = pick (eqb w (packWord (bytes (n .text)))) h (at-index ns w)
+  at-index (n ∷ ns) w h = pick (eqb w (packWord (bytes (n .text)))) (indexOf w (packedTexts ns)) (lookupPacked ns w) (at-index ns w) h
     where
-      pick : (here : Bool) → cond here 0 (suc (indexOf w (packedTexts ns))) < length (rowsOf row (n ∷ ns))
-          → (indexOf w (packedTexts ns) < length (rowsOf row ns) → P (lookupPacked ns w) (getD (rowsOf row ns) (indexOf w (packedTexts ns)) d))
-          → P (cond here (some (n .is)) (lookupPacked ns w)) (getD (rowsOf row (n ∷ ns)) (cond here 0 (suc (indexOf w (packedTexts ns)))) d)
-      pick true h k = right (n .is)
-      pick false h k = k (omega arith)
+      pick : (here : Bool) (i : ℕ) (x : Option A) → (i < length (rowsOf row ns) → P x (getD (rowsOf row ns) i d))
+          → cond here 0 (suc i) < length (rowsOf row (n ∷ ns))
+          → P (cond here (some (n .is)) x) (getD (rowsOf row (n ∷ ns)) (cond here 0 (suc i)) d)
+      pick true i x k h = holds (n .is)
+      pick false i x k h = k (omega arith)
 
-  pub found : (t : List (Named A)) (w i : ℕ) → i ≡ indexOf w (packedTexts t) → i < length (rowsOf row t) → P (lookupPacked t w) (getD (rowsOf row t) i d)
+  pub found : (t : List (Named A)) (w i : ℕ) → i ≡ indexOf w (packedTexts t) → i < length (rowsOf row t)
+      → P (lookupPacked t w) (getD (rowsOf row t) i d)
   found t w i e h = rw e (at-index t w (rw e at h))
 
+-- past the rows there is no such entry.
 pub not-found : {A : Type 0} (t : List (Named A)) (w i : ℕ) → i ≡ indexOf w (packedTexts t) → length t ≤ i → lookupPacked t w ≡ none
 unfolding lookupPacked indexOf packedTexts
 not-found [] w i e h = refl
-not-found (n ∷ ns) w i e h = pick (eqb w (packWord (bytes (n .text)))) (rw e at h) (not-found ns w (indexOf w (packedTexts ns)) refl)
+not-found {A = A} (n ∷ ns) w i e h =
+    pick (eqb w (packWord (bytes (n .text)))) (indexOf w (packedTexts ns)) (lookupPacked ns w) (not-found ns w _ refl) (rw e at h)
   where
-    pick : (here : Bool) → length (n ∷ ns) ≤ cond here 0 (suc (indexOf w (packedTexts ns)))
-        → (length ns ≤ indexOf w (packedTexts ns) → lookupPacked ns w ≡ none) → cond here (some (n .is)) (lookupPacked ns w) ≡ none
-    pick true h k = absurd (omega arith)
-    pick false h k = k (omega arith)
+    pick : (here : Bool) (i : ℕ) (x : Option A) → (length ns ≤ i → x ≡ none) → length (n ∷ ns) ≤ cond here 0 (suc i)
+        → cond here (some (n .is)) x ≡ none
+    pick true i x k h = absurd (omega arith)
+    pick false i x k h = k (omega arith)

@@ -1,5 +1,5 @@
-// The words of T, A and S lines: what each stands for, and the fields that it uses. Each letter's words stand in one fixed byte string, in the
-// order of the letter's table.
+// The words of T, A and S lines: what each stands for, and the fields that it uses. The words of a letter stand in one fixed byte string, in
+// the order of its table.
 ghost use mathlib.Core.List.{[], _∷_};
 ghost use mathlib.Core.Path.{_≡_};
 ghost use Rattle.lines.specs.Lines.{packWord};
@@ -11,7 +11,7 @@ use tableau::Rule;
 use tableau::Sort;
 use tableau::Word;
 
-// What a word stands for, with the mask of the fields that it uses.
+// What a word stands for, and the fields that it uses.
 pub struct WordRow {
     pub word: Word,
     pub used: Mask,
@@ -37,77 +37,34 @@ pub enum RuleFound {
     Unknown,
 }
 
+// A row of a table. Its mask is a plain number: a table of structs within structs takes twice as long to prove.
+struct WordUses(Word, u8);
+
+struct RuleUses(Rule, u8);
+
 const WORD_COUNT: usize = 17;
 
-const WORDS: [WordRow; WORD_COUNT] = [
-    WordRow {
-        word: Word::Operation(Operator::Nul),
-        used: Mask(0),
-    },
-    WordRow {
-        word: Word::Variable(Sort::Reference),
-        used: Mask(Mask::P),
-    },
-    WordRow {
-        word: Word::Operation(Operator::Rea),
-        used: Mask(Mask::P | Mask::Q | Mask::T),
-    },
-    WordRow {
-        word: Word::Operation(Operator::Emp),
-        used: Mask(0),
-    },
-    WordRow {
-        word: Word::Operation(Operator::All),
-        used: Mask(0),
-    },
-    WordRow {
-        word: Word::Variable(Sort::Region),
-        used: Mask(Mask::P),
-    },
-    WordRow {
-        word: Word::Operation(Operator::Cup),
-        used: Mask(Mask::P | Mask::Q),
-    },
-    WordRow {
-        word: Word::Operation(Operator::Cap),
-        used: Mask(Mask::P | Mask::Q),
-    },
-    WordRow {
-        word: Word::Operation(Operator::Dif),
-        used: Mask(Mask::P | Mask::Q),
-    },
-    WordRow {
-        word: Word::Operation(Operator::Sin),
-        used: Mask(Mask::P),
-    },
-    WordRow {
-        word: Word::Operation(Operator::Img),
-        used: Mask(Mask::P | Mask::Q | Mask::T),
-    },
-    WordRow {
-        word: Word::Variable(Sort::Heap),
-        used: Mask(Mask::P),
-    },
-    WordRow {
-        word: Word::Operation(Operator::Wri),
-        used: Mask(Mask::P | Mask::Q | Mask::T | Mask::W),
-    },
-    WordRow {
-        word: Word::Variable(Sort::Field),
-        used: Mask(Mask::P),
-    },
-    WordRow {
-        word: Word::Variable(Sort::Class),
-        used: Mask(Mask::P),
-    },
-    WordRow {
-        word: Word::Operation(Operator::Typ),
-        used: Mask(Mask::P),
-    },
-    WordRow {
-        word: Word::Operation(Operator::Dty),
-        used: Mask(Mask::P),
-    },
+const WORDS: [WordUses; WORD_COUNT] = [
+    WordUses(Word::Operation(Operator::Nul), 0),
+    WordUses(Word::Variable(Sort::Reference), Mask::P),
+    WordUses(Word::Operation(Operator::Rea), Mask::P | Mask::Q | Mask::T),
+    WordUses(Word::Operation(Operator::Emp), 0),
+    WordUses(Word::Operation(Operator::All), 0),
+    WordUses(Word::Variable(Sort::Region), Mask::P),
+    WordUses(Word::Operation(Operator::Cup), Mask::P | Mask::Q),
+    WordUses(Word::Operation(Operator::Cap), Mask::P | Mask::Q),
+    WordUses(Word::Operation(Operator::Dif), Mask::P | Mask::Q),
+    WordUses(Word::Operation(Operator::Sin), Mask::P),
+    WordUses(Word::Operation(Operator::Img), Mask::P | Mask::Q | Mask::T),
+    WordUses(Word::Variable(Sort::Heap), Mask::P),
+    WordUses(
+        Word::Operation(Operator::Wri),
+        Mask::P | Mask::Q | Mask::T | Mask::W,
+    ),
+    WordUses(Word::Variable(Sort::Field), Mask::P),
+    WordUses(Word::Variable(Sort::Class), Mask::P),
+    WordUses(Word::Operation(Operator::Typ), Mask::P),
+    WordUses(Word::Operation(Operator::Dty), Mask::P),
 ];
 
 const RELATION_COUNT: usize = 6;
@@ -124,127 +81,37 @@ const RELATIONS: [Relation; RELATION_COUNT] = [
 const RULE_COUNT: usize = 30;
 
 // "Which fields each rule uses is one fixed table of thirty rows."
-const RULES: [RuleRow; RULE_COUNT] = [
-    RuleRow {
-        rule: Rule::Eqr,
-        used: Mask(Mask::P | Mask::Q),
-    },
-    RuleRow {
-        rule: Rule::Eql,
-        used: Mask(Mask::P | Mask::Q),
-    },
-    RuleRow {
-        rule: Rule::Ext,
-        used: Mask(Mask::P | Mask::W),
-    },
-    RuleRow {
-        rule: Rule::Fir,
-        used: Mask(Mask::W),
-    },
-    RuleRow {
-        rule: Rule::Cpe,
-        used: Mask(Mask::P),
-    },
-    RuleRow {
-        rule: Rule::Cpi,
-        used: Mask(Mask::P | Mask::Q | Mask::T),
-    },
-    RuleRow {
-        rule: Rule::Cue,
-        used: Mask(Mask::P),
-    },
-    RuleRow {
-        rule: Rule::Cui,
-        used: Mask(Mask::P | Mask::T),
-    },
-    RuleRow {
-        rule: Rule::Dfe,
-        used: Mask(Mask::P),
-    },
-    RuleRow {
-        rule: Rule::Dfi,
-        used: Mask(Mask::P | Mask::Q | Mask::T),
-    },
-    RuleRow {
-        rule: Rule::Sge,
-        used: Mask(Mask::P),
-    },
-    RuleRow {
-        rule: Rule::Sgi,
-        used: Mask(Mask::T),
-    },
-    RuleRow {
-        rule: Rule::Cut,
-        used: Mask(Mask::T | Mask::W),
-    },
-    RuleRow {
-        rule: Rule::All,
-        used: Mask(Mask::P),
-    },
-    RuleRow {
-        rule: Rule::Nul,
-        used: Mask(Mask::P),
-    },
-    RuleRow {
-        rule: Rule::Sep,
-        used: Mask(Mask::P | Mask::Q),
-    },
-    RuleRow {
-        rule: Rule::Img,
-        used: Mask(Mask::P | Mask::T),
-    },
-    RuleRow {
-        rule: Rule::Wit,
-        used: Mask(Mask::P | Mask::W),
-    },
-    RuleRow {
-        rule: Rule::Ref,
-        used: Mask(Mask::T),
-    },
-    RuleRow {
-        rule: Rule::Sym,
-        used: Mask(Mask::P),
-    },
-    RuleRow {
-        rule: Rule::Trn,
-        used: Mask(Mask::P | Mask::Q),
-    },
-    RuleRow {
-        rule: Rule::Sub,
-        used: Mask(Mask::P | Mask::T | Mask::W),
-    },
-    RuleRow {
-        rule: Rule::Rep,
-        used: Mask(Mask::P | Mask::Q | Mask::T),
-    },
-    RuleRow {
-        rule: Rule::Ler,
-        used: Mask(Mask::T),
-    },
-    RuleRow {
-        rule: Rule::Let,
-        used: Mask(Mask::P | Mask::Q),
-    },
-    RuleRow {
-        rule: Rule::Lea,
-        used: Mask(Mask::P | Mask::Q),
-    },
-    RuleRow {
-        rule: Rule::Rdh,
-        used: Mask(Mask::T),
-    },
-    RuleRow {
-        rule: Rule::Rdm,
-        used: Mask(Mask::T),
-    },
-    RuleRow {
-        rule: Rule::Cls,
-        used: Mask(Mask::P | Mask::Q),
-    },
-    RuleRow {
-        rule: Rule::Emp,
-        used: Mask(Mask::P),
-    },
+const RULES: [RuleUses; RULE_COUNT] = [
+    RuleUses(Rule::Eqr, Mask::P | Mask::Q),
+    RuleUses(Rule::Eql, Mask::P | Mask::Q),
+    RuleUses(Rule::Ext, Mask::P | Mask::W),
+    RuleUses(Rule::Fir, Mask::W),
+    RuleUses(Rule::Cpe, Mask::P),
+    RuleUses(Rule::Cpi, Mask::P | Mask::Q | Mask::T),
+    RuleUses(Rule::Cue, Mask::P),
+    RuleUses(Rule::Cui, Mask::P | Mask::T),
+    RuleUses(Rule::Dfe, Mask::P),
+    RuleUses(Rule::Dfi, Mask::P | Mask::Q | Mask::T),
+    RuleUses(Rule::Sge, Mask::P),
+    RuleUses(Rule::Sgi, Mask::T),
+    RuleUses(Rule::Cut, Mask::T | Mask::W),
+    RuleUses(Rule::All, Mask::P),
+    RuleUses(Rule::Nul, Mask::P),
+    RuleUses(Rule::Sep, Mask::P | Mask::Q),
+    RuleUses(Rule::Img, Mask::P | Mask::T),
+    RuleUses(Rule::Wit, Mask::P | Mask::W),
+    RuleUses(Rule::Ref, Mask::T),
+    RuleUses(Rule::Sym, Mask::P),
+    RuleUses(Rule::Trn, Mask::P | Mask::Q),
+    RuleUses(Rule::Sub, Mask::P | Mask::T | Mask::W),
+    RuleUses(Rule::Rep, Mask::P | Mask::Q | Mask::T),
+    RuleUses(Rule::Ler, Mask::T),
+    RuleUses(Rule::Let, Mask::P | Mask::Q),
+    RuleUses(Rule::Lea, Mask::P | Mask::Q),
+    RuleUses(Rule::Rdh, Mask::T),
+    RuleUses(Rule::Rdm, Mask::T),
+    RuleUses(Rule::Cls, Mask::P | Mask::Q),
+    RuleUses(Rule::Emp, Mask::P),
 ];
 
 fn pack(a: u8, b: u8, c: u8) -> usize
@@ -278,7 +145,12 @@ pub fn word_of(word: usize) -> WordFound
         b"nul rfv rea emp all rgv cup cap dif sin img arv wri fnv clv typ dty ",
     );
     if index < WORD_COUNT {
-        return WordFound::Known(WORDS[index]);
+        let row = WORDS[index];
+        let known = row.0;
+        return WordFound::Known(WordRow {
+            word: known,
+            used: Mask(row.1),
+        });
     }
     WordFound::Unknown
 }
@@ -303,7 +175,12 @@ pub fn rule_of(word: usize) -> RuleFound
         b"eqr eql ext fir cpe cpi cue cui dfe dfi sge sgi cut all nul sep img wit ref sym trn sub rep ler let lea rdh rdm cls emp ",
     );
     if index < RULE_COUNT {
-        return RuleFound::Known(RULES[index]);
+        let row = RULES[index];
+        let known = row.0;
+        return RuleFound::Known(RuleRow {
+            rule: known,
+            used: Mask(row.1),
+        });
     }
     RuleFound::Unknown
 }

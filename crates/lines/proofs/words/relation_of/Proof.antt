@@ -1,4 +1,4 @@
--- The byte string and the table are those of the specification, which antt computes.
+-- The byte string has the words of the table, and the relations are those of the table: antt computes both.
 use mathlib.Core.Option.{some}
 use mathlib.Core.Path.{_≡_, refl}
 use borrow.Author.Needs.{needs}
@@ -13,12 +13,12 @@ known : tie.Need-returns
 unfolding wordsOf packedTexts rowsOf relations bytes
 known c =
     let k = c .before .before in
-    found (λ R. R) (λ x R. x ≡ some R) (λ R. refl) _ relations (k .before .before .args .word) (k .search .result) (k .search .ensures) (c .before .if1 .taken)
+    found (λ R. R) (λ x R. x ≡ some R) (λ R. refl) _ relations
+    (k .before .before .args .word) (k .search .result) (k .search .ensures) (c .before .if1 .taken)
 
 unknown : tie.Need-returns-2
 unfolding wordsOf packedTexts relations bytes
-unknown c =
-    not-found relations (c .before .before .before .args .word) (c .before .search .result) (c .before .search .ensures) (c .if1 .left)
+unknown c = not-found relations (c .before .before .before .args .word) (c .before .search .result) (c .before .search .ensures) (c .if1 .left)
 
 pub relation-of-spec : {M : Type 1} → statement M
-relation-of-spec = tie.close (tie.spec (λ c. search needs) (λ c κs. tt) (λ c. search needs) known unknown)
+relation-of-spec = tie.close (tie.spec (λ c. search needs) (λ c κs. tt) (λ c. c .if1 .taken) known unknown)

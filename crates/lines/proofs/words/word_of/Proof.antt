@@ -1,4 +1,4 @@
--- The byte string and the table are those of the specification, which antt computes.
+-- The byte string has the words of the table, and the rows are those of the table: antt computes both.
 use mathlib.Core.Option.{some}
 use mathlib.Core.Path.{_≡_, refl}
 use borrow.Author.Needs.{needs}
@@ -7,26 +7,25 @@ use Rattle.tableau.specs.Basics.{bytes}
 use Rattle.tableau.specs.Fields.{arguments, wordFields}
 use Rattle.tableau.specs.Words.{words}
 use Rattle.syntax.specs.Syntax.{maskOf}
-use Rattle.lines.specs.declared.words.WordRow.{WordRow}
-use Rattle.lines.specs.Words.{wordsOf, WordFits}
+use Rattle.lines.specs.declared.words.WordUses.{WordUses}
+use Rattle.lines.specs.Words.{wordsOf}
 use Rattle.lines.proofs.Tables.{packedTexts, rowsOf, found, not-found}
 use Rattle.lines.proofs.words.word_of.Statement.{statement}
 use Rattle.lines.proofs.words.word_of.Tie as tie
 
-row : Word → WordRow
-row x = record { word = x; used = record { 0 = maskOf (wordFields x) } }
+abbrev row : Word → WordUses
+row x = record { 0 = x; 1 = maskOf (wordFields x) }
 
 known : tie.Need-returns
-unfolding wordsOf packedTexts rowsOf words arguments bytes row
+unfolding wordsOf packedTexts rowsOf words arguments bytes
 known c =
     let k = c .before .before in
-    found row (λ x r. (x ≡ some (r .word)) × WordFits r) (λ x. (refl, refl)) _ words (k .before .before .args .word) (k .search .result)
-    (k .search .ensures) (c .before .if1 .taken)
+    found row (λ x r. (x ≡ some (r .0)) × (r .1 ≡ maskOf (wordFields (r .0)))) (λ x. (refl, refl)) _ words
+    (k .before .before .args .word) (k .search .result) (k .search .ensures) (c .before .if1 .taken)
 
 unknown : tie.Need-returns-2
 unfolding wordsOf packedTexts words bytes
-unknown c =
-    not-found words (c .before .before .before .args .word) (c .before .search .result) (c .before .search .ensures) (c .if1 .left)
+unknown c = not-found words (c .before .before .before .args .word) (c .before .search .result) (c .before .search .ensures) (c .if1 .left)
 
 pub word-of-spec : {M : Type 1} → statement M
-word-of-spec = tie.close (tie.spec (λ c. search needs) (λ c κs. tt) (λ c. search needs) (λ c. search needs) known unknown)
+word-of-spec = tie.close (tie.spec (λ c. search needs) (λ c κs. tt) (λ c. search needs) (λ c. c .if1 .taken) known unknown)
