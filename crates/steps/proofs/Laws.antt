@@ -1,5 +1,5 @@
 -- What a rule is given, and what a step infers.
-use mathlib.Core.Path.{_≡_, refl, sym, _∙_, ap₂, subst}
+use mathlib.Core.Path.{_≡_, refl, sym, _∙_, ap, ap₂, subst}
 use mathlib.Core.Bool.{Bool, true, false, not, _||_, or-false}
 use mathlib.Core.List.{List}
 use mathlib.Core.Option.{Option}
@@ -16,6 +16,7 @@ use Rattle.tableau.specs.Tree.{answer}
 use Rattle.tableau.proofs.Places.{rules, placeOf, every-rule, same-rule}
 use Rattle.syntax.specs.declared.ThirdField as declared
 use Rattle.syntax.specs.Syntax.{ThirdFits}
+use Rattle.syntax.proofs.Sides.{isSide, side-fits}
 use Rattle.packing.specs.declared.LiteralView.{LiteralView}
 use Rattle.table.specs.Held.{Searchable}
 use Rattle.tree.specs.State.{HasPlace}
@@ -81,21 +82,9 @@ module _ {x y : Rule} {P Q : LiteralView} {t w : ℕ} {fresh : Bool} {terms chai
   }
 
 -- THE SIDE: only `rep` has one
-abbrev isSide : ThirdField → Bool
-isSide unused = false
-isSide side = true
-isSide term = false
-isSide (of s) = false
-
-side-fits : (f : ThirdField) (s : Side) → ThirdFits f (declared.ThirdField.Side s) → isSide f ≡ true
-side-fits unused s h = absurd h
-side-fits side s h = refl
-side-fits term s h = absurd h
-side-fits (of k) s h = absurd h
-
 pub is-rep : (x : Rule) (s : Side) → ThirdFits (ruleFields x .t) (declared.ThirdField.Side s) → x ≡ Rule.Rep
 unfolding rules ruleNames ruleFields
-is-rep x s h = same-rule x Rule.Rep (go (every-rule (λ y. eqb (placeOf y) (placeOf Rule.Rep) || not (isSide (ruleFields y .t))) refl x) (side-fits (ruleFields x .t) s h))
+is-rep x s h = same-rule x Rule.Rep (go (every-rule (λ y. eqb (placeOf y) (placeOf Rule.Rep) || not (isSide (ruleFields y .t))) refl x) (ap isSide (side-fits (ruleFields x .t) s h)))
   where
     go : {a b : Bool} → a || not b ≡ true → b ≡ true → a ≡ true
     go {a} {b} e q = sym (or-false a) ∙ (λ i. a || not (sym q i)) ∙ e
