@@ -8,36 +8,39 @@ use lib.ListN.{length}
 use Rattle.tableau.specs.declared.Letter.{Letter}
 use Rattle.tableau.specs.declared.Reason.{Reason}
 use Rattle.tableau.specs.declared.Rule.{Rule}
-use Rattle.tableau.specs.File.{maxBytes}
-use Rattle.tableau.specs.Rules.{ruleNames}
+use Rattle.tableau.specs.File.{maxBytes, inOrder}
+use Rattle.tableau.specs.Words.{ruleNames}
 use Rattle.tableau.specs.Terms.{Table, Literal}
-use Rattle.tableau.specs.Tree.{refused, passed, Status, isOpen, isClosed, root, maxPlaces}
-use Rattle.tableau.specs.Reply.{State, start, inOrder, isClosing, Verdict, accept, refuse}
+use Rattle.tableau.specs.Tree.{refused, passed, _>>=_, Status, isOpen, isClosed, root, maxPlaces, grown}
+use Rattle.tableau.specs.Reply.{State, start, isClosing, Verdict, accept, refuse}
+use Rattle.syntax.specs.declared.Step.{Step}
+use Rattle.syntax.specs.Syntax.{stepFields, WellTaken}
+use Rattle.lines.specs.declared.Cursor.{Cursor}
 use Rattle.lines.specs.declared.Fields.{Fields}
 use Rattle.lines.specs.declared.LineRead.{LineRead}
 use Rattle.lines.specs.Lines.{lineAt}
+use Rattle.lines.specs.Taken.{numbersOf}
 use Rattle.lines.specs.Words.{lookupPacked}
-use Rattle.terms.specs.declared.Making.{Making}
-use Rattle.terms.specs.Packing.{unpackLiteral}
-use Rattle.terms.specs.Lines.{Arrays, HoldsIn}
+use Rattle.packing.specs.Packing.{unpackLiteral}
+use Rattle.terms.specs.Arrays.{Arrays, Held}
 use Rattle.tree.specs.declared.Tree.{Tree}
 use Rattle.tree.specs.declared.Answer.{Answer}
-use Rattle.tree.specs.State.{IsBranch, treeOf}
+use Rattle.tree.specs.declared.Change.{Change}
+use Rattle.tree.specs.State.{IsBranch, treeOf, Within}
+use Rattle.tree.specs.Change.{answered}
+use Rattle.rules.specs.declared.outcome.Outcome.{Outcome}
+use Rattle.rules.specs.Answer.{answerOf}
 use Rattle.steps.specs.Reading.{branchOf}
+use Rattle.running.specs.Running.{verdictFrom, runFields, NoLine}
 use Rattle.sections.specs.declared.LineResult.{LineResult}
 use Rattle.sections.specs.declared.Section.{Section}
 use Rattle.sections.specs.declared.step_lines.StepRead.{StepRead}
-use Rattle.sections.specs.Running.{verdictFrom, runFields}
 
 -- i lines are read, and the next begins at the position
 pub record Between (i at : ℕ) (file : List ℕ) : Type 0 where
   pub lines : i ≤ at
   pub inside : at ≤ length file
   pub short : length file ≤ maxBytes
-
--- no line of letter k begins at the position
-abbrev pub NoLine : Letter → List ℕ → ℕ → Type 0
-NoLine k file at = (f : Fields) → lineAt file at ≡ LineRead.Line f → f .letter ≡ k → ⊥
 
 -- a line of letter k there breaks check 3
 abbrev pub OutOfOrder : Letter → Letter → List ℕ → ℕ → Type 0
@@ -51,9 +54,10 @@ stateOf table s l m k c = record { table = table; status = s; letter = l; counts
 abbrev pub withTerms : Table → State
 withTerms table = stateOf table (isOpen root) Letter.T 0 0 0
 
-abbrev pub TermLine : Table → Fields → Arrays → ℕ → Making → Type 0
-TermLine table f A n Making.Made = (table′ : Table) × HoldsIn table′ A (n + 1) × (runFields (withTerms table) f ≡ passed (withTerms table′))
-TermLine table f A n (Making.Refused r) = runFields (withTerms table) f ≡ refused r
+-- a line that is refused is line n + 1
+abbrev pub TermLine : Table → Fields → Arrays → ℕ → LineResult → Type 0
+TermLine table f A n LineResult.Passed = (table′ : Table) × Held table′ A (n + 1) × (runFields (withTerms table) f ≡ passed (withTerms table′))
+TermLine table f A n (LineResult.Refused r i) = (runFields (withTerms table) f ≡ refused r) × (i ≡ n + 1)
 
 abbrev pub verdictAfterTerms : List ℕ → ℕ → ℕ → Table → Verdict
 verdictAfterTerms file at n table = verdictFrom file at n (passed (withTerms table))
@@ -61,7 +65,7 @@ verdictAfterTerms file at n table = verdictFrom file at n (passed (withTerms tab
 -- n terms are made, and the next line begins at the position
 pub record TermsMade (file : List ℕ) (A : Arrays) (at n : ℕ) : Type 0 where
   pub table : Table
-  pub holds : HoldsIn table A n
+  pub holds : Held table A n
   pub between : Between n at file
   pub runs : verdictFrom file 0 0 (passed start) ≡ verdictAfterTerms file at n table
 
@@ -73,15 +77,19 @@ TermSection file A (Section.Refused r i) = verdictFrom file 0 0 (passed start) �
 abbrev pub withLiterals : Table → List Literal → Letter → State
 withLiterals table B l = stateOf table (isOpen (record { branch = B; waiting = [] })) l (length B) 0 0
 
-abbrev pub Pushed : List ℕ → ℕ → ℕ → List ℕ → LineResult → Type 0
-Pushed b len code b′ LineResult.Passed = (len < maxPlaces) × IsBranch b′ (len + 1) × (branchOf b′ (len + 1) ≡ branchOf b len ++ (unpackLiteral code ∷ []))
-Pushed b len code b′ (LineResult.Refused r) = (maxPlaces ≤ len) × (r ≡ Reason.BranchFull)
+abbrev pub Pushed : List ℕ → ℕ → ℕ → ℕ → List ℕ → LineResult → Type 0
+Pushed b len code line b′ LineResult.Passed =
+    (len < maxPlaces) × IsBranch b′ (len + 1) × (branchOf b′ (len + 1) ≡ branchOf b len ++ (unpackLiteral code ∷ []))
+Pushed b len code line b′ (LineResult.Refused r i) = (maxPlaces ≤ len) × (r ≡ Reason.BranchFull) × (i ≡ line)
 
+-- a line that is refused, after the T lines of the table and len A lines
 abbrev pub AssumptionLine : Table → Fields → List ℕ → ℕ → List ℕ → LineResult → Type 0
 AssumptionLine table f b len b′ LineResult.Passed =
     IsBranch b′ (len + 1)
-    × ((l : Letter) → inOrder l Letter.A ≡ true → runFields (withLiterals table (branchOf b len) l) f ≡ passed (withLiterals table (branchOf b′ (len + 1)) Letter.A))
-AssumptionLine table f b len b′ (LineResult.Refused r) = (l : Letter) → inOrder l Letter.A ≡ true → runFields (withLiterals table (branchOf b len) l) f ≡ refused r
+    × ((l : Letter) → inOrder l Letter.A ≡ true
+    → runFields (withLiterals table (branchOf b len) l) f ≡ passed (withLiterals table (branchOf b′ (len + 1)) Letter.A))
+AssumptionLine table f b len b′ (LineResult.Refused r i) =
+    ((l : Letter) → inOrder l Letter.A ≡ true → runFields (withLiterals table (branchOf b len) l) f ≡ refused r) × (i ≡ length table + len + 1)
 
 -- m literals are assumed, and the next line begins at the position; a T line there breaks check 3
 pub record LiteralsAssumed (file : List ℕ) (from n : ℕ) (table : Table) (b : List ℕ) (at m : ℕ) : Type 0 where
@@ -105,21 +113,43 @@ closesTree Answer.Open = false
 closesTree Answer.Closed = true
 closesTree (Answer.Refused r) = false
 
+abbrev pub Opened : Status → Type 0
+Opened (isOpen τ) = Unit {0}
+Opened isClosed = ⊥
+
 abbrev pub statusOf : Bool → Tree → Status
 statusOf true t = isClosed
 statusOf false t = isOpen (treeOf unpackLiteral t)
 
--- An S line with a known rule on an open tree; or what the specification's run refuses, wherever it stands before the line.
-pub record IsStep (file : List ℕ) (at : ℕ) (x : Rule) (f : Fields) : Type 0 where
-  pub read : lineAt file at ≡ LineRead.Line f
-  pub letter : f .letter ≡ Letter.S
-  pub known : lookupPacked ruleNames (f .word) ≡ some x
+-- AN S LINE with a known rule, taken apart, on an open tree; or what the specification's run refuses, wherever it stands before the line.
+pub record IsStep (file : List ℕ) (at : ℕ) (step : Step) (next : Cursor) : Type 0 where
+  pub fields : Fields
+  pub read : lineAt file at ≡ LineRead.Line fields
+  pub letter : fields .letter ≡ Letter.S
+  pub known : lookupPacked ruleNames (fields .word) ≡ some (step .rule)
+  pub numbers : numbersOf fields ≡ stepFields step
+  pub behind : fields .next ≡ next
+  pub taken : WellTaken step
 
-abbrev pub StepLine : List ℕ → ℕ → Bool → StepRead → Type 0
-StepLine file at closed (StepRead.Step x f) = IsStep file at x f × (closed ≡ false)
-StepLine file at closed (StepRead.Refused r) =
-    (i : ℕ) (σ : State) → OutOfOrder (σ .letter) Letter.T file at → OutOfOrder (σ .letter) Letter.A file at → (closed ≡ true → σ .status ≡ isClosed)
-    → verdictFrom file at i (passed σ) ≡ refuse r (i + 1)
+abbrev pub StepLine : List ℕ → ℕ → Bool → ℕ → StepRead → Type 0
+StepLine file at closed line (StepRead.Step x c) = IsStep file at x c × (closed ≡ false)
+StepLine file at closed line (StepRead.Refused r j) =
+    ((i : ℕ) (σ : State) → OutOfOrder (σ .letter) Letter.T file at → OutOfOrder (σ .letter) Letter.A file at
+    → (closed ≡ true → σ .status ≡ isClosed) → (closed ≡ false → Opened (σ .status)) → verdictFrom file at i (passed σ) ≡ refuse r (i + 1))
+    × (j ≡ line)
+
+-- a step of which more or less than one alternative comes
+abbrev pub Branches : Outcome → Type 0
+Branches (Outcome.Refused r) = Unit {0}
+Branches Outcome.Closes = Unit {0}
+Branches (Outcome.Adds k) = ⊥
+Branches (Outcome.Splits k l) = Unit {0}
+Branches (Outcome.SplitsThree k l m) = Unit {0}
+
+-- what an outcome makes of the tree: checks 15 and 16
+pub record Grows (t : Tree) (x : Outcome) (o : Change) : Type 0 where
+  pub within : Within (o .tree)
+  pub result : answered (treeOf unpackLiteral (o .tree)) (o .answer) ≡ (answerOf x >>= grown (treeOf unpackLiteral t))
 
 -- k steps are taken and c of them closed; the next line, at the position, is an S line or breaks check 3
 pub record StepsTaken (file : List ℕ) (from n : ℕ) (table : Table) (m : ℕ) (t₀ : Tree) (l₀ : Letter) (t : Tree) (closed : Bool) (at k c : ℕ) : Type 0 where
