@@ -30,7 +30,8 @@ module _ (f : Four Use) (used : ℕ) (e : used ≡ maskOf f) where
 
   -- so where the check passes, a field outside the mask is 0
   pub zeros : (k : Four ℕ) → every zeroIfUnused f k ≡ true
-      → (has used 1 ≡ false → k .a ≡ 0) × (has used 2 ≡ false → k .b ≡ 0) × (has used 4 ≡ false → k .c ≡ 0) × (has used 8 ≡ false → k .d ≡ 0)
+      → (has used 1 ≡ false → k .a ≡ 0) × (has used 2 ≡ false → k .b ≡ 0)
+      × (has used 4 ≡ false → k .c ≡ 0) × (has used 8 ≡ false → k .d ≡ 0)
   zeros k h = let t = every-true zeroIfUnused f k h in (
     λ z. eqb-true (k .a) 0 (rw (tests (k .a) .0, z) at (t .0)),
     λ z. eqb-true (k .b) 0 (rw (tests (k .b) .1, z) at (t .1)),

@@ -61,7 +61,7 @@ unfoldable pub rowsOf : {A B : Type 0} → (A → B) → List (Named A) → List
 rowsOf row [] = []
 rowsOf row (n ∷ ns) = row (n .is) ∷ rowsOf row ns
 
--- WHAT THE INDEX OF A WORD SAYS OF IT. The row there is that of the entry that is looked up, so what holds of every entry and its row holds of the two;
+-- WHAT THE INDEX OF A WORD SAYS OF IT. The row there is that of the entry that is looked up: what holds of every entry and its row holds here.
 module _ {A B : Type 0} (row : A → B) (P : Option A → B → Type 0) (holds : (x : A) → P (some x) (row x)) (d : B) where
   at-index : (t : List (Named A)) (w : ℕ) → indexOf w (packedTexts t) < length (rowsOf row t)
       → P (lookupPacked t w) (getD (rowsOf row t) (indexOf w (packedTexts t)) d)
@@ -79,7 +79,7 @@ module _ {A B : Type 0} (row : A → B) (P : Option A → B → Type 0) (holds :
       → P (lookupPacked t w) (getD (rowsOf row t) i d)
   found t w i e h = rw e (at-index t w (rw e at h))
 
--- past the rows there is no such entry.
+-- Past the rows there is no such entry.
 pub not-found : {A : Type 0} (t : List (Named A)) (w i : ℕ) → i ≡ indexOf w (packedTexts t) → length t ≤ i → lookupPacked t w ≡ none
 unfolding lookupPacked indexOf packedTexts
 not-found [] w i e h = refl

@@ -18,7 +18,9 @@ known c =
 
 unknown : tie.Need-returns-2
 unfolding wordsOf packedTexts relations bytes
-unknown c = not-found relations (c .before .before .before .args .word) (c .before .search .result) (c .before .search .ensures) (c .if1 .left)
+unknown c =
+    let k = c .before in
+    not-found relations (k .before .before .args .word) (k .search .result) (k .search .ensures) (c .if1 .left)
 
 pub relation-of-spec : {M : Type 1} → statement M
 relation-of-spec = tie.close (tie.spec (λ c. search needs) (λ c κs. tt) (λ c. c .if1 .taken) known unknown)

@@ -25,7 +25,9 @@ known c =
 
 unknown : tie.Need-returns-2
 unfolding wordsOf packedTexts words bytes
-unknown c = not-found words (c .before .before .before .args .word) (c .before .search .result) (c .before .search .ensures) (c .if1 .left)
+unknown c =
+    let k = c .before in
+    not-found words (k .before .before .args .word) (k .search .result) (k .search .ensures) (c .if1 .left)
 
 pub word-of-spec : {M : Type 1} → statement M
 word-of-spec = tie.close (tie.spec (λ c. search needs) (λ c κs. tt) (λ c. search needs) (λ c. c .if1 .taken) known unknown)
