@@ -1,4 +1,2 @@
 pub mod Lines
 pub mod Remains
-pub mod Words
-pub mod Taken

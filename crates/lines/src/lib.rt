@@ -7,24 +7,7 @@ ghost use Rattle.tableau.specs.File.{letters};
 ghost use Rattle.lines.specs.Lines.{lineAt};
 ghost use Rattle.lines.specs.Remains.{letterFound, Sound, Reads, Begins};
 
-mod taking;
-mod words;
-
 use tableau::Letter;
-pub use taking::LiteralTaken;
-pub use taking::StepTaken;
-pub use taking::TermTaken;
-pub use taking::literal_of;
-pub use taking::step_of;
-pub use taking::term_of;
-pub use words::RelationFound;
-pub use words::RuleFound;
-pub use words::RuleRow;
-pub use words::WordFound;
-pub use words::WordRow;
-pub use words::relation_of;
-pub use words::rule_of;
-pub use words::word_of;
 
 // A position in the file.
 pub struct Cursor {
@@ -78,7 +61,7 @@ enum LetterFound {
 }
 
 // A call asks for no bound on the byte, as a cast of an element would.
-fn wide(x: u8) -> usize
+pub fn wide(x: u8) -> usize
     ensures { λ r. ⌜ (r ≡ x) × (r < 256) ⌝ }
 {
     x as usize

@@ -21,8 +21,8 @@ use Rattle.tableau.proofs.Bools.{both-true, then-inv, guard-inv, none≢some}
 use Rattle.lines.specs.declared.Fields.{Fields}
 use Rattle.lines.specs.declared.LineRead.{LineRead}
 use Rattle.lines.specs.Lines.{packWord, lineRead, firstLine, lineAt}
-use Rattle.lines.specs.Taken.{numbersOf}
-use Rattle.lines.proofs.PackedWords.{words-packed, relations-packed, rules-packed}
+use Rattle.words.specs.Taken.{numbersOf}
+use Rattle.words.proofs.PackedWords.{words-packed, relations-packed, rules-packed}
 use Rattle.lines.proofs.Remaining.{pieces, split-same, split-other}
 use Rattle.running.specs.Running.{verdictFrom, packedCommand, runFields, LineHere, NoLine}
 

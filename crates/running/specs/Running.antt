@@ -13,8 +13,8 @@ use Rattle.tableau.specs.Reply.{State, requireOpen, runOpen, Verdict, runLines}
 use Rattle.lines.specs.declared.Fields.{Fields}
 use Rattle.lines.specs.declared.LineRead.{LineRead}
 use Rattle.lines.specs.Lines.{lineAt}
-use Rattle.lines.specs.Taken.{numbersOf}
-use Rattle.lines.specs.Words.{lookupPacked}
+use Rattle.words.specs.Taken.{numbersOf}
+use Rattle.words.specs.Words.{lookupPacked}
 
 -- the verdict, where i lines are read and the next begins at the position
 abbrev pub verdictFrom : List ℕ → ℕ → ℕ → Checked State → Verdict

@@ -18,9 +18,9 @@ use Rattle.tableau.specs.Tree.{Checked, refused, passed, _>>=_, _>>_, require, 
 use Rattle.tableau.specs.Reply.{some-of, assume, State, rank, inOrder, counted, added, Verdict, refuse}
 use Rattle.lines.specs.declared.Fields.{Fields}
 use Rattle.lines.specs.declared.LineRead.{LineRead}
-use Rattle.lines.specs.declared.words.RelationFound.{RelationFound}
+use Rattle.words.specs.declared.tables.RelationFound.{RelationFound}
 use Rattle.lines.specs.Lines.{lineAt}
-use Rattle.lines.specs.Words.{lookupPacked, relationFound}
+use Rattle.words.specs.Words.{lookupPacked, relationFound}
 use Rattle.terms.specs.declared.Assumption.{Assumption}
 use Rattle.terms.specs.Packing.{packLiteral, unpackLiteral}
 use Rattle.terms.specs.Lines.{assumptionOf}

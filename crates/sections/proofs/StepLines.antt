@@ -23,9 +23,9 @@ use Rattle.tableau.specs.Tree.{Checked, refused, passed, _>>=_, _>>_, Status, i
 use Rattle.tableau.specs.Reply.{some-of, infer, State, rank, inOrder, isClosing, counted, runCommand, Verdict, accept, refuse, atEnd}
 use Rattle.lines.specs.declared.Fields.{Fields}
 use Rattle.lines.specs.declared.LineRead.{LineRead}
-use Rattle.lines.specs.declared.words.RuleFound.{RuleFound}
+use Rattle.words.specs.declared.tables.RuleFound.{RuleFound}
 use Rattle.lines.specs.Lines.{lineAt}
-use Rattle.lines.specs.Words.{lookupPacked, ruleFound}
+use Rattle.words.specs.Words.{lookupPacked, ruleFound}
 use Rattle.terms.specs.Packing.{unpackLiteral}
 use Rattle.tree.specs.declared.Tree.{Tree}
 use Rattle.tree.specs.declared.Answer.{Answer}

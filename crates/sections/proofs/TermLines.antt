@@ -21,9 +21,9 @@ use Rattle.tableau.specs.Tree.{Checked, refused, passed, _>>=_, _>>_, require, 
 use Rattle.tableau.specs.Reply.{Command, some-of, make, State, start, rank, inOrder, runCommand, counted, Verdict, refuse}
 use Rattle.lines.specs.declared.Fields.{Fields}
 use Rattle.lines.specs.declared.LineRead.{LineRead}
-use Rattle.lines.specs.declared.words.WordFound.{WordFound}
+use Rattle.words.specs.declared.tables.WordFound.{WordFound}
 use Rattle.lines.specs.Lines.{lineAt}
-use Rattle.lines.specs.Words.{lookupPacked, wordFound}
+use Rattle.words.specs.Words.{lookupPacked, wordFound}
 use Rattle.terms.specs.declared.Making.{Making}
 use Rattle.terms.specs.Lines.{Arrays, HoldsIn, makingOf}
 use Rattle.commands.specs.Commands.{fieldChecks, Makes}

@@ -19,8 +19,8 @@ use Rattle.lines.specs.declared.Cursor.{Cursor}
 use Rattle.lines.specs.declared.Fields.{Fields}
 use Rattle.lines.specs.declared.LineRead.{LineRead}
 use Rattle.lines.specs.Lines.{lineAt}
-use Rattle.lines.specs.Taken.{numbersOf}
-use Rattle.lines.specs.Words.{lookupPacked}
+use Rattle.words.specs.Taken.{numbersOf}
+use Rattle.words.specs.Words.{lookupPacked}
 use Rattle.packing.specs.Packing.{unpackLiteral}
 use Rattle.terms.specs.Arrays.{Arrays, Held}
 use Rattle.tree.specs.declared.Tree.{Tree}

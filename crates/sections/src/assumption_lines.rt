@@ -4,8 +4,8 @@ use crate::Section;
 use lines::Cursor;
 use lines::Fields;
 use lines::LineRead;
-use lines::LiteralTaken;
-use lines::RelationFound;
+use words::LiteralTaken;
+use words::RelationFound;
 use tableau::Letter;
 use tableau::Reason;
 use terms::Assumption;
@@ -49,10 +49,10 @@ fn one(
 {
     let line = n + len + 1;
     let word = f.word;
-    let RelationFound::Known(relation) = lines::relation_of(word) else {
+    let RelationFound::Known(relation) = words::relation_of(word) else {
         return LineResult::Refused(Reason::UnknownWord, line);
     };
-    let LiteralTaken::Literal(literal) = lines::literal_of(relation, f) else {
+    let LiteralTaken::Literal(literal) = words::literal_of(relation, f) else {
         return LineResult::Refused(Reason::UnusedField, line);
     };
     match assume_literal(terms, n, literal) {

@@ -1,8 +1,8 @@
 // S lines.
 use lines::Cursor;
 use lines::LineRead;
-use lines::RuleFound;
-use lines::StepTaken;
+use words::RuleFound;
+use words::StepTaken;
 use reply::Counts;
 use reply::Verdict;
 use rules::outcome::Outcome;
@@ -65,13 +65,13 @@ fn read_step(file: &[u8], at: usize, closed: bool, line: usize) -> StepRead
         return StepRead::Refused(Reason::LetterOrder, line);
     };
     let word = f.word;
-    let RuleFound::Known(row) = lines::rule_of(word) else {
+    let RuleFound::Known(row) = words::rule_of(word) else {
         return StepRead::Refused(Reason::UnknownWord, line);
     };
     if closed {
         return StepRead::Refused(Reason::TreeClosed, line);
     }
-    let StepTaken::Step(step) = lines::step_of(row, f) else {
+    let StepTaken::Step(step) = words::step_of(row, f) else {
         return StepRead::Refused(Reason::UnusedField, line);
     };
     let next = f.next;

@@ -4,8 +4,8 @@ use crate::Section;
 use lines::Cursor;
 use lines::Fields;
 use lines::LineRead;
-use lines::TermTaken;
-use lines::WordFound;
+use words::TermTaken;
+use words::WordFound;
 use tableau::Letter;
 use tableau::Reason;
 use terms::Making;
@@ -33,10 +33,10 @@ fn one(
         → TermLine table f (arrays (now (terms .exit)) (now (chains .exit)) (now (rows .exit))) n r) ⌝ }
 {
     let word = f.word;
-    let WordFound::Known(row) = lines::word_of(word) else {
+    let WordFound::Known(row) = words::word_of(word) else {
         return LineResult::Refused(Reason::UnknownWord, n + 1);
     };
-    let TermTaken::Term(term) = lines::term_of(row, f) else {
+    let TermTaken::Term(term) = words::term_of(row, f) else {
         return LineResult::Refused(Reason::UnusedField, n + 1);
     };
     match make_term(terms, chains, rows, n, term) {

@@ -2,7 +2,7 @@
 use mathlib.Core.Path.{_≡_, refl, sym, _∙_}
 use mathlib.Core.Option.{some}
 use Rattle.tableau.specs.Terms.{relations}
-use Rattle.lines.specs.Words.{lookupPacked}
+use Rattle.words.specs.Words.{lookupPacked}
 use Rattle.commands.proofs.Running as running
 use Rattle.sections.proofs.AssumptionLines.{code-small, relation-known, relation-unknown, assumption-unknown, assumption-refused, assumption-pushed}
 use borrow.Author.Needs.{needs}

@@ -1,0 +1,11 @@
+use lib.Bits.{bitAnd}
+use borrow.Author.Tests.{eq-eqb, ne-eqb}
+use Rattle.words.proofs.taking.zero_if_unused.Statement.{statement}
+use Rattle.words.proofs.taking.zero_if_unused.Tie as tie
+
+pub zero-if-unused-spec : {M : Type 1} → statement M
+zero-if-unused-spec =
+    tie.close
+    (tie.spec
+    (λ c. rw (ne-eqb (bitAnd (c .before .args .used) (c .before .args .bit)) 0 (c .if1 .taken)))
+    (λ c. rw (eq-eqb (bitAnd (c .before .args .used) (c .before .args .bit)) 0 (c .if1 .left))))

@@ -1,0 +1,137 @@
+// A line taken apart by its word, once check 6 has passed: "A field that the word doesn't use holds `0`."
+ghost use mathlib.Core.Bool.{_||_, not};
+ghost use mathlib.Core.Path.{_≡_};
+ghost use lib.Bits.{bitAnd};
+ghost use lib.Dec.{eqb};
+ghost use Rattle.tableau.specs.Basics.{Four, every};
+ghost use Rattle.tableau.specs.Fields.{Use, ruleFields};
+ghost use Rattle.tableau.specs.Reply.{zeroIfUnused};
+ghost use Rattle.syntax.specs.Syntax.{maskOf, thirdIn, ThirdFits};
+ghost use Rattle.words.specs.Taken.{numbersOf, TermTakenAs, LiteralTakenAs, StepTakenAs};
+ghost use Rattle.words.specs.Words.{WordFits, RuleFits};
+use lines::Fields;
+use crate::tables::RuleRow;
+use crate::tables::WordRow;
+use syntax::Arguments;
+use syntax::Literal;
+use syntax::Mask;
+use syntax::Step;
+use syntax::Term;
+use syntax::ThirdField;
+use tableau::Name;
+use tableau::Place;
+use tableau::Relation;
+use tableau::Rule;
+use tableau::Side;
+use tableau::TermNumber;
+use tableau::Word;
+
+pub enum TermTaken {
+    Term(Term),
+    UnusedField,
+}
+
+pub enum LiteralTaken {
+    Literal(Literal),
+    UnusedField,
+}
+
+pub enum StepTaken {
+    Step(Step),
+    UnusedField,
+}
+
+fn zero_if_unused(used: u8, bit: u8, value: usize) -> bool
+    ensures { λ r. ⌜ r ≡ (not (eqb (bitAnd used bit) 0) || eqb value 0) ⌝ }
+{
+    if used & bit != 0 {
+        return true;
+    }
+    value == 0
+}
+
+// Check 6 for any word, by the mask of its fields.
+fn unused_zero(used: Mask, f: Fields) -> bool
+    ensures { λ r. ⌜ ((u : Four Use) → used .0 ≡ maskOf u → r ≡ every zeroIfUnused u (numbersOf f)) ⌝ }
+{
+    let mask = used.0;
+    if !zero_if_unused(mask, Mask::P, f.a) {
+        return false;
+    }
+    if !zero_if_unused(mask, Mask::Q, f.b) {
+        return false;
+    }
+    if !zero_if_unused(mask, Mask::T, f.c) {
+        return false;
+    }
+    zero_if_unused(mask, Mask::W, f.d)
+}
+
+// A T line.
+pub fn term_of(row: WordRow, f: Fields) -> TermTaken
+    requires { ⌜ WordFits row ⌝ }
+    ensures { λ r. ⌜ TermTakenAs (row .word) (numbersOf f) r ⌝ }
+{
+    let word = row.word;
+    let used = row.used;
+    if !unused_zero(used, f) {
+        return TermTaken::UnusedField;
+    }
+    match word {
+        Word::Variable(sort) => TermTaken::Term(Term::Variable(sort, Name(f.a))),
+        Word::Operation(operator) => TermTaken::Term(Term::Apply(
+            operator,
+            Arguments {
+                a: TermNumber(f.a),
+                b: TermNumber(f.b),
+                c: TermNumber(f.c),
+                d: TermNumber(f.d),
+            },
+        )),
+    }
+}
+
+// An A line. Every relation has two sides.
+pub fn literal_of(relation: Relation, f: Fields) -> LiteralTaken
+    ensures { λ r. ⌜ LiteralTakenAs relation (numbersOf f) r ⌝ }
+{
+    if !unused_zero(Mask(Mask::P | Mask::Q), f) {
+        return LiteralTaken::UnusedField;
+    }
+    LiteralTaken::Literal(Literal {
+        relation: relation,
+        left: TermNumber(f.a),
+        right: TermNumber(f.b),
+    })
+}
+
+// "The t of `rep` is a side"; in any other rule it is a term.
+fn third_of(rule: Rule, t: usize) -> ThirdField
+    ensures { λ r. ⌜ (ThirdFits (ruleFields rule .t) r) × (thirdIn r ≡ t) ⌝ }
+{
+    match rule {
+        Rule::Rep => ThirdField::Side(Side(t)),
+        _ => ThirdField::Term(TermNumber(t)),
+    }
+}
+
+// An S line.
+pub fn step_of(row: RuleRow, f: Fields) -> StepTaken
+    requires { ⌜ RuleFits row ⌝ }
+    ensures { λ r. ⌜ StepTakenAs (row .rule) (numbersOf f) r ⌝ }
+{
+    let rule = row.rule;
+    let used = row.used;
+    if !unused_zero(used, f) {
+        return StepTaken::UnusedField;
+    }
+    let third = third_of(rule, f.c);
+    StepTaken::Step(Step {
+        rule: rule,
+        used: used,
+        p: Place(f.a),
+        q: Place(f.b),
+        t: third,
+        w: TermNumber(f.d),
+    })
+}
