@@ -10,7 +10,7 @@ use lib.Bits.{bitOr, or-shr, or-mod}
 use lib.Pow.{pow-lt, pow-add, shl-exact, shl-shr}
 use borrow.Author.Tests.{eq-eqb, ne-eqb, eqb-true, eqb-false, ltb-true, ltb-false}
 use Rattle.tableau.proofs.Bools.{dec, clash}
-use Rattle.terms.specs.Holds.{bitAt}
+use Rattle.mentions.specs.Mentions.{bitAt}
 
 -- tests that hold together are equal
 same-test : (a b c d : ℕ) → (a ≡ b → c ≡ d) → (c ≡ d → a ≡ b) → eqb a b ≡ eqb c d

@@ -8,7 +8,8 @@ use borrow.Author.Tests.{ne-eqb}
 use Rattle.tableau.specs.declared.Sort.{Sort}
 use Rattle.tableau.specs.declared.Operator.{Operator}
 use Rattle.tableau.specs.Basics.{Four, four}
-use Rattle.tableau.specs.Terms.{TermNo, Name, Term, variable, apply, noTerm, arguments, ifTerm, layer, toDepth, fold, mentions}
+use Rattle.tableau.specs.Fields.{arguments, ifArgument}
+use Rattle.tableau.specs.Terms.{TermNo, Name, Term, variable, apply, noTerm, layer, toDepth, fold, mentions}
 use Rattle.tableau.proofs.WellFormed.{OkTerm, WellFormed}
 use Rattle.tableau.proofs.Fold.{argument-same, fold-eq}
 
@@ -56,7 +57,7 @@ module _ (f : TermNo → Term) (wf : WellFormed f) (w t : TermNo) where
   mentions-variable s m e = mentions-layer (variable s m) e
 
   pub mentions-apply : (o : Operator) (k : Four TermNo) → f t ≡ apply o k
-      → mentions f w t ≡ (eqb t w || (ifTerm (arguments o .a) (mentions f w (k .a)) false || (ifTerm (arguments o .b) (mentions f w (k .b)) false
-      || (ifTerm (arguments o .c) (mentions f w (k .c)) false || ifTerm (arguments o .d) (mentions f w (k .d)) false))))
+      → mentions f w t ≡ (eqb t w || (ifArgument (arguments o .a) (mentions f w (k .a)) false || (ifArgument (arguments o .b) (mentions f w (k .b)) false
+      || (ifArgument (arguments o .c) (mentions f w (k .c)) false || ifArgument (arguments o .d) (mentions f w (k .d)) false))))
   unfolding layer
   mentions-apply o k e = mentions-layer (apply o k) e
