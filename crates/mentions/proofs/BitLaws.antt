@@ -1,6 +1,6 @@
 -- A bit of a word: of two words joined by `or`, and of the word with one bit.
-use mathlib.Core.Path.{_≡_, refl, sym, _∙_, ap, subst}
-use mathlib.Core.Bool.{Bool, true, false, _||_}
+use mathlib.Core.Path.{_≡_, refl, sym, _∙_, ap}
+use mathlib.Core.Bool.{false, _||_}
 use mathlib.Core.Logic.{inl, inr}
 use Prim.Native.Nat.{ℕ, zero, suc, _+_, _-_, _*_, _/_, _%_, _^_, _<_, _≤_}
 use native.Mathlib.Nat.{one-mul, mod-lt, div-eq-of-lt, zero-div, pow-suc, mul-mod-left, zero-lt-suc}
@@ -9,7 +9,7 @@ use lib.Dec.{eqb, ltb}
 use lib.Bits.{bitOr, or-shr, or-mod}
 use lib.Pow.{pow-lt, pow-add, shl-exact, shl-shr}
 use borrow.Author.Tests.{eq-eqb, ne-eqb, eqb-true, eqb-false, ltb-true, ltb-false}
-use Rattle.tableau.proofs.Bools.{dec, clash}
+use Rattle.tableau.proofs.Bools.{dec}
 use Rattle.mentions.specs.Mentions.{bitAt}
 
 -- tests that hold together are equal
