@@ -1,10 +1,2 @@
-pub mod PackingLaws
-pub mod NumberLaws
-pub mod ChainLaws
-pub mod EntryLaws
-pub mod BitLaws
-pub mod UsesLaws
-pub mod MentionLaws
-pub mod GrowthLaws
 pub mod LineLaws
-pub mod ViewLaws
+pub mod GrowthLaws

@@ -1,86 +1,56 @@
--- Checks 7 to 10: what the outcome of each test says of the whole.
-use mathlib.Core.Path.{_≡_, refl, sym, _∙_, ap, fun-ext}
-use mathlib.Core.Bool.{Bool, true, false, _&&_, not}
-use mathlib.Core.List.{List, [], _∷_, _++_}
+-- A T line and an A line, from what each of their checks comes to.
+use mathlib.Core.Path.{_≡_, refl, sym, _∙_, ap}
+use mathlib.Core.Bool.{Bool, true, false, _&&_, not, and-true}
+use mathlib.Core.List.{[], _∷_, _++_}
 use mathlib.Core.Option.{Option, none, some}
-use Prim.Native.Nat.{ℕ, _+_, _<_, _≤_}
+use Prim.Native.Nat.{ℕ, _≤_}
 use native.Mathlib.Omega.{arith}
-use lib.Dec.{leb}
-use lib.ListN.{length, getD, set}
+use lib.Dec.{leb, ltb}
+use lib.ListN.{length}
 use borrow.Author.Tests.{leb-true}
-use Rattle.tableau.specs.declared.Letter.{Letter}
+use Rattle.tableau.specs.declared.Sort.{Sort}
 use Rattle.tableau.specs.declared.Relation.{Relation}
-use Rattle.tableau.specs.declared.Reason.{Reason}
-use Rattle.tableau.specs.declared.Word.{Word}
-use Rattle.tableau.specs.Basics.{isSome, Four, every}
-use Rattle.tableau.specs.Terms.{TermNo, Table, sides, written, wordFields, numberOf}
-use Rattle.tableau.specs.Tree.{Checked, passed, _>>=_, _>>_, require, Tree}
-use Rattle.tableau.specs.Reply.{Command, State, counted, requireOpen, effect, runCommand, zeroIfUnused, fieldsOf, roomForTerm, isTerm, termOrName, ofSort, sidesAgree, isNew}
-use Rattle.tableau.proofs.Bools.{both-true, every-true}
-use Rattle.terms.specs.Packing.{packTerm, nameLimit, number}
-use Rattle.terms.specs.Holds.{hashOf, foundOf, Holds}
-use Rattle.terms.specs.Lines.{firstFailing, checks}
-use Rattle.terms.specs.declared.Found.{Found}
 use Rattle.tableau.specs.declared.TermNumber.{TermNumber}
-use Rattle.terms.proofs.GrowthLaws.{Fielded, NotedFor, holds-grown}
+use Rattle.tableau.specs.declared.Reason.{Reason}
+use Rattle.tableau.specs.Basics.{isSome, Four, four, every}
+use Rattle.tableau.specs.Fields.{unused, of, wordFields, sides}
+use Rattle.tableau.specs.Terms.{TermNo, Table, written, maxTerms, sameSort, at, sortOf}
+use Rattle.tableau.specs.Terms as specification
+use Rattle.tableau.specs.Tree.{Checked, passed, _>>_, require}
+use Rattle.tableau.specs.Reply.{zeroIfUnused, isTerm, termOrName, ofSort, isNew, termLine, literalLine}
+use Rattle.tableau.proofs.Bools.{both-true}
+use Rattle.syntax.specs.declared.Term.{Term}
+use Rattle.syntax.specs.declared.Literal.{Literal}
+use Rattle.syntax.specs.Syntax.{wordIn, fieldsIn, termIn, literalIn, sidesIn}
+use Rattle.packing.specs.Packing.{PackableLiteral}
+use Rattle.table.specs.declared.Found.{Found}
+use Rattle.table.specs.Held.{foundOf}
+use Rattle.terms.specs.Lines.{sidesSorted}
 
--- `every`, where each test is run only if those before it hold: the flag that comes out is the whole.
-module _ {A B : Type 0} (f : A → B → Bool) (x : Four A) (y : Four B) where
-  pub first-fails : {r : Bool} → r ≡ f (x .a) (y .a) → r ≡ false → r ≡ every f x y
-  first-fails e n = n ∙ λ i. (sym n ∙ e) i && (f (x .b) (y .b) && (f (x .c) (y .c) && f (x .d) (y .d)))
+-- A T LINE
+pub written-term : (term : Term) → written (wordIn term) (fieldsIn term) ≡ termIn term
+written-term (Term.Variable s n) = refl
+written-term (Term.Apply o k) = refl
 
-  pub second-fails : {r₁ r : Bool} → r₁ ≡ f (x .a) (y .a) → r₁ ≡ true → r ≡ f (x .b) (y .b) → r ≡ false → r ≡ every f x y
-  second-fails e₁ t₁ e n = n ∙ λ i. (sym t₁ ∙ e₁) i && ((sym n ∙ e) i && (f (x .c) (y .c) && f (x .d) (y .d)))
+abbrev pub termChecks : Bool → Bool → Bool → Bool → Bool → Table → Checked Table
+termChecks six seven eight nine ten table = do
+  require six Reason.UnusedField
+  require seven Reason.TooManyTerms
+  require eight Reason.NoSuchTerm
+  require nine Reason.WrongSort
+  require ten Reason.TermRepeated
+  passed table
 
-  pub third-fails : {r₁ r₂ r : Bool} → r₁ ≡ f (x .a) (y .a) → r₁ ≡ true → r₂ ≡ f (x .b) (y .b) → r₂ ≡ true → r ≡ f (x .c) (y .c) → r ≡ false → r ≡ every f x y
-  third-fails e₁ t₁ e₂ t₂ e n = n ∙ λ i. (sym t₁ ∙ e₁) i && ((sym t₂ ∙ e₂) i && ((sym n ∙ e) i && f (x .d) (y .d)))
-
-  pub three-hold : {r₁ r₂ r₃ r : Bool} → r₁ ≡ f (x .a) (y .a) → r₁ ≡ true → r₂ ≡ f (x .b) (y .b) → r₂ ≡ true → r₃ ≡ f (x .c) (y .c) → r₃ ≡ true
-      → r ≡ f (x .d) (y .d) → r ≡ every f x y
-  three-hold e₁ t₁ e₂ t₂ e₃ t₃ e = λ i. (sym t₁ ∙ e₁) i && ((sym t₂ ∙ e₂) i && ((sym t₃ ∙ e₃) i && e i))
-
--- the same of what the fields hold, as the specification says it
-pub as-said : {A B : Type 0} (f : A → B → Bool) (y : Four B) {u v : Four A} {r : Bool} → r ≡ every f u y → u ≡ v → every f v y ≡ r
-as-said f y e q = sym (e ∙ ap (λ u. every f u y) q)
-
--- the outcome of the four checks, from what each comes to
-pub checked : (table : Table) (c : Command) (k : Four ℕ) {seven eight nine ten : Bool} → roomForTerm table c ≡ seven
-    → every (termOrName table) (fieldsOf c) k ≡ eight → (every (ofSort table) (fieldsOf c) k && sidesAgree table c k) ≡ nine → isNew table c k ≡ ten
-    → checks table c k ≡ firstFailing seven eight nine ten
-unfolding checks
-checked table c k e₇ e₈ e₉ e₁₀ = λ i. firstFailing (e₇ i) (e₈ i) (e₉ i) (e₁₀ i)
-
--- The specification runs a line by check 5, check 6, these checks and the line's effect.
-steps : {B : Type 0} (seven eight nine ten : Bool) (m : Checked B)
-    → (firstFailing seven eight nine ten >> m)
-    ≡ (require seven Reason.TooManyTerms >> (require eight Reason.NoSuchTerm >> (require nine Reason.WrongSort >> (require ten Reason.TermRepeated >> m))))
-steps false eight nine ten m = refl
-steps true false nine ten m = refl
-steps true true false ten m = refl
-steps true true true false m = refl
-steps true true true true m = refl
-
-pub command-steps : (σ : State) (l : Letter) (c : Command) (n : Four ℕ)
-    → runCommand σ l c n
-    ≡ (requireOpen (σ .status) >>= λ τ. require (every zeroIfUnused (fieldsOf c) n) Reason.UnusedField >> (checks (σ .table) c n >>
-    (effect (σ .table) τ c n >>= λ e. passed (record { table = e .0; status = e .1; letter = l; counts = counted (σ .counts) c }))))
-unfolding runCommand checks
-command-steps σ l c n = ap (λ (k : Tree → Checked State). requireOpen (σ .status) >>= k) (fun-ext λ τ.
-    ap (λ (m : Checked State). require (every zeroIfUnused (fieldsOf c) n) Reason.UnusedField >> m) (sym (steps (roomForTerm (σ .table) c)
-    (every (termOrName (σ .table)) (fieldsOf c) n) (every (ofSort (σ .table)) (fieldsOf c) n && sidesAgree (σ .table) c n) (isNew (σ .table) c n) _)))
-
--- a term that is made has a small number
-pub made-term : (table : Table) (x : ℕ) → isTerm table x ≡ true → x ≤ length table
-made-term table x h = leb-true x (length table) (both-true (leb 1 x) _ h .1)
-
-pub sides-made : (table : Table) (R : Relation) (k : Four ℕ) → every (termOrName table) (sides R) k ≡ true → (k .a ≤ length table) × (k .b ≤ length table)
-unfolding sides
-sides-made table Relation.In k h = let e = every-true (termOrName table) (sides Relation.In) k h in (made-term table (k .a) (e .0), made-term table (k .b) (e .1))
-sides-made table Relation.Ni k h = let e = every-true (termOrName table) (sides Relation.Ni) k h in (made-term table (k .a) (e .0), made-term table (k .b) (e .1))
-sides-made table Relation.Eq k h = let e = every-true (termOrName table) (sides Relation.Eq) k h in (made-term table (k .a) (e .0), made-term table (k .b) (e .1))
-sides-made table Relation.Ne k h = let e = every-true (termOrName table) (sides Relation.Ne) k h in (made-term table (k .a) (e .0), made-term table (k .b) (e .1))
-sides-made table Relation.Le k h = let e = every-true (termOrName table) (sides Relation.Le) k h in (made-term table (k .a) (e .0), made-term table (k .b) (e .1))
-sides-made table Relation.Nl k h = let e = every-true (termOrName table) (sides Relation.Nl) k h in (made-term table (k .a) (e .0), made-term table (k .b) (e .1))
+pub term-line : (table : Table) (term : Term) {six seven eight nine ten : Bool}
+    → every zeroIfUnused (wordFields (wordIn term)) (fieldsIn term) ≡ six
+    → ltb (length table) maxTerms ≡ seven
+    → every (termOrName table) (wordFields (wordIn term)) (fieldsIn term) ≡ eight
+    → every (ofSort table) (wordFields (wordIn term)) (fieldsIn term) ≡ nine
+    → isNew table (termIn term) ≡ ten
+    → termLine table (wordIn term) (fieldsIn term) ≡ termChecks six seven eight nine ten (table ++ (termIn term ∷ []))
+unfolding termLine
+term-line table term e₆ e₇ e₈ e₉ e₁₀ = λ i.
+    termChecks (e₆ i) (e₇ i) (e₈ i) (e₉ i) ((ap (isNew table) (written-term term) ∙ e₁₀) i) (table ++ (written-term term i ∷ []))
 
 -- what a search for the term says of check 10
 pub found-old : (o : Option TermNo) (v : TermNumber) → foundOf o ≡ Found.At v → not (isSome o) ≡ false
@@ -91,11 +61,62 @@ pub found-new : (o : Option TermNo) → foundOf o ≡ Found.Nothing → o ≡ no
 found-new none e = refl
 found-new (some t) e = cc
 
--- the arrays after a term was added
-pub made-after : (table : Table) (w : Word) (k : Four ℕ) (terms head next uses terms′ head′ next′ uses′ : List ℕ) (n p : ℕ)
-    → Holds table terms head next uses n → n < 600 → Fielded table w k → every (ofSort table) (wordFields w) k ≡ true → k .a < nameLimit
-    → numberOf table (written w k) ≡ none → p ≡ packTerm (written w k) → terms′ ≡ set terms (n + 1) p → head′ ≡ set head (hashOf p) (n + 1)
-    → next′ ≡ set next (n + 1) (getD head (hashOf p) 0) → NotedFor uses uses′ (n + 1) w k
-    → Holds (table ++ (written w k ∷ [])) terms′ head′ next′ uses′ (n + 1)
-made-after table w k terms head next uses terms′ head′ next′ uses′ n p H room F sorts small absent ep et eh ex N =
-    rw (et, eh, ex, ep) (holds-grown table w k terms head next uses uses′ n H room F sorts small absent N)
+-- AN A LINE: a literal leaves fields 5 and 6 to be 0, and both its sides are terms
+abbrev pub literalChecks : Bool → Bool → specification.Literal → Checked specification.Literal
+literalChecks eight nine l = do
+  require eight Reason.NoSuchTerm
+  require nine Reason.WrongSort
+  passed l
+
+unused-zero : (R : Relation) (l : Literal) → every zeroIfUnused (sides R) (sidesIn l) ≡ true
+unfolding sides
+unused-zero Relation.In l = refl
+unused-zero Relation.Ni l = refl
+unused-zero Relation.Eq l = refl
+unused-zero Relation.Ne l = refl
+unused-zero Relation.Le l = refl
+unused-zero Relation.Nl l = refl
+
+pub literal-line : (table : Table) (l : Literal) {eight nine : Bool}
+    → every (termOrName table) (sides (l .relation)) (sidesIn l) ≡ eight
+    → sidesSorted table (l .relation) (sidesIn l) ≡ nine
+    → literalLine table (l .relation) (sidesIn l) ≡ literalChecks eight nine (literalIn l)
+unfolding literalLine
+literal-line table l e₈ e₉ = λ i.
+    require (unused-zero (l .relation) l i) Reason.UnusedField >> literalChecks (e₈ i) (e₉ i) (literalIn l)
+
+-- two tests, the second run only if the first holds
+pub first-decides : {x r : Bool} (y : Bool) → r ≡ x → r ≡ false → r ≡ (x && y)
+first-decides y e n = n ∙ λ i. (sym n ∙ e) i && y
+
+pub second-decides : {x y r₁ r : Bool} → r₁ ≡ x → r₁ ≡ true → r ≡ y → r ≡ (x && y)
+second-decides e₁ t e = λ i. (sym t ∙ e₁) i && e i
+
+two-tests : (x y : Bool) → (x && y) ≡ (x && (y && true))
+two-tests x y = ap (λ (b : Bool). x && b) (sym (and-true y))
+
+pub both-terms : (table : Table) (R : Relation) (k : Four ℕ)
+    → (isTerm table (k .a) && isTerm table (k .b)) ≡ every (termOrName table) (sides R) k
+unfolding sides
+both-terms table Relation.In k = two-tests (isTerm table (k .a)) (isTerm table (k .b))
+both-terms table Relation.Ni k = two-tests (isTerm table (k .a)) (isTerm table (k .b))
+both-terms table Relation.Eq k = two-tests (isTerm table (k .a)) (isTerm table (k .b))
+both-terms table Relation.Ne k = two-tests (isTerm table (k .a)) (isTerm table (k .b))
+both-terms table Relation.Le k = two-tests (isTerm table (k .a)) (isTerm table (k .b))
+both-terms table Relation.Nl k = two-tests (isTerm table (k .a)) (isTerm table (k .b))
+
+-- check 9 of a relation that asks for the sort of each side
+pub both-sorted : (table : Table) (s s′ : Sort) (l : Literal)
+    → (sameSort s (sortOf (at table (l .left .0))) && sameSort s′ (sortOf (at table (l .right .0))))
+    ≡ (every (ofSort table) (four (of s) (of s′) unused unused) (sidesIn l) && true)
+both-sorted table s s′ l =
+    two-tests (sameSort s (sortOf (at table (l .left .0)))) (sameSort s′ (sortOf (at table (l .right .0)))) ∙ sym (and-true _)
+
+-- so the sides of a literal that passed check 8 can be packed
+pub sides-packable : (table : Table) (l : Literal) → length table ≤ maxTerms
+    → every (termOrName table) (sides (l .relation)) (sidesIn l) ≡ true → PackableLiteral (literalIn l)
+sides-packable table l few h =
+    let b = both-true (isTerm table (l .left .0)) _ (both-terms table (l .relation) (sidesIn l) ∙ h) in
+    let m : l .left .0 ≤ length table = leb-true _ _ (both-true (leb 1 (l .left .0)) _ (b .0) .1) in
+    let n : l .right .0 ≤ length table = leb-true _ _ (both-true (leb 1 (l .right .0)) _ (b .1) .1) in
+    (omega arith, omega arith)

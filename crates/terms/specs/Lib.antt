@@ -1,3 +1,2 @@
-pub mod Packing
-pub mod Holds
+pub mod Arrays
 pub mod Lines

@@ -1,64 +1,22 @@
-// The term table: T lines make terms in arrays that the caller lends, A lines make literals of them, and rules search and read the terms.
-use tableau::Name;
+// T lines make terms, A lines make literals of them: checks 7 to 10, in arrays that the caller lends. (Check 6, that unused fields are 0, is
+// the caller's.)
+use packing::terms::pack;
+use syntax::Literal;
+use syntax::Term;
+use table::Found;
 use tableau::Reason;
-use tableau::Sort;
 use tableau::TermNumber;
+ghost use mathlib.Core.Path.{_≡_};
+ghost use lib.ListN.{length};
+ghost use Rattle.tableau.specs.Terms.{Table};
+ghost use Rattle.tableau.specs.Reply.{isTerm, literalLine};
+ghost use Rattle.syntax.specs.Syntax.{sidesIn};
+ghost use Rattle.table.specs.Held.{Entries};
+ghost use Rattle.terms.specs.Arrays.{arrays, Held};
+ghost use Rattle.terms.specs.Lines.{TermTaken, MakesTerm, assumptionOf, SmallCode};
 
-pub mod lines;
-pub mod packing;
-pub mod table;
-pub mod uses;
-
-// A term taken apart, so that a rule can unpack the term it needs by `let .. else`.
-pub enum TermView {
-    Variable(Sort, Name),
-    Nul,
-    Rea(TermNumber, TermNumber, TermNumber),
-    Emp,
-    All,
-    Cup(TermNumber, TermNumber),
-    Cap(TermNumber, TermNumber),
-    Dif(TermNumber, TermNumber),
-    Sin(TermNumber),
-    Img(TermNumber, TermNumber, TermNumber),
-    Wri(TermNumber, TermNumber, TermNumber, TermNumber),
-    Typ(TermNumber),
-    Dty(TermNumber),
-}
-
-// A literal taken apart.
-pub enum LiteralView {
-    In(TermNumber, TermNumber),
-    Ni(TermNumber, TermNumber),
-    Eq(TermNumber, TermNumber),
-    Ne(TermNumber, TermNumber),
-    Le(TermNumber, TermNumber),
-    Nl(TermNumber, TermNumber),
-}
-
-// The number of a term that was searched for.
-pub enum Found {
-    At(TermNumber),
-    Nothing,
-}
-
-// What a field of a line holds: nothing, a place, a name, a side, a term of any sort, a term of one sort.
-pub enum FieldUse {
-    Unused,
-    Place,
-    Name,
-    Side,
-    Term,
-    Of(Sort),
-}
-
-// What each of the fields 3 to 6 holds.
-pub struct Fields {
-    pub a: FieldUse,
-    pub b: FieldUse,
-    pub c: FieldUse,
-    pub d: FieldUse,
-}
+mod arguments;
+mod sides;
 
 // The result of a T line.
 pub enum Making {
@@ -70,4 +28,61 @@ pub enum Making {
 pub enum Assumption {
     Assumed(u32),
     Refused(Reason),
+}
+
+// Check 8 of a field that holds a term, where n terms are made. (Check 9 is `table::has_sort`.)
+pub fn is_term(n: usize, t: TermNumber) -> bool
+    ensures { λ r. ⌜ ((table : Table) → length table ≡ n → r ≡ isTerm table (t .0)) ⌝ }
+{
+    let field = t.0;
+    0 < field && field <= n
+}
+
+// A T line, where n terms are made.
+pub fn make_term(
+    terms: &mut [u64; table::NUMBERS],
+    chains: &mut [u16; table::LINKS],
+    mentions: &mut [u64; mentions::WORDS],
+    n: usize,
+    term: Term,
+) -> Making
+    requires { ⌜ ((table : Table) × Held table (arrays (now terms) (now chains) (now mentions)) n) ⌝ }
+    requires { ⌜ TermTaken term ⌝ }
+    ensures { λ r. ⌜ ((table : Table) → Held table (arrays (now (terms .entry)) (now (chains .entry)) (now (mentions .entry))) n
+        → MakesTerm table term (arrays (now (terms .entry)) (now (chains .entry)) (now (mentions .entry)))
+        (arrays (now (terms .exit)) (now (chains .exit)) (now (mentions .exit))) n r) ⌝ }
+{
+    if table::TERMS <= n {
+        return Making::Refused(Reason::TooManyTerms);
+    }
+    if !arguments::are_made(n, term) {
+        return Making::Refused(Reason::NoSuchTerm);
+    }
+    if !arguments::have_sorts(&*terms, term) {
+        return Making::Refused(Reason::WrongSort);
+    }
+    let packed = pack(term);
+    if let Found::At(_) = table::search(&*terms, &*chains, packed) {
+        return Making::Refused(Reason::TermRepeated);
+    }
+    let number = TermNumber(n + 1);
+    table::add(terms, chains, number, packed);
+    mentions::note(mentions, number, term);
+    Making::Made
+}
+
+// An A line, where n terms are made.
+pub fn assume_literal(terms: &[u64; table::NUMBERS], n: usize, literal: Literal) -> Assumption
+    requires { ⌜ ((table : Table) × Entries table (now terms) × (length table ≡ n)) ⌝ }
+    ensures { λ r. ⌜ ((table : Table) → Entries table (now (terms .entry)) → length table ≡ n
+        → r ≡ assumptionOf (literalLine table (literal .relation) (sidesIn literal))) ⌝ }
+    ensures { λ r. ⌜ SmallCode r ⌝ }
+{
+    if !sides::are_made(n, literal) {
+        return Assumption::Refused(Reason::NoSuchTerm);
+    }
+    if !sides::have_sorts(terms, literal) {
+        return Assumption::Refused(Reason::WrongSort);
+    }
+    Assumption::Assumed(packing::literals::pack(literal))
 }

@@ -1,0 +1,4 @@
+pub mod BitLaws
+pub mod MentionLaws
+pub mod RowLaws
+pub mod GrowthLaws

@@ -1,0 +1,94 @@
+// Which terms stand in which, in an array that the caller lends: the row of the term t, ROW words from t * ROW on, has a bit for each number,
+// set where the term of that number stands in t.
+use syntax::Arguments;
+use syntax::Term;
+use tableau::TermNumber;
+ghost use mathlib.Core.Path.{_≡_};
+ghost use Prim.Native.Nat.{ℕ, _+_, _*_, _<_, _≤_};
+ghost use lib.Dec.{eqb};
+ghost use lib.ListN.{length, getD};
+ghost use Rattle.tableau.specs.Terms.{Table, at, mentions, maxTerms};
+ghost use Rattle.syntax.specs.Syntax.{argumentsIn, termIn};
+ghost use Rattle.mentions.specs.Mentions.{row, words, bitAt, joinedBit, argumentsOf, Below, MentionRows, Noted};
+
+// The words of a row: a bit for each of the numbers up to 600.
+pub const ROW: usize = 10;
+
+// A row for each of the numbers 0 to 600; none stands in the number 0.
+pub const WORDS: usize = 6010;
+
+// Word i of the row of a term.
+fn word_at(rows: &[u64; WORDS], term: TermNumber, i: usize) -> u64
+    requires { ⌜ (term .0 ≤ maxTerms) × (i < row) ⌝ }
+    ensures { λ r. ⌜ r ≡ getD (now (rows .entry)) (term .0 * row + i) 0 ⌝ }
+{
+    let t = term.0;
+    rows[t * ROW + i]
+}
+
+// Does the term w stand in the term, as the whole or inside?
+pub fn mentions(rows: &[u64; WORDS], term: TermNumber, w: TermNumber) -> bool
+    requires { ⌜ (term .0 ≤ maxTerms) × (0 < w .0) × (w .0 ≤ maxTerms) ⌝ }
+    ensures { λ r. ⌜ ((table : Table) → MentionRows table (now (rows .entry)) → term .0 ≤ length table
+        → r ≡ mentions (at table) (w .0) (term .0)) ⌝ }
+{
+    let v = w.0;
+    (word_at(rows, term, v / 64) >> (v % 64)) % 2 == 1
+}
+
+// Word i of the row of a term that has no argument.
+fn own_word(term: TermNumber, i: usize) -> u64
+    ensures { λ r. ⌜ ((q : ℕ) → q < 64 → bitAt r q ≡ eqb (term .0) (i * 64 + q)) ⌝ }
+{
+    let t = term.0;
+    if t / 64 == i {
+        return 1 << (t % 64);
+    }
+    0
+}
+
+// Word i of the rows of the arguments together.
+fn joined_word(rows: &[u64; WORDS], k: Arguments, i: usize) -> u64
+    requires { ⌜ Below (maxTerms + 1) (argumentsIn k) × (i < row) ⌝ }
+    ensures { λ r. ⌜ ((q : ℕ) → bitAt r q ≡ joinedBit (now (rows .entry)) (argumentsIn k) i q) ⌝ }
+{
+    word_at(rows, k.a, i)
+        | (word_at(rows, k.b, i) | (word_at(rows, k.c, i) | word_at(rows, k.d, i)))
+}
+
+// Fills the row of a new term: itself, and what stands in its arguments.
+fn fill(rows: &mut [u64; WORDS], term: TermNumber, k: Arguments)
+    requires { ⌜ (term .0 ≤ maxTerms) × Below (term .0) (argumentsIn k) × (length (now rows) ≡ words) ⌝ }
+    ensures { λ _. ⌜ Noted (now (rows .entry)) (now (rows .exit)) (term .0) (argumentsIn k) ⌝ }
+{
+    let t = term.0;
+    let mut i = 0;
+    while i < ROW {
+        let word = own_word(term, i) | joined_word(&*rows, k, i);
+        rows[t * ROW + i] = word;
+        i += 1;
+    }
+}
+
+// Notes what stands in the new term t: itself, and what stands in its arguments. A name is no argument.
+pub fn note(rows: &mut [u64; WORDS], t: TermNumber, term: Term)
+    requires { ⌜ (t .0 ≤ maxTerms) × Below (t .0) (argumentsOf (termIn term)) × (length (now rows) ≡ words) ⌝ }
+    ensures { λ _. ⌜ Noted (now (rows .entry)) (now (rows .exit)) (t .0) (argumentsOf (termIn term)) ⌝ }
+{
+    match term {
+        Term::Variable(_, _) => {
+            let none = TermNumber(0);
+            fill(
+                rows,
+                t,
+                Arguments {
+                    a: none,
+                    b: none,
+                    c: none,
+                    d: none,
+                },
+            )
+        }
+        Term::Apply(_, k) => fill(rows, t, k),
+    }
+}
