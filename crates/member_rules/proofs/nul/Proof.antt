@@ -1,0 +1,41 @@
+-- `nul` answers what its row says.
+use mathlib.Core.Path.{refl, subst}
+use Rattle.tableau.specs.declared.Relation.{Relation}
+use Rattle.table.specs.Held.{SmallFound}
+use Rattle.rules.proofs.Laws.{computing, is-not}
+use Rattle.rules.proofs.Rows.{named, not-named, other-p}
+use Rattle.member_rules.proofs.nul.Statement.{statement}
+use Rattle.member_rules.proofs.nul.Tie as tie
+
+-- u in r, and `nul` stands in the table
+adds-one-requires : tie.Need-adds-one-requires
+adds-one-requires c κs =
+    let k = c .before .before in
+    let m = k .before .before .before .before in
+    rw (c .literal .ensures) ((rw (m .p .given .1) at (m .before .before .pre .1)) .0, subst SmallFound (k .n .given .1) (k .before .before .on-none .ensures .small))
+
+returns-3 : tie.Need-returns-3
+unfolding computing
+returns-3 c =
+    let k = c .before .before .before in
+    let m = k .before .before .before .before in
+    named refl refl (m .p .given .1) (k .before .before .on-none .ensures .found) (k .n .given .1) (rw (c .before .literal .ensures) at (c .adds-one .ensures))
+
+pub nul-spec : {M : Type 1} → statement M
+unfolding computing
+nul-spec =
+    tie.close
+    (tie.spec
+    (λ c. c .match .keys1)
+    -- p is not u in r
+    (λ c. let p = c .before .args .p in other-p p refl (is-not Relation.In p (c .match .keys2)))
+    (λ c κs. c .before .before .before .pre .0)
+    (λ c. c .match2 .keys1)
+    (λ c. c .match2 .keys2)
+    -- `nul` does not stand in the table
+    (λ c.
+    let k = c .before .before in
+    not-named refl refl (k .before .before .p .given .1) (k .on-none .ensures .found) (c .enum-told .given .1))
+    (λ c κs. tt)
+    adds-one-requires
+    returns-3)

@@ -1,0 +1,106 @@
+// The rules that say of a reference that it is in a region: of singletons, of `all` and `nul`, and of any region. Each looks up the terms that its needs name, and
+// searches for those that it would add; what the rule needs and isn't so is refused with 12, a w that is not fresh with 13, a term that is not made with 14.
+use packing::LiteralView;
+use packing::TermView;
+use rules::outcome;
+use rules::outcome::Outcome;
+use rules::outcome::literal;
+use rules::searches::on_none;
+use table::Found;
+use tableau::Operator;
+use tableau::Reason;
+use tableau::Relation;
+use tableau::TermNumber;
+ghost use mathlib.Core.Option.{none, some};
+ghost use Rattle.tableau.specs.declared.Rule.{Rule};
+ghost use Rattle.tableau.specs.Terms.{Table};
+ghost use Rattle.packing.specs.Packing.{Small, SmallLiteral, literalOf};
+ghost use Rattle.rules.specs.Answer.{Anywhere, HeldBy, SearchableBy, Concludes, ConcludesFresh};
+
+// w fresh gives w in all.
+pub fn fir(
+    w: TermNumber,
+    fresh: bool,
+    terms: &[u64; table::NUMBERS],
+    chains: &[u16; table::LINKS],
+) -> Outcome
+    requires { ⌜ ((table : Table) × SearchableBy (now terms) (now chains) table) ⌝ }
+    requires { ⌜ Small (w .0) ⌝ }
+    ensures { λ r. ⌜ ConcludesFresh (SearchableBy (now (terms .entry)) (now (chains .entry))) fresh Rule.Fir none none 0 (w .0) r ⌝ }
+{
+    if !fresh {
+        return Outcome::Refused(Reason::NotFresh);
+    }
+    let Found::At(a) = on_none(terms, chains, Operator::All) else {
+        return Outcome::Refused(Reason::TermNotMade);
+    };
+    outcome::adds_one(literal(Relation::In, w, a))
+}
+
+// u in sin(v) gives u eq v.
+pub fn sge(p: LiteralView, terms: &[u64; table::NUMBERS]) -> Outcome
+    requires { ⌜ ((table : Table) × HeldBy (now terms) table) ⌝ }
+    requires { ⌜ SmallLiteral p ⌝ }
+    ensures { λ r. ⌜ Concludes (HeldBy (now (terms .entry))) Rule.Sge (some (literalOf p)) none 0 0 r ⌝ }
+{
+    let LiteralView::In(u, x) = p else {
+        return Outcome::Refused(Reason::NeedNotMet);
+    };
+    let TermView::Sin(v) = table::view(terms, x) else {
+        return Outcome::Refused(Reason::NeedNotMet);
+    };
+    outcome::adds_one(literal(Relation::Eq, u, v))
+}
+
+// t = sin(u) gives u ni all ∥ u in t.
+pub fn sgi(t: TermNumber, terms: &[u64; table::NUMBERS], chains: &[u16; table::LINKS]) -> Outcome
+    requires { ⌜ ((table : Table) × SearchableBy (now terms) (now chains) table) ⌝ }
+    requires { ⌜ Small (t .0) ⌝ }
+    ensures { λ r. ⌜ Concludes (SearchableBy (now (terms .entry)) (now (chains .entry))) Rule.Sgi none none (t .0) 0 r ⌝ }
+{
+    let TermView::Sin(u) = table::view(terms, t) else {
+        return Outcome::Refused(Reason::NeedNotMet);
+    };
+    let Found::At(a) = on_none(terms, chains, Operator::All) else {
+        return Outcome::Refused(Reason::TermNotMade);
+    };
+    outcome::splits(literal(Relation::Ni, u, a), literal(Relation::In, u, t))
+}
+
+// reference t, region w gives t in w ∥ t ni w.
+pub fn cut(t: TermNumber, w: TermNumber) -> Outcome
+    requires { ⌜ Small (t .0) × Small (w .0) ⌝ }
+    ensures { λ r. ⌜ Concludes Anywhere Rule.Cut none none (t .0) (w .0) r ⌝ }
+{
+    outcome::splits(literal(Relation::In, t, w), literal(Relation::Ni, t, w))
+}
+
+// u in r gives u in all.
+pub fn all(p: LiteralView, terms: &[u64; table::NUMBERS], chains: &[u16; table::LINKS]) -> Outcome
+    requires { ⌜ ((table : Table) × SearchableBy (now terms) (now chains) table) ⌝ }
+    requires { ⌜ SmallLiteral p ⌝ }
+    ensures { λ r. ⌜ Concludes (SearchableBy (now (terms .entry)) (now (chains .entry))) Rule.All (some (literalOf p)) none 0 0 r ⌝ }
+{
+    let LiteralView::In(u, _) = p else {
+        return Outcome::Refused(Reason::NeedNotMet);
+    };
+    let Found::At(a) = on_none(terms, chains, Operator::All) else {
+        return Outcome::Refused(Reason::TermNotMade);
+    };
+    outcome::adds_one(literal(Relation::In, u, a))
+}
+
+// u in r gives u ne nul.
+pub fn nul(p: LiteralView, terms: &[u64; table::NUMBERS], chains: &[u16; table::LINKS]) -> Outcome
+    requires { ⌜ ((table : Table) × SearchableBy (now terms) (now chains) table) ⌝ }
+    requires { ⌜ SmallLiteral p ⌝ }
+    ensures { λ r. ⌜ Concludes (SearchableBy (now (terms .entry)) (now (chains .entry))) Rule.Nul (some (literalOf p)) none 0 0 r ⌝ }
+{
+    let LiteralView::In(u, _) = p else {
+        return Outcome::Refused(Reason::NeedNotMet);
+    };
+    let Found::At(n) = on_none(terms, chains, Operator::Nul) else {
+        return Outcome::Refused(Reason::TermNotMade);
+    };
+    outcome::adds_one(literal(Relation::Ne, u, n))
+}

@@ -1,0 +1,87 @@
+-- `cpi` answers what its row says.
+use mathlib.Core.Path.{refl, ap}
+use Rattle.tableau.specs.declared.Relation.{Relation}
+use Rattle.packing.specs.Packing.{literalOf}
+use Rattle.rules.proofs.Laws.{computing, is-cap, is-not}
+use Rattle.rules.proofs.Rows.{joined, other-first, other-member, other-p, other-q, other-second, other-term}
+use Rattle.set_rules.proofs.cpi.Statement.{statement}
+use Rattle.set_rules.proofs.cpi.Tie as tie
+
+-- u is not v
+returns-3 : tie.Need-returns-3
+unfolding computing
+returns-3 c =
+    let n = c .before .before .before .before in
+    other-member refl refl (ap literalOf (n .before .before .before .p .given .1)) (ap literalOf (n .q .given .1)) (c .if1 .taken)
+
+-- t is not cap(a,b)
+returns-4 : tie.Need-returns-4
+unfolding computing
+returns-4 c =
+    let n = c .before .before .before .before .before .before in
+    other-term refl refl (ap literalOf (n .before .before .before .p .given .1)) (ap literalOf (n .q .given .1))
+    (c .before .view .ensures) (c .match3 .keys2)
+
+-- r is not a
+returns-5 : tie.Need-returns-5
+unfolding computing
+returns-5 c =
+    let k = c .before .before .before .before in
+    let i = k .before .before .before in
+    let n = i .before .before .before .before in
+    other-first refl refl (ap literalOf (n .before .before .before .p .given .1)) (ap literalOf (n .q .given .1))
+    (λ e. is-cap e _ _) (i .if1 .left) (k .a .given .1) (k .before .before .view .ensures) (c .if2 .taken)
+
+-- s is not b
+returns-6 : tie.Need-returns-6
+unfolding computing
+returns-6 c =
+    let j = c .before .before .before in
+    let k = j .before .before .before .before in
+    let i = k .before .before .before in
+    let n = i .before .before .before .before in
+    other-second refl refl (ap literalOf (n .before .before .before .p .given .1)) (ap literalOf (n .q .given .1))
+    (λ e. is-cap e _ _) (i .if1 .left) (k .a .given .1) (k .before .before .view .ensures) (j .if2 .left) (c .if3 .taken)
+
+-- u in r, u in s, and t is cap(r,s)
+adds-one-requires : tie.Need-adds-one-requires
+adds-one-requires c κs =
+    let k = c .before .before .before .before .before .before .before .before in
+    let n = k .before .before .before .before .before .before .before in
+    let m = n .before .before .before in
+    let g = m .before .before .pre .1 in
+    rw (c .literal .ensures) ((rw (m .p .given .1) at (g .0)) .0, g .2)
+
+returns-7 : tie.Need-returns-7
+unfolding computing
+returns-7 c =
+    let j = c .before .before .before .before .before in
+    let k = j .before .before .before .before in
+    let i = k .before .before .before in
+    let n = i .before .before .before .before in
+    joined refl refl (ap literalOf (n .before .before .before .p .given .1)) (ap literalOf (n .q .given .1))
+    (λ e. is-cap e _ _) (i .if1 .left) (k .a .given .1) (k .before .before .view .ensures) (j .if2 .left) (c .before .before .if3 .left)
+    (rw (c .before .literal .ensures) at (c .adds-one .ensures))
+
+pub cpi-spec : {M : Type 1} → statement M
+unfolding computing
+cpi-spec =
+    tie.close
+    (tie.spec
+    (λ c. c .match .keys1)
+    -- p is not u in r
+    (λ c. let p = c .before .args .p in other-p p refl (is-not Relation.In p (c .match .keys2)))
+    (λ c. c .match2 .keys1)
+    -- q is not v in s
+    (λ c.
+    let q = c .before .before .before .before .args .q in
+    other-q q refl (c .before .before .p .given .1) (λ table. refl) (is-not Relation.In q (c .match2 .keys2)))
+    returns-3
+    (λ c κs. let g = c .before .before .before .before .before .before .before .before .before .pre in (g .0, g .1 .2))
+    (λ c. c .match3 .keys1)
+    returns-4
+    returns-5
+    returns-6
+    (λ c κs. tt)
+    adds-one-requires
+    returns-7)

@@ -1,0 +1,79 @@
+-- `eqr` answers what its row says.
+use mathlib.Core.Path.{refl}
+use Rattle.tableau.specs.declared.Relation.{Relation}
+use Rattle.rules.proofs.Laws.{computing, is-not}
+use Rattle.rules.proofs.Rows.{carried, left-other, not-member, other-p, other-side, right-other}
+use Rattle.set_rules.proofs.Regions.{no-region, region}
+use Rattle.set_rules.proofs.eqr.Statement.{statement}
+use Rattle.set_rules.proofs.eqr.Tie as tie
+
+-- s is no region
+returns-3 : tie.Need-returns-3
+unfolding computing
+returns-3 c =
+    let k = c .before .before in
+    right-other refl (k .before .before .before .before .p .given .1) (region (k .before .before .sort-of .ensures) (k .enum-told .given .1))
+    (no-region (c .before .sort-of2 .ensures) (c .match3 .keys2))
+
+-- q is not u in x
+returns-4 : tie.Need-returns-4
+unfolding computing
+returns-4 c =
+    let k = c .before in
+    let l = k .before .before .before in
+    let m = l .before .before .before .before in
+    let q = m .before .before .args .q in
+    not-member refl (m .p .given .1) (region (l .before .before .sort-of .ensures) (l .enum-told .given .1))
+    (region (k .before .before .sort-of2 .ensures) (k .enum-told2 .given .1)) q (is-not Relation.In q (c .match4 .keys2))
+
+-- x is not r
+returns-5 : tie.Need-returns-5
+unfolding computing
+returns-5 c =
+    let n = c .before .before .before .before in
+    let k = n .before .before in
+    let l = k .before .before .before in
+    let m = l .before .before .before .before in
+    other-side refl (m .p .given .1) (region (l .before .before .sort-of .ensures) (l .enum-told .given .1))
+    (region (k .before .before .sort-of2 .ensures) (k .enum-told2 .given .1)) (n .q .given .1) refl (c .if1 .taken)
+
+-- u in r
+adds-one-requires : tie.Need-adds-one-requires
+adds-one-requires c κs =
+    let n = c .before .before .before .before .before in
+    let m = n .before .before .before .before .before .before .before .before .before in
+    let h = rw (m .p .given .1, n .q .given .1) at (m .before .before .pre .1) in
+    rw (c .literal .ensures) (h .1 .0, h .0 .1)
+
+returns-6 : tie.Need-returns-6
+unfolding computing
+returns-6 c =
+    let n = c .before .before .before .before .before .before in
+    let k = n .before .before in
+    let l = k .before .before .before in
+    let m = l .before .before .before .before in
+    carried refl (m .p .given .1) (region (l .before .before .sort-of .ensures) (l .enum-told .given .1))
+    (region (k .before .before .sort-of2 .ensures) (k .enum-told2 .given .1)) (n .q .given .1) refl (c .before .before .if1 .left) refl
+    (rw (c .before .literal .ensures) at (c .adds-one .ensures))
+
+pub eqr-spec : {M : Type 1} → statement M
+unfolding computing
+eqr-spec =
+    tie.close
+    (tie.spec
+    (λ c. c .match .keys1)
+    -- p is not r eq s
+    (λ c. let p = c .before .args .p in other-p p refl (is-not Relation.Eq p (c .match .keys2)))
+    (λ c κs. let g = c .before .before .before .pre in (g .0, (rw (c .before .p .given .1) at (g .1 .0)) .0))
+    (λ c. c .match2 .keys1)
+    -- r is no region
+    (λ c. left-other refl (c .before .before .before .p .given .1) (no-region (c .before .sort-of .ensures) (c .match2 .keys2)))
+    (λ c κs. let m = c .before .before .before .before in let g = m .before .before .pre in (g .0, (rw (m .p .given .1) at (g .1 .0)) .1))
+    (λ c. c .match3 .keys1)
+    returns-3
+    (λ c. c .match4 .keys1)
+    returns-4
+    returns-5
+    (λ c κs. tt)
+    adds-one-requires
+    returns-6)

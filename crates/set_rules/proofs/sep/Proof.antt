@@ -1,0 +1,55 @@
+-- `sep` answers what its row says.
+use mathlib.Core.Path.{refl, sym}
+use borrow.Author.Tests.{eq-eqb, ne-eqb}
+use Rattle.tableau.specs.declared.Relation.{Relation}
+use Rattle.rules.proofs.Laws.{computing, is-not}
+use Rattle.rules.proofs.Rows.{other-p, other-q}
+use Rattle.set_rules.proofs.sep.Statement.{statement}
+use Rattle.set_rules.proofs.sep.Tie as tie
+
+-- s is not r
+returns-3 : tie.Need-returns-3
+unfolding computing
+returns-3 c =
+    let n = c .before .before .before .before in
+    record {
+      room = tt;
+      answers = λ table h fresh. rw (n .before .before .before .p .given .1, n .q .given .1, ne-eqb _ _ (c .if1 .taken));
+    }
+
+-- u in r, v ni r
+adds-one-requires : tie.Need-adds-one-requires
+adds-one-requires c κs =
+    let n = c .before .before .before .before .before in
+    let m = n .before .before .before in
+    let h = rw (m .p .given .1, n .q .given .1) at (m .before .before .pre) in
+    rw (c .literal .ensures) (h .0 .0, h .1 .0)
+
+returns-4 : tie.Need-returns-4
+unfolding computing
+returns-4 c =
+    let n = c .before .before .before .before .before .before in
+    let b = rw (c .before .literal .ensures) at (c .adds-one .ensures) in
+    record {
+      room = b .room;
+      answers = λ table h fresh.
+          rw (n .before .before .before .p .given .1, n .q .given .1, eq-eqb _ _ (c .before .before .if1 .left)) (sym (b .adds));
+    }
+
+pub sep-spec : {M : Type 1} → statement M
+unfolding computing
+sep-spec =
+    tie.close
+    (tie.spec
+    (λ c. c .match .keys1)
+    -- p is not u in r
+    (λ c. let p = c .before .args .p in other-p p refl (is-not Relation.In p (c .match .keys2)))
+    (λ c. c .match2 .keys1)
+    -- q is not v ni s
+    (λ c.
+    let q = c .before .before .before .before .args .q in
+    other-q q refl (c .before .before .p .given .1) (λ table. refl) (is-not Relation.Ni q (c .match2 .keys2)))
+    returns-3
+    (λ c κs. tt)
+    adds-one-requires
+    returns-4)

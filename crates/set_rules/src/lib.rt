@@ -1,0 +1,227 @@
+// The rules of equal regions, of intersection, union and difference, and of a region that parts two references. Each looks up the terms that its needs name; what
+// the rule needs and isn't so is refused with 12, in the order of its row.
+use packing::LiteralView;
+use packing::TermView;
+use rules::outcome;
+use rules::outcome::Outcome;
+use rules::outcome::literal;
+use tableau::Reason;
+use tableau::Relation;
+use tableau::Sort;
+use tableau::TermNumber;
+ghost use mathlib.Core.Option.{none, some};
+ghost use Rattle.tableau.specs.declared.Rule.{Rule};
+ghost use Rattle.tableau.specs.Terms.{Table};
+ghost use Rattle.packing.specs.Packing.{Small, SmallLiteral, literalOf};
+ghost use Rattle.rules.specs.Answer.{Anywhere, HeldBy, Concludes, ConcludesFresh};
+
+// r eq s; u in r gives u in s.
+pub fn eqr(p: LiteralView, q: LiteralView, terms: &[u64; table::NUMBERS]) -> Outcome
+    requires { ⌜ ((table : Table) × HeldBy (now terms) table) ⌝ }
+    requires { ⌜ SmallLiteral p × SmallLiteral q ⌝ }
+    ensures { λ r. ⌜ Concludes (HeldBy (now (terms .entry))) Rule.Eqr (some (literalOf p)) (some (literalOf q)) 0 0 r ⌝ }
+{
+    let LiteralView::Eq(r, s) = p else {
+        return Outcome::Refused(Reason::NeedNotMet);
+    };
+    let Sort::Region = table::sort_of(terms, r) else {
+        return Outcome::Refused(Reason::NeedNotMet);
+    };
+    let Sort::Region = table::sort_of(terms, s) else {
+        return Outcome::Refused(Reason::NeedNotMet);
+    };
+    let LiteralView::In(u, x) = q else {
+        return Outcome::Refused(Reason::NeedNotMet);
+    };
+    if x.0 != r.0 {
+        return Outcome::Refused(Reason::NeedNotMet);
+    }
+    outcome::adds_one(literal(Relation::In, u, s))
+}
+
+// r eq s; u in s gives u in r.
+pub fn eql(p: LiteralView, q: LiteralView, terms: &[u64; table::NUMBERS]) -> Outcome
+    requires { ⌜ ((table : Table) × HeldBy (now terms) table) ⌝ }
+    requires { ⌜ SmallLiteral p × SmallLiteral q ⌝ }
+    ensures { λ r. ⌜ Concludes (HeldBy (now (terms .entry))) Rule.Eql (some (literalOf p)) (some (literalOf q)) 0 0 r ⌝ }
+{
+    let LiteralView::Eq(r, s) = p else {
+        return Outcome::Refused(Reason::NeedNotMet);
+    };
+    let Sort::Region = table::sort_of(terms, r) else {
+        return Outcome::Refused(Reason::NeedNotMet);
+    };
+    let Sort::Region = table::sort_of(terms, s) else {
+        return Outcome::Refused(Reason::NeedNotMet);
+    };
+    let LiteralView::In(u, x) = q else {
+        return Outcome::Refused(Reason::NeedNotMet);
+    };
+    if x.0 != s.0 {
+        return Outcome::Refused(Reason::NeedNotMet);
+    }
+    outcome::adds_one(literal(Relation::In, u, r))
+}
+
+// r ne s; w fresh gives w in r, w ni s ∥ w ni r, w in s.
+pub fn ext(p: LiteralView, w: TermNumber, fresh: bool, terms: &[u64; table::NUMBERS]) -> Outcome
+    requires { ⌜ ((table : Table) × HeldBy (now terms) table) ⌝ }
+    requires { ⌜ SmallLiteral p × Small (w .0) ⌝ }
+    ensures { λ r. ⌜ ConcludesFresh (HeldBy (now (terms .entry))) fresh Rule.Ext (some (literalOf p)) none 0 (w .0) r ⌝ }
+{
+    let LiteralView::Ne(r, s) = p else {
+        return Outcome::Refused(Reason::NeedNotMet);
+    };
+    let Sort::Region = table::sort_of(terms, r) else {
+        return Outcome::Refused(Reason::NeedNotMet);
+    };
+    let Sort::Region = table::sort_of(terms, s) else {
+        return Outcome::Refused(Reason::NeedNotMet);
+    };
+    if !fresh {
+        return Outcome::Refused(Reason::NotFresh);
+    }
+    outcome::splits_two_two(
+        literal(Relation::In, w, r),
+        literal(Relation::Ni, w, s),
+        literal(Relation::Ni, w, r),
+        literal(Relation::In, w, s),
+    )
+}
+
+// u in cap(r,s) gives u in r, u in s.
+pub fn cpe(p: LiteralView, terms: &[u64; table::NUMBERS]) -> Outcome
+    requires { ⌜ ((table : Table) × HeldBy (now terms) table) ⌝ }
+    requires { ⌜ SmallLiteral p ⌝ }
+    ensures { λ r. ⌜ Concludes (HeldBy (now (terms .entry))) Rule.Cpe (some (literalOf p)) none 0 0 r ⌝ }
+{
+    let LiteralView::In(u, x) = p else {
+        return Outcome::Refused(Reason::NeedNotMet);
+    };
+    let TermView::Cap(r, s) = table::view(terms, x) else {
+        return Outcome::Refused(Reason::NeedNotMet);
+    };
+    outcome::adds_two(literal(Relation::In, u, r), literal(Relation::In, u, s))
+}
+
+// u in r; u in s; t = cap(r,s) gives u in t.
+pub fn cpi(p: LiteralView, q: LiteralView, t: TermNumber, terms: &[u64; table::NUMBERS]) -> Outcome
+    requires { ⌜ ((table : Table) × HeldBy (now terms) table) ⌝ }
+    requires { ⌜ SmallLiteral p × SmallLiteral q × Small (t .0) ⌝ }
+    ensures { λ r. ⌜ Concludes (HeldBy (now (terms .entry))) Rule.Cpi (some (literalOf p)) (some (literalOf q)) (t .0) 0 r ⌝ }
+{
+    let LiteralView::In(u, r) = p else {
+        return Outcome::Refused(Reason::NeedNotMet);
+    };
+    let LiteralView::In(v, s) = q else {
+        return Outcome::Refused(Reason::NeedNotMet);
+    };
+    if u.0 != v.0 {
+        return Outcome::Refused(Reason::NeedNotMet);
+    }
+    let TermView::Cap(a, b) = table::view(terms, t) else {
+        return Outcome::Refused(Reason::NeedNotMet);
+    };
+    if r.0 != a.0 {
+        return Outcome::Refused(Reason::NeedNotMet);
+    }
+    if s.0 != b.0 {
+        return Outcome::Refused(Reason::NeedNotMet);
+    }
+    outcome::adds_one(literal(Relation::In, u, t))
+}
+
+// u in cup(r,s) gives u in r ∥ u in s.
+pub fn cue(p: LiteralView, terms: &[u64; table::NUMBERS]) -> Outcome
+    requires { ⌜ ((table : Table) × HeldBy (now terms) table) ⌝ }
+    requires { ⌜ SmallLiteral p ⌝ }
+    ensures { λ r. ⌜ Concludes (HeldBy (now (terms .entry))) Rule.Cue (some (literalOf p)) none 0 0 r ⌝ }
+{
+    let LiteralView::In(u, x) = p else {
+        return Outcome::Refused(Reason::NeedNotMet);
+    };
+    let TermView::Cup(r, s) = table::view(terms, x) else {
+        return Outcome::Refused(Reason::NeedNotMet);
+    };
+    outcome::splits(literal(Relation::In, u, r), literal(Relation::In, u, s))
+}
+
+// u in r or u in s; t = cup(r,s) gives u in t.
+pub fn cui(p: LiteralView, t: TermNumber, terms: &[u64; table::NUMBERS]) -> Outcome
+    requires { ⌜ ((table : Table) × HeldBy (now terms) table) ⌝ }
+    requires { ⌜ SmallLiteral p × Small (t .0) ⌝ }
+    ensures { λ r. ⌜ Concludes (HeldBy (now (terms .entry))) Rule.Cui (some (literalOf p)) none (t .0) 0 r ⌝ }
+{
+    let LiteralView::In(u, x) = p else {
+        return Outcome::Refused(Reason::NeedNotMet);
+    };
+    let TermView::Cup(r, s) = table::view(terms, t) else {
+        return Outcome::Refused(Reason::NeedNotMet);
+    };
+    if x.0 == r.0 {
+        return outcome::adds_one(literal(Relation::In, u, t));
+    }
+    if x.0 != s.0 {
+        return Outcome::Refused(Reason::NeedNotMet);
+    }
+    outcome::adds_one(literal(Relation::In, u, t))
+}
+
+// u in dif(r,s) gives u in r, u ni s.
+pub fn dfe(p: LiteralView, terms: &[u64; table::NUMBERS]) -> Outcome
+    requires { ⌜ ((table : Table) × HeldBy (now terms) table) ⌝ }
+    requires { ⌜ SmallLiteral p ⌝ }
+    ensures { λ r. ⌜ Concludes (HeldBy (now (terms .entry))) Rule.Dfe (some (literalOf p)) none 0 0 r ⌝ }
+{
+    let LiteralView::In(u, x) = p else {
+        return Outcome::Refused(Reason::NeedNotMet);
+    };
+    let TermView::Dif(r, s) = table::view(terms, x) else {
+        return Outcome::Refused(Reason::NeedNotMet);
+    };
+    outcome::adds_two(literal(Relation::In, u, r), literal(Relation::Ni, u, s))
+}
+
+// u in r; u ni s; t = dif(r,s) gives u in t.
+pub fn dfi(p: LiteralView, q: LiteralView, t: TermNumber, terms: &[u64; table::NUMBERS]) -> Outcome
+    requires { ⌜ ((table : Table) × HeldBy (now terms) table) ⌝ }
+    requires { ⌜ SmallLiteral p × SmallLiteral q × Small (t .0) ⌝ }
+    ensures { λ r. ⌜ Concludes (HeldBy (now (terms .entry))) Rule.Dfi (some (literalOf p)) (some (literalOf q)) (t .0) 0 r ⌝ }
+{
+    let LiteralView::In(u, r) = p else {
+        return Outcome::Refused(Reason::NeedNotMet);
+    };
+    let LiteralView::Ni(v, s) = q else {
+        return Outcome::Refused(Reason::NeedNotMet);
+    };
+    if u.0 != v.0 {
+        return Outcome::Refused(Reason::NeedNotMet);
+    }
+    let TermView::Dif(a, b) = table::view(terms, t) else {
+        return Outcome::Refused(Reason::NeedNotMet);
+    };
+    if r.0 != a.0 {
+        return Outcome::Refused(Reason::NeedNotMet);
+    }
+    if s.0 != b.0 {
+        return Outcome::Refused(Reason::NeedNotMet);
+    }
+    outcome::adds_one(literal(Relation::In, u, t))
+}
+
+// u in r; v ni r gives u ne v.
+pub fn sep(p: LiteralView, q: LiteralView) -> Outcome
+    requires { ⌜ SmallLiteral p × SmallLiteral q ⌝ }
+    ensures { λ r. ⌜ Concludes Anywhere Rule.Sep (some (literalOf p)) (some (literalOf q)) 0 0 r ⌝ }
+{
+    let LiteralView::In(u, r) = p else {
+        return Outcome::Refused(Reason::NeedNotMet);
+    };
+    let LiteralView::Ni(v, s) = q else {
+        return Outcome::Refused(Reason::NeedNotMet);
+    };
+    if r.0 != s.0 {
+        return Outcome::Refused(Reason::NeedNotMet);
+    }
+    outcome::adds_one(literal(Relation::Ne, u, v))
+}
