@@ -1,2 +1,3 @@
 // x
+pub mod checks;
 pub mod reading;
