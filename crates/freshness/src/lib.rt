@@ -34,7 +34,9 @@ fn in_literal(mentions: &[u64; mentions::WORDS], n: usize, literal: u32, w: Term
     ensures { λ r. ⌜ ((table : Table) → MentionRows table (now (mentions .entry)) → length table ≡ n
         → r ≡ mentionedIn (at table) (w .0) (unpackLiteral literal)) ⌝ }
 {
-    in_term(mentions, n, left_of(literal), w) || in_term(mentions, n, right_of(literal), w)
+    let left = left_of(literal);
+    let right = right_of(literal);
+    in_term(mentions, n, left, w) || in_term(mentions, n, right, w)
 }
 
 // Does a literal among the first len mention w?

@@ -8,22 +8,31 @@ use Rattle.freshness.proofs.in_literal.Tie as tie
 
 returns : tie.Need-returns
 returns c table R e =
-    let a = c .before .before .before .args in
+    let s = c .before .before in
+    let a = s .before .before .args in
     let l = unpackLiteral (a .literal) in
     let M = mentions (at table) (a .w .0) in
-    by-first (M (leftIn l)) (M (rightIn l)) (c .if1 .taken) (c .before .in-term .ensures table R e ∙ ap M (c .before .before .left-of .ensures .0))
+    by-first (M (leftIn l)) (M (rightIn l)) (c .if1 .taken) (c .before .in-term .ensures table R e ∙ ap M (s .before .left-of .ensures .0))
     ∙ sym (in-sides (at table) (a .w .0) l)
 
 returns-2 : tie.Need-returns-2
 returns-2 c table R e =
-    let d = c .before .before .before in
-    let a = d .before .before .args in
+    let s = c .before .before .before in
+    let a = s .before .before .args in
     let l = unpackLiteral (a .literal) in
     let M = mentions (at table) (a .w .0) in
-    by-second (M (leftIn l)) (M (rightIn l)) (c .before .before .if1 .left) (d .in-term .ensures table R e ∙ ap M (d .before .left-of .ensures .0))
-    (c .in-term2 .ensures table R e ∙ ap M (c .before .right-of .ensures .0))
+    by-second (M (leftIn l)) (M (rightIn l)) (c .before .if1 .left)
+    (c .before .before .in-term .ensures table R e ∙ ap M (s .before .left-of .ensures .0))
+    (c .in-term2 .ensures table R e ∙ ap M (s .right-of .ensures .0))
     ∙ sym (in-sides (at table) (a .w .0) l)
 
 pub in-literal-spec : {M : Type 1} → statement M
 in-literal-spec =
-    tie.close (tie.spec (λ c κs. tt) (λ c κs. c .before .pre) (λ c κs. tt) (λ c κs. c .before .before .before .before .pre) returns returns-2)
+    tie.close
+    (tie.spec
+    (λ c κs. tt)
+    (λ c κs. tt)
+    (λ c κs. c .before .before .pre)
+    (λ c κs. c .before .before .before .before .pre)
+    returns
+    returns-2)
