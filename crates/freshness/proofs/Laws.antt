@@ -1,20 +1,24 @@
 -- When a term or a branch mentions w.
-use mathlib.Core.Path.{_≡_, sym, _∙_, ap}
+use mathlib.Core.Path.{_≡_, refl, sym, _∙_, ap}
 use mathlib.Core.Bool.{Bool, true, false, _||_, or-false, or-true, or-assoc}
 use mathlib.Core.List.{List, [], _∷_, map}
 use Prim.Native.Nat.{ℕ, zero, suc, _<_, _≤_}
 use native.Mathlib.Omega.{arith}
-use lib.Dec.{eqb}
 use lib.ListN.{length, take, getD}
 use borrow.Author.Tests.{ne-eqb}
-use Rattle.tableau.specs.Basics.{four}
-use Rattle.tableau.specs.Terms.{TermNo, Table, Term, Literal, at, arguments, layer, toDepth, fold, mentions, mentionedIn, mentioned}
+use Rattle.tableau.specs.Fields.{arguments}
+use Rattle.tableau.specs.Terms.{TermNo, Table, Term, Literal, literal, at, layer, toDepth, fold, mentions, mentionedIn, mentioned}
 use Rattle.tableau.proofs.TableGrowth.{at-beyond}
+use Rattle.packing.specs.Packing.{leftIn, rightIn}
 
 -- a number that no term has stands for no term with w in it
 pub not-beyond : (table : Table) (w t : TermNo) → w ≤ length table → length table < t → mentions (at table) w t ≡ false
 unfolding mentions fold toDepth layer arguments
 not-beyond table w t h k = rw (at-beyond table t k, ne-eqb t w (λ e. omega arith))
+
+-- a literal mentions what its sides do
+pub in-sides : (table : TermNo → Term) (w : TermNo) (l : Literal) → mentionedIn table w l ≡ (mentions table w (leftIn l) || mentions table w (rightIn l))
+in-sides table w (literal R m n) = refl
 
 -- a literal more on the branch
 pub mentioned-one-more : (f : ℕ → Literal) (table : TermNo → Term) (w : TermNo) (b : List ℕ) (i : ℕ) → i < length b

@@ -1,56 +1,60 @@
 // The freshness test: does a literal on the branch mention w?
+use packing::TermView;
+use packing::literals::left_of;
+use packing::literals::right_of;
 use tableau::Sort;
 use tableau::TermNumber;
-use terms::TermView;
-use terms::table;
-use terms::uses;
 ghost use mathlib.Core.Path.{_≡_};
 ghost use mathlib.Core.List.{map};
 ghost use Prim.Native.Nat.{_<_, _≤_};
 ghost use lib.ListN.{length, take};
-ghost use Rattle.tableau.specs.Terms.{Table, at, mentions, mentionedIn, mentioned};
-ghost use Rattle.terms.specs.Packing.{unpackLiteral};
+ghost use Rattle.tableau.specs.Terms.{Table, at, mentionedIn, mentioned, maxTerms};
+ghost use Rattle.tableau.specs.Terms as specification;
+ghost use Rattle.tableau.specs.Tree.{maxPlaces};
 ghost use Rattle.tableau.specs.Steps.{isFresh};
-ghost use Rattle.terms.specs.Holds.{Entries, Uses};
+ghost use Rattle.packing.specs.Packing.{unpackLiteral};
+ghost use Rattle.table.specs.Held.{Entries};
+ghost use Rattle.mentions.specs.Mentions.{MentionRows};
 
 // Does w stand in the term? A number that no term has stands for no term with w in it.
-fn in_term(uses: &[u64; 6010], n: usize, term: TermNumber, w: TermNumber) -> bool
-    requires { ⌜ ((table : Table) × Uses table (now uses) × (length table ≡ n)) ⌝ }
-    requires { ⌜ (0 < w .0) × (w .0 ≤ n) × (n ≤ 600) ⌝ }
-    ensures { λ r. ⌜ ((table : Table) → Uses table (now (uses .entry)) → length table ≡ n → r ≡ mentions (at table) (w .0) (term .0)) ⌝ }
+fn in_term(mentions: &[u64; mentions::WORDS], n: usize, term: TermNumber, w: TermNumber) -> bool
+    requires { ⌜ (0 < w .0) × (w .0 ≤ n) × (n ≤ maxTerms) ⌝ }
+    ensures { λ r. ⌜ ((table : Table) → MentionRows table (now (mentions .entry)) → length table ≡ n
+        → r ≡ specification.mentions (at table) (w .0) (term .0)) ⌝ }
 {
     if n < term.0 {
         return false;
     }
-    uses::mentions(uses, term, w)
+    mentions::mentions(mentions, term, w)
 }
 
 // Does the packed literal mention w?
-fn in_literal(uses: &[u64; 6010], n: usize, literal: u32, w: TermNumber) -> bool
-    requires { ⌜ ((table : Table) × Uses table (now uses) × (length table ≡ n)) ⌝ }
-    requires { ⌜ (0 < w .0) × (w .0 ≤ n) × (n ≤ 600) ⌝ }
-    ensures { λ r. ⌜ ((table : Table) → Uses table (now (uses .entry)) → length table ≡ n → r ≡ mentionedIn (at table) (w .0) (unpackLiteral literal)) ⌝ }
+fn in_literal(mentions: &[u64; mentions::WORDS], n: usize, literal: u32, w: TermNumber) -> bool
+    requires { ⌜ (0 < w .0) × (w .0 ≤ n) × (n ≤ maxTerms) ⌝ }
+    ensures { λ r. ⌜ ((table : Table) → MentionRows table (now (mentions .entry)) → length table ≡ n
+        → r ≡ mentionedIn (at table) (w .0) (unpackLiteral literal)) ⌝ }
 {
-    let left = (literal / 1024 % 1024) as usize;
-    let right = (literal % 1024) as usize;
-    in_term(uses, n, TermNumber(left), w) || in_term(uses, n, TermNumber(right), w)
+    let left = left_of(literal);
+    let right = right_of(literal);
+    in_term(mentions, n, left, w) || in_term(mentions, n, right, w)
 }
 
 // Does a literal among the first len mention w?
-pub fn on_branch(
-    uses: &[u64; 6010],
+fn on_branch(
+    mentions: &[u64; mentions::WORDS],
     n: usize,
     branch: &[u32; 1000],
     len: usize,
     w: TermNumber,
 ) -> bool
-    requires { ⌜ ((table : Table) × Uses table (now uses) × (length table ≡ n)) ⌝ }
-    requires { ⌜ (0 < w .0) × (w .0 ≤ n) × (n ≤ 600) × (len ≤ 1000) × (length (now branch) ≡ 1000) ⌝ }
-    ensures { λ r. ⌜ ((table : Table) → Uses table (now (uses .entry)) → length table ≡ n → r ≡ mentioned (at table) (w .0) (map unpackLiteral (take len (now (branch .entry))))) ⌝ }
+    requires { ⌜ (0 < w .0) × (w .0 ≤ n) × (n ≤ maxTerms) ⌝ }
+    requires { ⌜ (len ≤ maxPlaces) × (length (now branch) ≡ maxPlaces) ⌝ }
+    ensures { λ r. ⌜ ((table : Table) → MentionRows table (now (mentions .entry)) → length table ≡ n
+        → r ≡ mentioned (at table) (w .0) (map unpackLiteral (take len (now (branch .entry))))) ⌝ }
 {
     let mut i = 0;
     while i < len {
-        if in_literal(uses, n, branch[i], w) {
+        if in_literal(mentions, n, branch[i], w) {
             return true;
         }
         i += 1;
@@ -60,16 +64,18 @@ pub fn on_branch(
 
 // Is the term w fresh: an `rfv` that no literal on the branch mentions?
 pub fn is_fresh(
-    terms: &[u64; 601],
-    uses: &[u64; 6010],
+    terms: &[u64; table::NUMBERS],
+    mentions: &[u64; mentions::WORDS],
     n: usize,
     branch: &[u32; 1000],
     len: usize,
     w: TermNumber,
 ) -> bool
-    requires { ⌜ ((table : Table) × Entries table (now terms) × Uses table (now uses) × (length table ≡ n)) ⌝ }
-    requires { ⌜ (0 < w .0) × (w .0 ≤ n) × (n ≤ 600) × (len ≤ 1000) × (length (now branch) ≡ 1000) ⌝ }
-    ensures { λ r. ⌜ ((table : Table) → Entries table (now (terms .entry)) → Uses table (now (uses .entry)) → length table ≡ n → r ≡ isFresh table (map unpackLiteral (take len (now (branch .entry)))) (w .0)) ⌝ }
+    requires { ⌜ ((table : Table) × Entries table (now terms)) ⌝ }
+    requires { ⌜ (0 < w .0) × (w .0 ≤ n) × (n ≤ maxTerms) ⌝ }
+    requires { ⌜ (len ≤ maxPlaces) × (length (now branch) ≡ maxPlaces) ⌝ }
+    ensures { λ r. ⌜ ((table : Table) → Entries table (now (terms .entry)) → MentionRows table (now (mentions .entry)) → length table ≡ n
+        → r ≡ isFresh table (map unpackLiteral (take len (now (branch .entry)))) (w .0)) ⌝ }
 {
     let TermView::Variable(sort, _) = table::view(terms, w) else {
         return false;
@@ -77,5 +83,5 @@ pub fn is_fresh(
     let Sort::Reference = sort else {
         return false;
     };
-    !on_branch(uses, n, branch, len, w)
+    !on_branch(mentions, n, branch, len, w)
 }
