@@ -1,4 +1,3 @@
-use borrow.Author.Needs.{needs}
 use Rattle.tableau.specs.declared.Relation.{Relation}
 use Rattle.packing.specs.declared.LiteralView.{LiteralView}
 use Rattle.rules.proofs.Laws.{by-sides, computing, is-not}
@@ -25,10 +24,10 @@ unfolding computing
 cls-spec =
     tie.close
     (tie.spec
-    (λ c. search needs)
+    (λ c. c .match .keys1)
     (λ c κs. is-not Relation.In (c .before .args .p) (c .match .keys2))
     (λ c. c .cls-equal .ensures)
-    (λ c. search needs)
+    (λ c. c .match2 .keys1)
     returns-2
-    (λ c κs. search needs)
+    (λ c κs. tt)
     returns-3)

@@ -1,4 +1,3 @@
-use borrow.Author.Needs.{needs}
 use Rattle.tableau.specs.declared.Relation.{Relation}
 use Rattle.packing.specs.declared.LiteralView.{LiteralView}
 use Rattle.rules.proofs.Laws.{by-sides, computing, is-not}
@@ -25,13 +24,13 @@ unfolding computing
 cls-ordered-spec =
     tie.close
     (tie.spec
-    (λ c. search needs)
+    (λ c. c .match .keys1)
     -- p is none of the three
     (λ c.
     let p = c .before .args .p in
     let n = c .before .pre in
     record { room = tt; answers = λ table h fresh. rw (by-sides p, n .0, n .1, is-not Relation.Le p (c .match .keys2)) })
-    (λ c. search needs)
+    (λ c. c .match2 .keys1)
     returns-2
-    (λ c κs. search needs)
+    (λ c κs. tt)
     returns-3)

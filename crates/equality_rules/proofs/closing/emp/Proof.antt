@@ -1,5 +1,4 @@
 -- `emp` answers what its row says.
-use borrow.Author.Needs.{needs}
 use mathlib.Core.Path.{refl, subst, _∙_}
 use Rattle.tableau.specs.declared.Relation.{Relation}
 use Rattle.tableau.specs.Terms.{at}
@@ -25,11 +24,11 @@ unfolding computing
 emp-spec =
     tie.close
     (tie.spec
-    (λ c. search needs)
+    (λ c. c .match .keys1)
     -- p is not u in r
     (λ c. let p = c .before .args .p in other-p p refl (is-not Relation.In p (c .match .keys2)))
     (λ c κs. (c .before .before .before .pre .0, subst SmallLiteral (c .before .p .given .1) (c .before .before .before .pre .1) .1))
-    (λ c. search needs)
+    (λ c. c .match2 .keys1)
     -- r is not emp
     (λ c. other-region refl refl (c .before .before .before .p .given .1) (c .before .view .ensures) (c .match2 .keys2))
     returns-3)

@@ -1,4 +1,3 @@
-use borrow.Author.Needs.{needs}
 use mathlib.Core.Path.{refl}
 use Rattle.rules.proofs.Laws.{computing}
 use Rattle.rules.proofs.Rows.{always}
@@ -10,6 +9,6 @@ unfolding computing
 reflexive-spec =
     tie.close
     (tie.spec
-    (λ c κs. search needs)
+    (λ c κs. tt)
     (λ c κs. rw (c .literal .ensures) (c .before .pre, c .before .pre))
     (λ c. always refl (λ table. refl) (rw (c .before .literal .ensures) at (c .adds-one .ensures))))

@@ -1,4 +1,3 @@
-use borrow.Author.Needs.{needs}
 use mathlib.Core.Path.{sym}
 use Rattle.tableau.specs.declared.Relation.{Relation}
 use Rattle.tableau.specs.Steps.{concludeSub}
@@ -45,12 +44,12 @@ pub sub-spec : {M : Type 1} → statement M
 sub-spec =
     tie.close
     (tie.spec
-    (λ c. search needs)
+    (λ c. c .match .keys1)
     returns
     (λ c κs. let s = c .before .before .before .pre in (s .0, s .1 .0))
     (λ c κs. let s = c .before .before .before .before .pre in (s .0, s .1 .1))
-    (λ c κs. search needs)
+    (λ c κs. tt)
     returns-2
-    (λ c κs. search needs)
+    (λ c κs. tt)
     (λ c κs. rw (c .literal .ensures) (c .before .before .before .before .before .before .before .before .pre .1))
     returns-3)

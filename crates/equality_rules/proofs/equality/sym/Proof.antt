@@ -1,4 +1,3 @@
-use borrow.Author.Needs.{needs}
 use mathlib.Core.Path.{sym, subst}
 use Rattle.tableau.specs.declared.Relation.{Relation}
 use Rattle.packing.specs.Packing.{SmallLiteral}
@@ -24,9 +23,9 @@ unfolding computing
 sym-spec =
     tie.close
     (tie.spec
-    (λ c. search needs)
+    (λ c. c .match .keys1)
     (λ c κs. (c .before .pre, is-not Relation.Eq (c .before .args .p) (c .match .keys2)))
     (λ c. c .sym-unequal .ensures)
-    (λ c κs. search needs)
+    (λ c κs. tt)
     adds-one-requires
     returns-2)

@@ -1,4 +1,3 @@
-use borrow.Author.Needs.{needs}
 use mathlib.Core.Path.{sym, subst}
 use Rattle.tableau.specs.declared.Relation.{Relation}
 use Rattle.packing.specs.Packing.{SmallLiteral}
@@ -24,11 +23,11 @@ unfolding computing
 sym-unequal-spec =
     tie.close
     (tie.spec
-    (λ c. search needs)
+    (λ c. c .match .keys1)
     -- p is neither
     (λ c.
     let p = c .before .args .p in
     record { room = tt; answers = λ table h fresh. rw (by-sides p, c .before .pre .1, is-not Relation.Ne p (c .match .keys2)) })
-    (λ c κs. search needs)
+    (λ c κs. tt)
     adds-one-requires
     returns-2)

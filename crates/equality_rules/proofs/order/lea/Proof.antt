@@ -1,4 +1,3 @@
-use borrow.Author.Needs.{needs}
 use borrow.Author.Tests.{eq-eqb, ne-eqb}
 use mathlib.Core.Path.{refl, sym, subst}
 use Rattle.tableau.specs.declared.Relation.{Relation}
@@ -52,16 +51,16 @@ unfolding computing
 lea-spec =
     tie.close
     (tie.spec
-    (λ c. search needs)
+    (λ c. c .match .keys1)
     -- p is not a le b
     (λ c. let p = c .before .args .p in other-p p refl (is-not Relation.Le p (c .match .keys2)))
-    (λ c. search needs)
+    (λ c. c .match2 .keys1)
     -- q is not b le a
     (λ c.
     let q = c .before .before .before .before .args .q in
     other-q q refl (c .before .before .p .given .1) (λ table. refl) (is-not Relation.Le q (c .match2 .keys2)))
     returns-3
     returns-4
-    (λ c κs. search needs)
+    (λ c κs. tt)
     adds-one-requires
     returns-5)

@@ -1,4 +1,3 @@
-use borrow.Author.Needs.{needs}
 use mathlib.Core.Path.{refl, ap, subst}
 use Rattle.tableau.specs.declared.Relation.{Relation}
 use Rattle.packing.specs.Packing.{literalOf, SmallLiteral}
@@ -35,15 +34,15 @@ unfolding computing
 transitive-spec =
     tie.close
     (tie.spec
-    (λ c. search needs)
+    (λ c. c .match .keys1)
     -- p is not a le b
     (λ c. let p = c .before .args .p in other-p p refl (is-not Relation.Le p (c .match .keys2)))
-    (λ c. search needs)
+    (λ c. c .match2 .keys1)
     -- q is not b le c
     (λ c.
     let q = c .before .before .before .before .args .q in
     other-q q refl (c .before .before .p .given .1) (λ table. refl) (is-not Relation.Le q (c .match2 .keys2)))
     returns-3
-    (λ c κs. search needs)
+    (λ c κs. tt)
     adds-one-requires
     returns-4)
