@@ -1,3 +1,4 @@
 // x
 pub mod checks;
+pub mod concluding;
 pub mod reading;
