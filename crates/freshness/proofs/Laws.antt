@@ -17,7 +17,8 @@ unfolding mentions fold toDepth layer arguments
 not-beyond table w t h k = rw (at-beyond table t k, ne-eqb t w (λ e. omega arith))
 
 -- a literal mentions what its sides do
-pub in-sides : (table : TermNo → Term) (w : TermNo) (l : Literal) → mentionedIn table w l ≡ (mentions table w (leftIn l) || mentions table w (rightIn l))
+pub in-sides : (table : TermNo → Term) (w : TermNo) (l : Literal)
+    → mentionedIn table w l ≡ (mentions table w (leftIn l) || mentions table w (rightIn l))
 in-sides table w (literal R m n) = refl
 
 -- a literal more on the branch

@@ -46,7 +46,8 @@ is-argument : (table : Table) (k : Argument) (x : ℕ) → zeroIfUnused (argumen
 is-argument table unused x z m = eqb-true x 0 z
 is-argument table (of s) x z m = leb-true x (length table) (both-true (leb 1 x) _ m .1)
 
-are-arguments : (table : Table) (o : Operator) (k : Arguments) → ArgumentsMade table (Term.Apply o k) → AreArguments (length table) o (argumentsIn k)
+are-arguments : (table : Table) (o : Operator) (k : Arguments) → ArgumentsMade table (Term.Apply o k)
+    → AreArguments (length table) o (argumentsIn k)
 are-arguments table o k A =
     let z = every-true zeroIfUnused (mapFour argumentUse (arguments o)) (argumentsIn k) (A .unusedZero) in
     let m = every-true (termOrName table) (mapFour argumentUse (arguments o)) (argumentsIn k) (A .made) in (
@@ -94,7 +95,8 @@ module _ (table grown : Table) (e : specification.Term) (G : Grown table grown e
   abbrev t : TermNo
   t = suc (length table)
 
-  variable-row : (s : Sort) (m : ℕ) → e ≡ variable s m → (eqb t w || joinedBit rows (argumentsOf (variable s m)) (w / 64) (w % 64)) ≡ mentions (at grown) w t
+  variable-row : (s : Sort) (m : ℕ) → e ≡ variable s m
+      → (eqb t w || joinedBit rows (argumentsOf (variable s m)) (w / 64) (w % 64)) ≡ mentions (at grown) w t
   variable-row s m q =
       (λ i. eqb t w || (zero-row i || (zero-row i || (zero-row i || zero-row i)))) ∙ or-false (eqb t w)
       ∙ sym (mentions-variable (at grown) (G .grownWellFormed) w t s m (G .last ∙ q))
@@ -106,8 +108,8 @@ module _ (table grown : Table) (e : specification.Term) (G : Grown table grown e
       || (argument-row (arguments o .c) (k .c) (h .2) i || argument-row (arguments o .d) (k .d) (h .3) i))))
       ∙ sym (mentions-apply (at grown) (G .grownWellFormed) w t o k (G .last ∙ q))
 
-own-row : (table grown : Table) (term : Term) → Grown table grown (termIn term) → (rows : List ℕ) → MentionRows table rows → ArgumentsMade table term
-    → (w : TermNo) → 0 < w → w < 640
+own-row : (table grown : Table) (term : Term) → Grown table grown (termIn term) → (rows : List ℕ) → MentionRows table rows
+    → ArgumentsMade table term → (w : TermNo) → 0 < w → w < 640
     → (eqb (suc (length table)) w || joinedBit rows (argumentsOf (termIn term)) (w / 64) (w % 64)) ≡ mentions (at grown) w (suc (length table))
 own-row table grown (Term.Variable s m) G rows R A w l h = variable-row table grown _ G rows R w l h s (m .0) refl
 own-row table grown (Term.Apply o k) G rows R A w l h =
@@ -129,5 +131,6 @@ rows-empty n q = record {
   size = length-replicate {A = ℕ} n 0 ∙ q;
   told = λ t w l first most.
       let z : t ≡ 0 = omega arith in
-      ap (λ (x : ℕ). bitAt x (w % 64)) (getD-replicate {A = ℕ} n (t * row + w / 64) 0 0 (omega arith)) ∙ bit-zero (w % 64) ∙ sym (ap (mentions (at []) w) z ∙ mentions-zero (at []) refl w first);
+      ap (λ (x : ℕ). bitAt x (w % 64)) (getD-replicate {A = ℕ} n (t * row + w / 64) 0 0 (omega arith)) ∙ bit-zero (w % 64)
+      ∙ sym (ap (mentions (at []) w) z ∙ mentions-zero (at []) refl w first);
 }

@@ -16,10 +16,12 @@ use Rattle.mentions.specs.Mentions.{row, bitAt, rowBit, joinedBit, Below
 use Rattle.mentions.proofs.BitLaws.{bit-or}
 
 -- the words of the arguments' rows, joined
-pub joined-bits : (rows : List ℕ) (k : Four TermNo) (i : ℕ) {x y z w : ℕ} → x ≡ getD rows (k .a * row + i) 0 → y ≡ getD rows (k .b * row + i) 0
-    → z ≡ getD rows (k .c * row + i) 0 → w ≡ getD rows (k .d * row + i) 0 → (q : ℕ) → bitAt (bitOr x (bitOr y (bitOr z w))) q ≡ joinedBit rows k i q
+pub joined-bits : (rows : List ℕ) (k : Four TermNo) (i : ℕ) {x y z w : ℕ}
+    → x ≡ getD rows (k .a * row + i) 0 → y ≡ getD rows (k .b * row + i) 0 → z ≡ getD rows (k .c * row + i) 0 → w ≡ getD rows (k .d * row + i) 0
+    → (q : ℕ) → bitAt (bitOr x (bitOr y (bitOr z w))) q ≡ joinedBit rows k i q
 joined-bits rows k i {x} {y} {z} {w} ex ey ez ew q =
-    bit-or x (bitOr y (bitOr z w)) q ∙ (λ j. bitAt (ex j) q || (bit-or y (bitOr z w) q ∙ (λ j. bitAt (ey j) q || (bit-or z w q ∙ (λ j. bitAt (ez j) q || bitAt (ew j) q)) j)) j)
+    bit-or x (bitOr y (bitOr z w)) q ∙ (λ j. bitAt (ex j) q || (bit-or y (bitOr z w) q
+    ∙ (λ j. bitAt (ey j) q || (bit-or z w q ∙ (λ j. bitAt (ez j) q || bitAt (ew j) q)) j)) j)
 
 -- the first i words of t are filled, from rows that stand below
 pub record Filled (old : List ℕ) (t : TermNo) (k : Four TermNo) (new : List ℕ) (i : ℕ) : Type 0 where

@@ -1,5 +1,5 @@
-// Which terms stand in which, in an array that the caller lends: the row of the term t, ROW words from t * ROW on, has a bit for each number,
-// set where the term of that number stands in t.
+// Which terms stand in which, in an array that the caller lends: the row of the term t, ROW words from t * ROW on, has a bit for each
+// number, set where the term of that number stands in t.
 use syntax::Arguments;
 use syntax::Term;
 use tableau::TermNumber;

@@ -24,9 +24,11 @@ use Rattle.mentions.proofs.GrowthLaws.{ArgumentsMade, arguments-below, rows-gro
 use Rattle.terms.specs.Arrays.{Arrays, arrays, Held}
 use Rattle.terms.proofs.LineLaws.{written-term}
 
-pub term-packable : (table : Table) (term : Term) → ArgumentsMade table term → length table ≤ maxTerms → fieldsIn term .a < nameLimit → Packable (termIn term)
+pub term-packable : (table : Table) (term : Term) → ArgumentsMade table term → length table ≤ maxTerms → fieldsIn term .a < nameLimit
+    → Packable (termIn term)
 term-packable table (Term.Variable s n) A few small = small
-term-packable table (Term.Apply o k) A few small = let b = arguments-below table (Term.Apply o k) A in (omega arith, omega arith, omega arith, omega arith)
+term-packable table (Term.Apply o k) A few small =
+    let b = arguments-below table (Term.Apply o k) A in (omega arith, omega arith, omega arith, omega arith)
 
 -- a new term that passed checks 6 to 10
 pub record Passed (table : Table) (term : Term) : Type 0 where
@@ -43,8 +45,8 @@ pub record Added (old new : Arrays) (n p : ℕ) (e : specification.Term) : Type 
   pub chains : new .chains ≡ set (set (old .chains) (hashes + (n + 1)) (getD (old .chains) (hashOf p) 0)) (hashOf p) (n + 1)
   pub noted : Noted (old .mentions) (new .mentions) (n + 1) (argumentsOf e)
 
-pub held-grown : (table : Table) (term : Term) (old new : Arrays) (n p : ℕ) → Held table old n → Passed table term → Added old new n p (termIn term)
-    → Held (table ++ (termIn term ∷ [])) new (n + 1)
+pub held-grown : (table : Table) (term : Term) (old new : Arrays) (n p : ℕ) → Held table old n → Passed table term
+    → Added old new n p (termIn term) → Held (table ++ (termIn term ∷ [])) new (n + 1)
 held-grown table term old new n p H P A =
     let e = termIn term in
     let q : n + 1 ≡ suc (length table) = omega (arith, H .count) in

@@ -1,17 +1,17 @@
 -- What T and A lines give.
 use mathlib.Core.Path.{_≡_}
-use mathlib.Core.Bool.{Bool, true, _&&_}
+use mathlib.Core.Bool.{Bool, _&&_}
 use mathlib.Core.List.{[], _∷_, _++_}
 use Prim.Native.Nat.{ℕ, _+_, _<_}
 use Rattle.tableau.specs.declared.Relation.{Relation}
 use Rattle.tableau.specs.Basics.{Four, four, every}
-use Rattle.tableau.specs.Fields.{Argument, unused, of, wordFields, sides}
+use Rattle.tableau.specs.Fields.{Argument, unused, of, sides}
 use Rattle.tableau.specs.Terms.{Table, Literal, at, sortOf, oneSort}
 use Rattle.tableau.specs.Tree.{Checked, refused, passed}
-use Rattle.tableau.specs.Reply.{zeroIfUnused, ofSort, termLine}
+use Rattle.tableau.specs.Reply.{ofSort, termLine}
 use Rattle.syntax.specs.declared.Term.{Term}
 use Rattle.syntax.specs.Syntax.{wordIn, fieldsIn, termIn}
-use Rattle.packing.specs.Packing.{nameLimit, packLiteral, codeLimit}
+use Rattle.packing.specs.Packing.{packLiteral, codeLimit}
 use Rattle.terms.specs.declared.arguments.ArgumentSort.{ArgumentSort}
 use Rattle.terms.specs.declared.arguments.ArgumentRow.{ArgumentRow}
 use Rattle.terms.specs.declared.Making.{Making}
@@ -26,11 +26,7 @@ argumentIn (ArgumentSort.Of s) = of s
 abbrev pub rowIn : ArgumentRow → Four Argument
 rowIn r = four (argumentIn (r .a)) (argumentIn (r .b)) (argumentIn (r .c)) (argumentIn (r .d))
 
--- A T LINE: a term whose unused fields are 0 and whose first field has room in a packed term
-pub record TermTaken (term : Term) : Type 0 where
-  pub unusedZero : every zeroIfUnused (wordFields (wordIn term)) (fieldsIn term) ≡ true
-  pub small : fieldsIn term .a < nameLimit
-
+-- A T LINE: its reply, and what the arrays hold afterwards
 abbrev pub makingOf : Checked Table → Making
 makingOf (refused r) = Making.Refused r
 makingOf (passed table) = Making.Made

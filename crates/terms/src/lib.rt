@@ -1,5 +1,5 @@
-// T lines make terms, A lines make literals of them: checks 7 to 10, in arrays that the caller lends. (Check 6, that unused fields are 0, is
-// the caller's.)
+// T lines make terms, A lines make literals of them: checks 7 to 10, in arrays that the caller lends. (Check 6, that unused fields are
+// 0, is the caller's.)
 use packing::terms::pack;
 use syntax::Literal;
 use syntax::Term;
@@ -7,13 +7,18 @@ use table::Found;
 use tableau::Reason;
 use tableau::TermNumber;
 ghost use mathlib.Core.Path.{_≡_};
+ghost use mathlib.Core.Bool.{true};
+ghost use Prim.Native.Nat.{_<_};
 ghost use lib.ListN.{length};
+ghost use Rattle.tableau.specs.Basics.{every};
+ghost use Rattle.tableau.specs.Fields.{wordFields};
 ghost use Rattle.tableau.specs.Terms.{Table};
-ghost use Rattle.tableau.specs.Reply.{isTerm, literalLine};
-ghost use Rattle.syntax.specs.Syntax.{sidesIn};
+ghost use Rattle.tableau.specs.Reply.{zeroIfUnused, isTerm, literalLine};
+ghost use Rattle.syntax.specs.Syntax.{wordIn, fieldsIn, sidesIn};
+ghost use Rattle.packing.specs.Packing.{nameLimit};
 ghost use Rattle.table.specs.Held.{Entries};
 ghost use Rattle.terms.specs.Arrays.{arrays, Held};
-ghost use Rattle.terms.specs.Lines.{TermTaken, MakesTerm, assumptionOf, SmallCode};
+ghost use Rattle.terms.specs.Lines.{MakesTerm, assumptionOf, SmallCode};
 
 mod arguments;
 mod sides;
@@ -47,7 +52,7 @@ pub fn make_term(
     term: Term,
 ) -> Making
     requires { ⌜ ((table : Table) × Held table (arrays (now terms) (now chains) (now mentions)) n) ⌝ }
-    requires { ⌜ TermTaken term ⌝ }
+    requires { ⌜ (every zeroIfUnused (wordFields (wordIn term)) (fieldsIn term) ≡ true) × (fieldsIn term .a < nameLimit) ⌝ }
     ensures { λ r. ⌜ ((table : Table) → Held table (arrays (now (terms .entry)) (now (chains .entry)) (now (mentions .entry))) n
         → MakesTerm table term (arrays (now (terms .entry)) (now (chains .entry)) (now (mentions .entry)))
         (arrays (now (terms .exit)) (now (chains .exit)) (now (mentions .exit))) n r) ⌝ }

@@ -6,7 +6,9 @@ use Rattle.freshness.proofs.in_term.Statement.{statement}
 use Rattle.freshness.proofs.in_term.Tie as tie
 
 returns : tie.Need-returns
-returns c table R e = let g = c .before .before in sym (not-beyond table (g .args .w .0) (g .args .term .0) (omega (arith, g)) (omega (arith, g)))
+returns c table R e =
+    let g = c .before .before in
+    sym (not-beyond table (g .args .w .0) (g .args .term .0) (omega (arith, g)) (omega (arith, g)))
 
 mentions-requires : tie.Need-mentions-requires
 mentions-requires c κs = let g = c .before .before in (omega (arith, g), omega (arith, g), omega (arith, g))

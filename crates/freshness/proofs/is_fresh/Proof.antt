@@ -15,7 +15,8 @@ view-requires c κs = (c .pre .0, omega (arith, c .pre))
 returns : tie.Need-returns
 unfolding isFresh
 returns c table E R e =
-    let i = not-variable (at table (c .before .before .args .w .0)) (c .before .view .result) (sym (c .before .view .ensures table E .is)) (c .match .keys2) in
+    let v = c .before in
+    let i = not-variable (at table (v .before .args .w .0)) (v .view .result) (sym (v .view .ensures table E .is)) (c .match .keys2) in
     rw i
 
 returns-2 : tie.Need-returns-2

@@ -43,8 +43,8 @@ loop-less c = search needs
 loop-again : tie.Need-loop-again Inv-loop μ-loop
 loop-again c =
     let s = c .before .before .before .before .before in
-    filled-more _ _ _ (s .pre .1) (omega (arith, s .pre)) _ _ _ _ (c .before .before .before .loop-test .taken) (c .before .before .before .before .loop .inv)
-    (c .before .before .own-word .ensures) (c .joined-word .ensures)
+    filled-more _ _ _ (s .pre .1) (omega (arith, s .pre)) _ _ _ _ (c .before .before .before .loop-test .taken)
+    (c .before .before .before .before .loop .inv) (c .before .before .own-word .ensures) (c .joined-word .ensures)
 
 returns : tie.Need-returns Inv-loop μ-loop
 returns c =

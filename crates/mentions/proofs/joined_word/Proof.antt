@@ -9,7 +9,8 @@ use Rattle.mentions.proofs.joined_word.Tie as tie
 returns : tie.Need-returns
 returns c =
     let s = c .before .before .before .before in
-    joined-bits (now (s .args .rows)) (argumentsIn (s .args .k)) (s .args .i) (c .before .before .before .word-at .ensures) (c .before .before .word-at2 .ensures) (c .before .word-at3 .ensures) (c .word-at4 .ensures)
+    joined-bits (now (s .args .rows)) (argumentsIn (s .args .k)) (s .args .i) (c .before .before .before .word-at .ensures)
+    (c .before .before .word-at2 .ensures) (c .before .word-at3 .ensures) (c .word-at4 .ensures)
 
 pub joined-word-spec : {M : Type 1} → statement M
 joined-word-spec =

@@ -1,6 +1,7 @@
 -- Each return knows the checks that held and the one that failed; where all hold, the arrays hold the table with the term.
 use mathlib.Core.Path.{_≡_, refl, sym, _∙_, ap}
-use mathlib.Core.Bool.{true, not}
+use mathlib.Core.Bool.{Bool, true, not}
+use mathlib.Core.List.{[], _∷_, _++_}
 use mathlib.Core.Option.{Option}
 use native.Mathlib.Omega.{arith}
 use lib.Dec.{ltb}
@@ -11,14 +12,15 @@ use borrow.Author.Tests.{lt-ltb, le-ltb, not-true, not-false}
 use Rattle.tableau.specs.Basics.{isSome, every}
 use Rattle.tableau.specs.Fields.{wordFields}
 use Rattle.tableau.specs.Terms.{TermNo, Table, numberOf, maxTerms}
-use Rattle.tableau.specs.Reply.{ofSort}
+use Rattle.tableau.specs.Reply.{ofSort, isNew, termLine}
+use Rattle.syntax.specs.declared.Term.{Term}
 use Rattle.syntax.specs.Syntax.{wordIn, fieldsIn, termIn}
 use Rattle.packing.specs.Packing.{Packable}
 use Rattle.table.specs.Held.{foundOf}
 use Rattle.mentions.proofs.GrowthLaws.{ArgumentsMade, arguments-below}
 use Rattle.terms.specs.Arrays.{arrays, Held}
 use Rattle.terms.specs.Lines.{makingOf}
-use Rattle.terms.proofs.LineLaws.{term-line, found-old, found-new}
+use Rattle.terms.proofs.LineLaws.{termChecks, term-line, found-old, found-new}
 use Rattle.terms.proofs.GrowthLaws.{term-packable, held-grown}
 use Rattle.terms.proofs.make_term.Statement.{statement}
 use Rattle.terms.proofs.make_term.Tie as tie
@@ -45,33 +47,44 @@ seven c table H = let q : length table ≡ c .before .args .n = H .count in lt-l
 
 eight : (c : tie.Else2) (table : Table) → HeldBefore (start c) table → ArgumentsMade table (start c .args .term)
 eight c table H = record {
-  unusedZero = start c .pre .1 .unusedZero;
+  unusedZero = start c .pre .1 .0;
   made = sym (c .before .are-made .ensures table (H .count)) ∙ not-false _ (c .if2 .left);
 }
 
 packable : (c : tie.Else2) (table : Table) → HeldBefore (start c) table → Packable (termIn (start c .args .term))
-packable c table H = term-packable table (start c .args .term) (eight c table H) (H .searchable .entries .few) (start c .pre .1 .small)
+packable c table H = term-packable table (start c .args .term) (eight c table H) (H .searchable .entries .few) (start c .pre .1 .1)
 
 nine : (c : tie.Else3) (table : Table) → HeldBefore (start (eighth c)) table
     → every (ofSort table) (wordFields (wordIn (start (eighth c) .args .term))) (fieldsIn (start (eighth c) .args .term)) ≡ true
 nine c table H = sym (c .before .have-sorts .ensures table (H .searchable .entries)) ∙ not-false _ (c .if3 .left)
 
+abbrev given : tie.After-search → Term
+given c = start (eighth (ninth c)) .args .term
+
 found : (c : tie.After-search) (table : Table) → HeldBefore (start (eighth (ninth c))) table
-    → foundOf (numberOf table (termIn (start (eighth (ninth c)) .args .term))) ≡ c .search .result
+    → foundOf (numberOf table (termIn (given c))) ≡ c .search .result
 found c table H = sym (c .search .ensures table (H .searchable) _
     (record { is = c .before .before .before .pack .ensures; packable = packable (eighth (ninth c)) table H }))
+
+-- so check 10 decides
+line : (c : tie.After-search) (table : Table) → HeldBefore (start (eighth (ninth c))) table → {ten : Bool} → isNew table (termIn (given c)) ≡ ten
+    → termLine table (wordIn (given c)) (fieldsIn (given c)) ≡ termChecks true true true true ten (table ++ (termIn (given c) ∷ []))
+line c table H ten =
+    let e = eighth (ninth c) in
+    term-line table (given c) (start e .pre .1 .0) (seven (e .before .before) table H) (eight e table H .made) (nine (ninth c) table H) ten
 
 returns : tie.Need-returns
 returns c = λ table H.
     let q : length table ≡ c .before .args .n = H .count in record {
-      reply = sym (ap makingOf (term-line table (c .before .args .term) (c .before .pre .1 .unusedZero) (le-ltb (length table) maxTerms (omega arith)) refl refl refl));
+      reply = sym (ap makingOf (term-line table (c .before .args .term) (c .before .pre .1 .0) (le-ltb (length table) maxTerms (omega arith))
+          refl refl refl));
       after = refl;
     }
 
 returns-2 : tie.Need-returns-2
 returns-2 c = λ table H.
     let s = c .before .before .before in record {
-      reply = sym (ap makingOf (term-line table (s .args .term) (s .pre .1 .unusedZero) (seven (c .before .before) table H)
+      reply = sym (ap makingOf (term-line table (s .args .term) (s .pre .1 .0) (seven (c .before .before) table H)
           (sym (c .before .are-made .ensures table (H .count)) ∙ not-true _ (c .if2 .taken)) refl refl));
       after = refl;
     }
@@ -83,7 +96,7 @@ returns-3 : tie.Need-returns-3
 returns-3 c = λ table H.
     let d = c .before .before .before in
     let s = start d in record {
-      reply = sym (ap makingOf (term-line table (s .args .term) (s .pre .1 .unusedZero) (seven (d .before .before) table H) (eight d table H .made)
+      reply = sym (ap makingOf (term-line table (s .args .term) (s .pre .1 .0) (seven (d .before .before) table H) (eight d table H .made)
           (sym (c .before .have-sorts .ensures table (H .searchable .entries)) ∙ not-true _ (c .if3 .taken)) refl));
       after = refl;
     }
@@ -96,11 +109,8 @@ search-requires c κs = let p = start (eighth (c .before .before .before)) .pre 
 
 returns-4 : tie.Need-returns-4
 returns-4 c = λ table H.
-    let n = ninth (c .before .before) in
-    let e = eighth n in
-    let s = start e in record {
-      reply = sym (ap makingOf (term-line table (s .args .term) (s .pre .1 .unusedZero) (seven (e .before .before) table H) (eight e table H .made) (nine n table H)
-          (found-old (numberOf table (termIn (s .args .term))) _ (found (c .before .before) table H ∙ c .enum-told .given .1))));
+    let d = c .before .before in record {
+      reply = sym (ap makingOf (line d table H (found-old (numberOf table (termIn (given d))) _ (found d table H ∙ c .enum-told .given .1))));
       after = refl;
     }
 
@@ -117,13 +127,13 @@ note-requires c κs =
 
 returns-5 : tie.Need-returns-5
 returns-5 c = λ table H.
-    let n = ninth (searched c) in
+    let d = searched c in
+    let n = ninth d in
     let e = eighth n in
     let s = start e in
-    let new = found-new (numberOf table (termIn (s .args .term))) (found (searched c) table H ∙ c .before .before .before .before .before .enum-told2 .given .1) in record {
-      reply = sym (ap makingOf (term-line table (s .args .term) (s .pre .1 .unusedZero) (seven (e .before .before) table H) (eight e table H .made) (nine n table H)
-          (ap (λ (o : Option TermNo). not (isSome o)) new)));
-      after = held-grown table (s .args .term) _ _ _ _ H
+    let new = found-new (numberOf table (termIn (given d))) (found d table H ∙ c .before .before .before .before .before .enum-told2 .given .1) in record {
+      reply = sym (ap makingOf (line d table H (ap (λ (o : Option TermNo). not (isSome o)) new)));
+      after = held-grown table (given d) _ _ _ _ H
           (record {
             room = let q : length table ≡ s .args .n = H .count in omega (arith, e .before .before);
             arguments = eight e table H;
@@ -132,7 +142,7 @@ returns-5 c = λ table H.
             new = new;
           })
           (record {
-            packed = searched c .before .before .before .pack .ensures;
+            packed = d .before .before .before .pack .ensures;
             terms = c .before .before .add .ensures .0;
             chains = c .before .before .add .ensures .1;
             noted = c .note .ensures;

@@ -13,8 +13,9 @@ returns c = λ table E.
     let d = c .before .before .before .before .before .before in
     let a = d .before .args in
     three-hold (ofSort table) (mapFour argumentUse (rowIn (a .row))) (argumentsIn (a .k))
-    (d .has-sort .ensures table E) (c .before .before .before .before .before .if1 .taken) (c .before .before .before .before .has-sort2 .ensures table E)
-    (c .before .before .before .if2 .taken) (c .before .before .has-sort3 .ensures table E) (c .before .if3 .taken) (c .has-sort4 .ensures table E)
+    (d .has-sort .ensures table E) (c .before .before .before .before .before .if1 .taken)
+    (c .before .before .before .before .has-sort2 .ensures table E) (c .before .before .before .if2 .taken)
+    (c .before .before .has-sort3 .ensures table E) (c .before .if3 .taken) (c .has-sort4 .ensures table E)
 
 returns-2 : tie.Need-returns-2
 returns-2 c = λ table E.
@@ -34,7 +35,8 @@ returns-3 c = λ table E.
 returns-4 : tie.Need-returns-4
 returns-4 c = λ table E.
     let a = c .before .before .args in
-    first-fails (ofSort table) (mapFour argumentUse (rowIn (a .row))) (argumentsIn (a .k)) (c .before .has-sort .ensures table E) (c .if1 .left)
+    first-fails (ofSort table) (mapFour argumentUse (rowIn (a .row))) (argumentsIn (a .k))
+    (c .before .has-sort .ensures table E) (c .if1 .left)
 
 pub all-have-sorts-spec : {M : Type 1} → statement M
 all-have-sorts-spec =

@@ -13,8 +13,9 @@ returns c = λ table e.
     let d = c .before .before .before .before .before .before in
     let a = d .before .args in
     three-hold (termOrName table) (mapFour argumentUse (rowIn (a .row))) (argumentsIn (a .k))
-    (d .is-made .ensures table e) (c .before .before .before .before .before .if1 .taken) (c .before .before .before .before .is-made2 .ensures table e)
-    (c .before .before .before .if2 .taken) (c .before .before .is-made3 .ensures table e) (c .before .if3 .taken) (c .is-made4 .ensures table e)
+    (d .is-made .ensures table e) (c .before .before .before .before .before .if1 .taken)
+    (c .before .before .before .before .is-made2 .ensures table e) (c .before .before .before .if2 .taken)
+    (c .before .before .is-made3 .ensures table e) (c .before .if3 .taken) (c .is-made4 .ensures table e)
 
 returns-2 : tie.Need-returns-2
 returns-2 c = λ table e.
@@ -34,7 +35,8 @@ returns-3 c = λ table e.
 returns-4 : tie.Need-returns-4
 returns-4 c = λ table e.
     let a = c .before .before .args in
-    first-fails (termOrName table) (mapFour argumentUse (rowIn (a .row))) (argumentsIn (a .k)) (c .before .is-made .ensures table e) (c .if1 .left)
+    first-fails (termOrName table) (mapFour argumentUse (rowIn (a .row))) (argumentsIn (a .k))
+    (c .before .is-made .ensures table e) (c .if1 .left)
 
 pub all-made-spec : {M : Type 1} → statement M
 all-made-spec = tie.close (tie.spec (λ c κs. tt) (λ c κs. tt) (λ c κs. tt) (λ c κs. tt) returns returns-2 returns-3 returns-4)

@@ -9,9 +9,10 @@ unfolding arguments
 row-of-spec =
     tie.close
     (tie.spec
-    (λ c. c .match .keys1) (λ c κs. tt) (λ c. c .match .keys2) (λ c κs. tt) (λ c. c .match .keys3) (λ c κs. tt) (λ c. c .match .keys4) (λ c κs. tt)
-    (λ c. c .match .keys5) (λ c κs. tt) (λ c. c .match .keys6) (λ c κs. tt) (λ c. c .match .keys7) (λ c κs. tt) (λ c. c .match .keys8) (λ c κs. tt)
-    (λ c. c .match .keys9) (λ c κs. tt) (λ c. c .match .keys10) (λ c κs. tt) (λ c. c .match .keys11) (λ c κs. tt) (λ c. c .match .keys12) (λ c κs. tt)
+    (λ c. c .match .keys1) (λ c κs. tt) (λ c. c .match .keys2) (λ c κs. tt) (λ c. c .match .keys3) (λ c κs. tt)
+    (λ c. c .match .keys4) (λ c κs. tt) (λ c. c .match .keys5) (λ c κs. tt) (λ c. c .match .keys6) (λ c κs. tt)
+    (λ c. c .match .keys7) (λ c κs. tt) (λ c. c .match .keys8) (λ c κs. tt) (λ c. c .match .keys9) (λ c κs. tt)
+    (λ c. c .match .keys10) (λ c κs. tt) (λ c. c .match .keys11) (λ c κs. tt) (λ c. c .match .keys12) (λ c κs. tt)
     (λ c. c .row .ensures ∙ sym (ap arguments (c .before .enum-told .given .1)))
     (λ c. c .row2 .ensures ∙ sym (ap arguments (c .before .enum-told2 .given .1)))
     (λ c. c .row3 .ensures ∙ sym (ap arguments (c .before .enum-told3 .given .1)))

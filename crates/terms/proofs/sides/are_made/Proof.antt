@@ -15,7 +15,8 @@ returns c = λ table e.
 returns-2 : tie.Need-returns-2
 returns-2 c = λ table e.
     let l = c .before .before .args .literal in
-    first-decides (isTerm table (l .right .0)) (c .before .is-term .ensures table e) (c .if1 .left) ∙ both-terms table (l .relation) (sidesIn l)
+    first-decides (isTerm table (l .right .0)) (c .before .is-term .ensures table e) (c .if1 .left)
+    ∙ both-terms table (l .relation) (sidesIn l)
 
 pub are-made-spec : {M : Type 1} → statement M
 are-made-spec = tie.close (tie.spec (λ c κs. tt) (λ c κs. tt) returns returns-2)

@@ -14,4 +14,9 @@ returns-2 c = λ table E.
 
 pub of-sorts-spec : {M : Type 1} → statement M
 of-sorts-spec =
-    tie.close (tie.spec (λ c κs. (c .pre .0, c .pre .1 .0)) (λ c κs. (c .before .before .pre .0, c .before .before .pre .1 .1)) returns returns-2)
+    tie.close
+    (tie.spec
+    (λ c κs. (c .pre .0, c .pre .1 .0))
+    (λ c κs. (c .before .before .pre .0, c .before .before .pre .1 .1))
+    returns
+    returns-2)
