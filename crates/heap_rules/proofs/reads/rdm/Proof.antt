@@ -1,5 +1,4 @@
 use mathlib.Core.Path.{refl, sym, subst}
-use Rattle.tableau.specs.Terms.{Table}
 use Rattle.table.specs.Held.{SmallFound}
 use Rattle.rules.proofs.Laws.{computing, found-at, found-nothing, view-small}
 use Rattle.rules.proofs.Rows.{other-t}
