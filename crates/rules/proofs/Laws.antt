@@ -90,7 +90,7 @@ relation-tag (LiteralView.Nl m n) = refl
 pub same : (R : Relation) → sameRelation R R ≡ true
 same R = eq-eqb (relationIndex R) (relationIndex R) refl
 
--- it has another relation
+-- a literal of another relation
 abbrev pub relationKeys : List ℕ
 relationKeys = 0 ∷ 1 ∷ 2 ∷ 3 ∷ 4 ∷ 5 ∷ []
 
