@@ -12,7 +12,7 @@ use Rattle.tableau.specs.Tree.{Checked, refused, passed, answer}
 use Rattle.packing.specs.declared.LiteralView.{LiteralView}
 use Rattle.packing.specs.Packing.{literalOf}
 use Rattle.rules.specs.declared.outcome.Outcome.{Outcome}
-use Rattle.rules.specs.Answer.{Concludes, Room, answerOf}
+use Rattle.rules.specs.Answer.{Concludes, Room}
 use Rattle.rules.proofs.Laws.{by-test}
 use Rattle.equality_rules.specs.Closing.{closesIf}
 

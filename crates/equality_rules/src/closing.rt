@@ -26,7 +26,7 @@ fn closes(a: TermNumber, b: TermNumber, x: TermNumber, y: TermNumber) -> Outcome
     Outcome::Closes
 }
 
-// a in b; a ni b, or a eq b; a ne b, or a le b; a nl b, closes.
+// a in b; a ni b, or a eq b; a ne b, or a le b; a nl b: closes.
 pub fn cls(p: LiteralView, q: LiteralView) -> Outcome
     ensures { λ r. ⌜ Concludes Anywhere Rule.Cls (some (literalOf p)) (some (literalOf q)) 0 0 r ⌝ }
 {
@@ -39,7 +39,7 @@ pub fn cls(p: LiteralView, q: LiteralView) -> Outcome
     closes(a, b, x, y)
 }
 
-// Its second `or` on.
+// The same from the second row on, where p is no `in`.
 fn cls_equal(p: LiteralView, q: LiteralView) -> Outcome
     requires { ⌜ IsNot Relation.In p ⌝ }
     ensures { λ r. ⌜ Concludes Anywhere Rule.Cls (some (literalOf p)) (some (literalOf q)) 0 0 r ⌝ }
@@ -53,7 +53,7 @@ fn cls_equal(p: LiteralView, q: LiteralView) -> Outcome
     closes(a, b, x, y)
 }
 
-// Its third.
+// The third row, where p is no `eq` either.
 fn cls_ordered(p: LiteralView, q: LiteralView) -> Outcome
     requires { ⌜ IsNot Relation.In p × IsNot Relation.Eq p ⌝ }
     ensures { λ r. ⌜ Concludes Anywhere Rule.Cls (some (literalOf p)) (some (literalOf q)) 0 0 r ⌝ }

@@ -36,7 +36,7 @@ pub fn sym(p: LiteralView) -> Outcome
     outcome::adds_one(literal(Relation::Eq, b, a))
 }
 
-// Its second `or`.
+// The second row, where p is no `eq`.
 fn sym_unequal(p: LiteralView) -> Outcome
     requires { ⌜ SmallLiteral p × IsNot Relation.Eq p ⌝ }
     ensures { λ r. ⌜ Concludes Anywhere Rule.Sym (some (literalOf p)) none 0 0 r ⌝ }
@@ -64,8 +64,8 @@ pub fn trn(p: LiteralView, q: LiteralView) -> Outcome
     outcome::adds_one(literal(Relation::Eq, a, c))
 }
 
-// a eq b; t, w have one word, whose arguments are terms and not a name, and has at least one; at each argument they agree, or t has a and w has b:
-// gives t eq w.
+// a eq b; t, w have one word, whose arguments are terms and not a name, and has at least one; at each argument they agree, or t has a and
+// w has b: gives t eq w.
 pub fn sub(p: LiteralView, t: TermNumber, w: TermNumber, terms: &[u64; table::NUMBERS]) -> Outcome
     requires { ⌜ ((table : Table) × HeldBy (now terms) table) ⌝ }
     requires { ⌜ Small (t .0) × Small (w .0) ⌝ }

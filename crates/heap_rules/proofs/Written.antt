@@ -1,6 +1,6 @@
 -- t is a read of a heap z: what `rdh` and `rdm` ask first.
 use mathlib.Core.Path.{_≡_, _∙_}
-use mathlib.Core.List.{List, [], _∷_}
+use mathlib.Core.List.{List, _∷_}
 use mathlib.Core.Option.{Option, some}
 use Prim.Native.Nat.{ℕ}
 use Rattle.tableau.specs.declared.Operator.{Operator}

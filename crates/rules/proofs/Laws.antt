@@ -1,9 +1,9 @@
 -- What the arms of a `let .. else` say: a literal of another relation, a term of another operator, a search that finds nothing; and what an outcome adds.
 use mathlib.Core.Path.{_≡_, refl, sym, _∙_, ap, subst}
-use mathlib.Core.Bool.{Bool, true, false, not, _&&_, cond}
-use mathlib.Core.List.{List, [], _∷_, map}
+use mathlib.Core.Bool.{Bool, true, false, not, cond}
+use mathlib.Core.List.{List, [], _∷_}
 use mathlib.Core.Option.{Option, none, some}
-use Prim.Native.Nat.{ℕ, suc, _≤_, _<_}
+use Prim.Native.Nat.{ℕ, suc, _≤_}
 use native.Mathlib.Omega.{arith}
 use lib.Dec.{eqb}
 use types.Run.{OneOf}
@@ -21,13 +21,13 @@ use Rattle.tableau.specs.Steps.{argumentsOf, fits, fitsLiteral, met, made, made
 use Rattle.tableau.proofs.Match.{same-operator}
 use Rattle.packing.specs.declared.TermView.{TermView}
 use Rattle.packing.specs.declared.LiteralView.{LiteralView}
-use Rattle.packing.specs.Packing.{viewOf, viewApply, literalOf, relationOf, leftOf, rightOf, number, unpackLiteral, packLiteral, PackableLiteral, Small, SmallView}
+use Rattle.packing.specs.Packing.{viewOf, viewApply, literalOf, relationOf, leftOf, rightOf, number, unpackLiteral, packLiteral, PackableLiteral, SmallView}
 use Rattle.packing.proofs.PackingLaws.{literal-unpack-pack}
 use Rattle.packing.proofs.ViewLaws.{absent, not-among, operator-tag}
 use Rattle.packing.proofs.TermView as term-view
 use Rattle.packing.proofs.LiteralView as literal-view
 use Rattle.table.specs.declared.Found.{Found}
-use Rattle.table.specs.Held.{foundOf, FoundAs, ViewAt, SmallFound}
+use Rattle.table.specs.Held.{foundOf, FoundAs, ViewAt}
 use Rattle.tree.specs.declared.Alternative.{Alternative}
 use Rattle.tree.specs.State.{AtMost}
 use Rattle.rules.specs.declared.outcome.Outcome.{Outcome}
@@ -90,7 +90,7 @@ relation-tag (LiteralView.Nl m n) = refl
 pub same : (R : Relation) → sameRelation R R ≡ true
 same R = eq-eqb (relationIndex R) (relationIndex R) refl
 
--- it has another relation
+-- a literal of another relation
 abbrev pub relationKeys : List ℕ
 relationKeys = 0 ∷ 1 ∷ 2 ∷ 3 ∷ 4 ∷ 5 ∷ []
 

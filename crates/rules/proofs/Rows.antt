@@ -1,5 +1,5 @@
 -- What the functions of rules with like rows answer, said once: a relation, an operator or a side of the row is left open.
-use mathlib.Core.Path.{_≡_, refl, sym, _∙_}
+use mathlib.Core.Path.{_≡_, sym, _∙_}
 use mathlib.Core.Bool.{Bool, true, false}
 use mathlib.Core.List.{List, [], _∷_}
 use mathlib.Core.Option.{Option, none, some}
@@ -14,10 +14,10 @@ use Rattle.tableau.specs.declared.Sort.{Sort}
 use Rattle.tableau.specs.declared.TermNumber.{TermNumber}
 use Rattle.tableau.specs.Basics.{four}
 use Rattle.tableau.specs.Fields.{arguments}
-use Rattle.tableau.specs.Terms.{TermNo, Table, Term, Literal, literal, apply, at, sortOf, sameSort}
+use Rattle.tableau.specs.Terms.{Table, Term, Literal, literal, apply, at, sortOf, sameSort}
 use Rattle.tableau.specs.Rules.{Pattern, letter, operator, –, LiteralPattern, pattern, Need, p∶, q∶, t≐, isRegion, Row, _⟶_, _∈_, _≈_, only, ⟨_⟩, rows, rule, letterU, letterR, letterS}
 use Rattle.tableau.specs.Rules as row
-use Rattle.tableau.specs.Steps.{Letters, bind, given, argumentsOf, fitsLiteral, madeAlternatives}
+use Rattle.tableau.specs.Steps.{Letters, bind, given, fitsLiteral, madeAlternatives}
 use Rattle.packing.specs.declared.LiteralView.{LiteralView}
 use Rattle.packing.specs.declared.TermView.{TermView}
 use Rattle.packing.specs.Packing.{literalOf, viewOf}

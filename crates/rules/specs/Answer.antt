@@ -1,4 +1,5 @@
--- What an outcome of the code says, and the contract of a rule's function: the outcome is the answer of the specification (checks 12, 13 and 14 of a step).
+-- What an outcome of the code says, and the contract of a rule's function: the outcome is the answer of the specification (checks 12, 13
+-- and 14 of a step).
 use mathlib.Core.Path.{_≡_}
 use mathlib.Core.Bool.{Bool, false}
 use mathlib.Core.List.{List, [], _∷_, map}
@@ -77,6 +78,7 @@ pub record Concludes (premise : Table → Type 0) (x : Rule) (P Q : Option speci
   pub answers : (table : Table) → premise table → (fresh : Bool) → answer table fresh P Q t w x ≡ answerOf r
 
 -- the same for a rule that asks for a fresh w
-pub record ConcludesFresh (premise : Table → Type 0) (fresh : Bool) (x : Rule) (P Q : Option specification.Literal) (t w : ℕ) (r : Outcome) : Type 0 where
+pub record ConcludesFresh (premise : Table → Type 0) (fresh : Bool) (x : Rule) (P Q : Option specification.Literal) (t w : ℕ) (r : Outcome)
+    : Type 0 where
   pub room : Room r
   pub answers : (table : Table) → premise table → answer table fresh P Q t w x ≡ answerOf r

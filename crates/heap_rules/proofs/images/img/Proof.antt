@@ -101,7 +101,8 @@ returns-6 c =
     let e = m .before in
     let i = e .before .before .before .before in
     let p = i .before .before .before .before in
-    let b = rw (c .before .before .before .literal .ensures, c .before .before .literal2 .ensures, c .before .literal3 .ensures) at (c .splits-three .ensures) in
+    let l = c .before in
+    let b = rw (l .before .before .literal .ensures, l .before .literal2 .ensures, l .literal3 .ensures) at (c .splits-three .ensures) in
     record {
       room = b .room;
       answers = λ table h fresh.

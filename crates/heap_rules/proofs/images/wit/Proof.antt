@@ -67,7 +67,8 @@ returns-5 c =
     let e = m .before in
     let i = e .before .before in
     let p = i .before .before .before .before in
-    let b = rw (c .before .before .before .literal .ensures, c .before .before .literal2 .ensures, c .before .literal3 .ensures) at (c .adds-three .ensures) in
+    let l = c .before in
+    let b = rw (l .before .before .literal .ensures, l .before .literal2 .ensures, l .literal3 .ensures) at (c .adds-three .ensures) in
     record {
       room = b .room;
       answers = λ table h.

@@ -1,5 +1,4 @@
 use mathlib.Core.Path.{refl, sym, subst}
-use Rattle.tableau.specs.Terms.{Table}
 use Rattle.table.specs.Held.{SmallFound}
 use Rattle.rules.proofs.Laws.{computing, found-at, found-nothing, view-small}
 use Rattle.rules.proofs.Rows.{other-t}
@@ -57,7 +56,8 @@ returns-4 c =
     let j = y .before .before in
     let z = j .before .before in
     let i = z .before .before in
-    let b = rw (c .before .before .before .literal .ensures, c .before .before .literal2 .ensures, c .before .literal3 .ensures) at (c .splits-two-one .ensures) in
+    let l = c .before in
+    let b = rw (l .before .before .literal .ensures, l .before .literal2 .ensures, l .literal3 .ensures) at (c .splits-two-one .ensures) in
     record {
       room = b .room;
       answers = λ table h fresh.
