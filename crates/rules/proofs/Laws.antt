@@ -31,7 +31,7 @@ use Rattle.table.specs.Held.{foundOf, FoundAs, ViewAt, SmallFound}
 use Rattle.tree.specs.declared.Alternative.{Alternative}
 use Rattle.tree.specs.State.{AtMost}
 use Rattle.rules.specs.declared.outcome.Outcome.{Outcome}
-use Rattle.rules.specs.Answer.{Builds, Forms}
+use Rattle.rules.specs.Answer.{IsNot, Builds, Forms}
 
 -- The answer of a rule, computed: to unfold this is to unfold all that runs a row.
 unfoldable pub computing : Type 0
@@ -91,9 +91,6 @@ pub same : (R : Relation) → sameRelation R R ≡ true
 same R = eq-eqb (relationIndex R) (relationIndex R) refl
 
 -- it has another relation
-abbrev pub IsNot : Relation → LiteralView → Type 0
-IsNot R p = sameRelation R (relationOf p) ≡ false
-
 abbrev pub relationKeys : List ℕ
 relationKeys = 0 ∷ 1 ∷ 2 ∷ 3 ∷ 4 ∷ 5 ∷ []
 

@@ -24,8 +24,8 @@ use Rattle.packing.specs.Packing.{literalOf, viewOf}
 use Rattle.table.specs.declared.Found.{Found}
 use Rattle.table.specs.Held.{ViewAt, FoundAs}
 use Rattle.rules.specs.declared.outcome.Outcome.{Outcome}
-use Rattle.rules.specs.Answer.{Builds, Concludes, ConcludesFresh}
-use Rattle.rules.proofs.Laws.{Arguments2, IsNot, Others, by-sides, by-test, computing, found-at, found-nothing, no-arguments, same, turned-eqb, turned-neb}
+use Rattle.rules.specs.Answer.{IsNot, Builds, Concludes, ConcludesFresh}
+use Rattle.rules.proofs.Laws.{Arguments2, Others, by-sides, by-test, computing, found-at, found-nothing, no-arguments, same, turned-eqb, turned-neb}
 
 -- a rule that asks for a fresh w answers so too, where the answer does not hang on it
 pub fresh-or-not : {A : Table → Type 0} {fresh : Bool} {x : Rule} {P Q : Option Literal} {t w : ℕ} {r : Outcome} → Concludes A x P Q t w r

@@ -1,6 +1,6 @@
 -- What an outcome of the code says, and the contract of a rule's function: the outcome is the answer of the specification (checks 12, 13 and 14 of a step).
 use mathlib.Core.Path.{_≡_}
-use mathlib.Core.Bool.{Bool}
+use mathlib.Core.Bool.{Bool, false}
 use mathlib.Core.List.{List, [], _∷_, map}
 use mathlib.Core.Option.{Option}
 use Prim.Native.Nat.{ℕ}
@@ -8,10 +8,11 @@ use Rattle.tableau.specs.declared.Relation.{Relation}
 use Rattle.tableau.specs.declared.Rule.{Rule}
 use Rattle.tableau.specs.declared.TermNumber.{TermNumber}
 use Rattle.tableau.specs.Terms as specification
-use Rattle.tableau.specs.Terms.{Table, Term}
+use Rattle.tableau.specs.Terms.{Table, Term, sameRelation}
 use Rattle.tableau.specs.Tree.{Checked, refused, passed, answer}
 use Rattle.syntax.specs.declared.Literal.{Literal}
-use Rattle.packing.specs.Packing.{unpackLiteral}
+use Rattle.packing.specs.declared.LiteralView.{LiteralView}
+use Rattle.packing.specs.Packing.{unpackLiteral, relationOf}
 use Rattle.table.specs.declared.Found.{Found}
 use Rattle.table.specs.Held.{Entries, Searchable, SmallFound, FoundAs}
 use Rattle.tree.specs.declared.Alternative.{Alternative}
@@ -21,6 +22,10 @@ use Rattle.rules.specs.declared.outcome.Outcome.{Outcome}
 -- a literal of the code, by its parts
 abbrev pub literalWith : Relation → TermNumber → TermNumber → Literal
 literalWith R m n = record { relation = R; left = m; right = n }
+
+-- the literal at a place has another relation
+abbrev pub IsNot : Relation → LiteralView → Type 0
+IsNot R p = sameRelation R (relationOf p) ≡ false
 
 -- THE OUTCOME as the specification has it
 abbrev pub literalsOf : Alternative → List specification.Literal

@@ -2,7 +2,6 @@ use mathlib.Core.Path.{_∙_, ap}
 use mathlib.Core.List.{[], _∷_, map}
 use Rattle.packing.specs.Packing.{unpackLiteral}
 use Rattle.rules.proofs.Laws.{packed-back}
-use borrow.Author.Needs.{needs}
 use Rattle.rules.proofs.outcome.one.Statement.{statement}
 use Rattle.rules.proofs.outcome.one.Tie as tie
 
