@@ -12,14 +12,16 @@ adds-one-requires : tie.Need-adds-one-requires
 adds-one-requires c κs =
     let k = c .before .before in
     let m = k .before .before .before .before in
-    rw (c .literal .ensures) ((rw (m .p .given .1) at (m .before .before .pre .1)) .0, subst SmallFound (k .n .given .1) (k .before .before .on-none .ensures .small))
+    let u = (rw (m .p .given .1) at (m .before .before .pre .1)) .0 in
+    rw (c .literal .ensures) (u, subst SmallFound (k .n .given .1) (k .before .before .on-none .ensures .small))
 
 returns-3 : tie.Need-returns-3
 unfolding computing
 returns-3 c =
     let k = c .before .before .before in
     let m = k .before .before .before .before in
-    named refl refl (m .p .given .1) (k .before .before .on-none .ensures .found) (k .n .given .1) (rw (c .before .literal .ensures) at (c .adds-one .ensures))
+    named refl refl (m .p .given .1) (k .before .before .on-none .ensures .found) (k .n .given .1)
+    (rw (c .before .literal .ensures) at (c .adds-one .ensures))
 
 pub nul-spec : {M : Type 1} → statement M
 unfolding computing
