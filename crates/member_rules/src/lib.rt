@@ -1,5 +1,5 @@
-// The rules that say of a reference that it is in a region: of singletons, of `all` and `nul`, and of any region. Each looks up the terms that its needs name, and
-// searches for those that it would add; what the rule needs and isn't so is refused with 12, a w that is not fresh with 13, a term that is not made with 14.
+// The rules of singletons, of `all` and `nul`, and the cut. Each looks at the terms that its row names and searches for those that it adds: refusal 12 where what
+// the row needs isn't so, then 13 where w is not fresh, then 14 where a term to be added is not made.
 use packing::LiteralView;
 use packing::TermView;
 use rules::outcome;
@@ -67,7 +67,7 @@ pub fn sgi(t: TermNumber, terms: &[u64; table::NUMBERS], chains: &[u16; table::L
     outcome::splits(literal(Relation::Ni, u, a), literal(Relation::In, u, t))
 }
 
-// reference t, region w gives t in w ∥ t ni w.
+// reference t, region w gives t in w ∥ t ni w. Their sorts are asked before, by check 9.
 pub fn cut(t: TermNumber, w: TermNumber) -> Outcome
     requires { ⌜ Small (t .0) × Small (w .0) ⌝ }
     ensures { λ r. ⌜ Concludes Anywhere Rule.Cut none none (t .0) (w .0) r ⌝ }

@@ -1,5 +1,5 @@
-// The rules of equal regions, of intersection, union and difference, and of a region that parts two references. Each looks up the terms that its needs name; what
-// the rule needs and isn't so is refused with 12, in the order of its row.
+// The rules of equal regions, of intersections, unions and differences, and `sep`. Each looks at the terms that its row names; where what the row needs isn't so,
+// the answer is refusal 12.
 use packing::LiteralView;
 use packing::TermView;
 use rules::outcome;

@@ -10,16 +10,18 @@ use Rattle.member_rules.proofs.all.Tie as tie
 -- u in r, and `all` stands in the table
 adds-one-requires : tie.Need-adds-one-requires
 adds-one-requires c κs =
-    let k = c .before .before in
-    let m = k .before .before .before .before in
-    rw (c .literal .ensures) ((rw (m .p .given .1) at (m .before .before .pre .1)) .0, subst SmallFound (k .a .given .1) (k .before .before .on-none .ensures .small))
+    let found = c .before .before in
+    let at-p = found .before .before .before .before in
+    let u = (rw (at-p .p .given .1) at (at-p .before .before .pre .1)) .0 in
+    rw (c .literal .ensures) (u, subst SmallFound (found .a .given .1) (found .before .before .on-none .ensures .small))
 
 returns-3 : tie.Need-returns-3
 unfolding computing
 returns-3 c =
-    let k = c .before .before .before in
-    let m = k .before .before .before .before in
-    named refl refl (m .p .given .1) (k .before .before .on-none .ensures .found) (k .a .given .1) (rw (c .before .literal .ensures) at (c .adds-one .ensures))
+    let found = c .before .before .before in
+    let at-p = found .before .before .before .before in
+    named refl refl (at-p .p .given .1) (found .before .before .on-none .ensures .found) (found .a .given .1)
+    (rw (c .before .literal .ensures) at (c .adds-one .ensures))
 
 pub all-spec : {M : Type 1} → statement M
 unfolding computing
@@ -34,8 +36,8 @@ all-spec =
     (λ c. c .match2 .keys2)
     -- `all` does not stand in the table
     (λ c.
-    let k = c .before .before in
-    not-named refl refl (k .before .before .p .given .1) (k .on-none .ensures .found) (c .enum-told .given .1))
+    let searched = c .before .before in
+    not-named refl refl (searched .before .before .p .given .1) (searched .on-none .ensures .found) (c .enum-told .given .1))
     (λ c κs. tt)
     adds-one-requires
     returns-3)

@@ -17,25 +17,25 @@ returns c =
 returns-2 : tie.Need-returns-2
 unfolding computing
 returns-2 c =
-    let k = c .before .before in
-    let f = not-false (k .before .before .args .fresh) (k .before .if1 .left) in
-    record { room = tt; answers = λ table h. rw (f, found-nothing (k .on-none .ensures .found table h) (c .enum-told .given .1)) }
+    let searched = c .before .before in
+    let f = not-false (searched .before .before .args .fresh) (searched .before .if1 .left) in
+    record { room = tt; answers = λ table h. rw (f, found-nothing (searched .on-none .ensures .found table h) (c .enum-told .given .1)) }
 
 -- w is fresh, and `all` stands in the table
 adds-one-requires : tie.Need-adds-one-requires
 adds-one-requires c κs =
-    let l = c .before .before in
-    let k = l .before .before in
-    rw (c .literal .ensures) (k .before .before .pre .1, subst SmallFound (l .a .given .1) (k .on-none .ensures .small))
+    let found = c .before .before in
+    let searched = found .before .before in
+    rw (c .literal .ensures) (searched .before .before .pre .1, subst SmallFound (found .a .given .1) (searched .on-none .ensures .small))
 
 returns-3 : tie.Need-returns-3
 unfolding computing
 returns-3 c =
-    let l = c .before .before .before in
-    let k = l .before .before in
-    let f = not-false (k .before .before .args .fresh) (k .before .if1 .left) in
-    let b = rw (c .before .literal .ensures) at (c .adds-one .ensures) in
-    record { room = b .room; answers = λ table h. rw (f, found-at (k .on-none .ensures .found table h) (l .a .given .1)) (sym (b .adds)) }
+    let found = c .before .before .before in
+    let searched = found .before .before in
+    let f = not-false (searched .before .before .args .fresh) (searched .before .if1 .left) in
+    let built = rw (c .before .literal .ensures) at (c .adds-one .ensures) in
+    record { room = built .room; answers = λ table h. rw (f, found-at (searched .on-none .ensures .found table h) (found .a .given .1)) (sym (built .adds)) }
 
 pub fir-spec : {M : Type 1} → statement M
 fir-spec =

@@ -10,22 +10,22 @@ use Rattle.member_rules.proofs.sge.Tie as tie
 -- u in sin(v)
 adds-one-requires : tie.Need-adds-one-requires
 adds-one-requires c κs =
-    let k = c .before .before in
-    let m = k .before .before .before .before in
-    let g = m .before .before .pre in
-    rw (c .literal .ensures) ((rw (m .p .given .1) at (g .1)) .0, view-small (g .0) (k .before .before .view .ensures) (k .v .given .1))
+    let at-x = c .before .before in
+    let at-p = at-x .before .before .before .before in
+    let g = at-p .before .before .pre in
+    rw (c .literal .ensures) ((rw (at-p .p .given .1) at (g .1)) .0, view-small (g .0) (at-x .before .before .view .ensures) (at-x .v .given .1))
 
 returns-3 : tie.Need-returns-3
 unfolding computing
 returns-3 c =
-    let k = c .before .before .before in
-    let m = k .before .before .before .before in
-    let b = rw (c .before .literal .ensures) at (c .adds-one .ensures) in
+    let at-x = c .before .before .before in
+    let at-p = at-x .before .before .before .before in
+    let built = rw (c .before .literal .ensures) at (c .adds-one .ensures) in
     record {
-      room = b .room;
+      room = built .room;
       answers = λ table h fresh.
-          let K = is-sin (at table (m .p .given .0 .1 .0 .0)) _ (k .before .before .view .ensures table h .is ∙ k .v .given .1) in
-          rw (m .p .given .1, K .3) (sym (b .adds));
+          let K = is-sin (at table (at-p .p .given .0 .1 .0 .0)) _ (at-x .before .before .view .ensures table h .is ∙ at-x .v .given .1) in
+          rw (at-p .p .given .1, K .3) (sym (built .adds));
     }
 
 pub sge-spec : {M : Type 1} → statement M

@@ -11,37 +11,37 @@ use Rattle.member_rules.proofs.sgi.Tie as tie
 returns-2 : tie.Need-returns-2
 unfolding computing
 returns-2 c =
-    let k = c .before .before .before .before in
-    let t = k .before .before .before .args .t .0 in
+    let at-t = c .before .before .before .before in
+    let t = at-t .before .before .before .args .t .0 in
     record {
       room = tt;
       answers = λ table h fresh.
-          let K = is-sin (at table t) _ (k .before .before .view .ensures table (h .entries) .is ∙ k .u .given .1) in
+          let K = is-sin (at table t) _ (at-t .before .before .view .ensures table (h .entries) .is ∙ at-t .u .given .1) in
           rw (K .3, found-nothing (c .before .before .on-none .ensures .found table h) (c .enum-told .given .1));
     }
 
 -- t is sin(u), and `all` stands in the table
 splits-requires : tie.Need-splits-requires
 splits-requires c κs =
-    let l = c .before .before .before in
-    let k = l .before .before .before .before in
-    let g = k .before .before .before .pre in
-    let u = view-small (g .0) (λ table h. k .before .before .view .ensures table (h .entries)) (k .u .given .1) in
-    let a = subst SmallFound (l .a .given .1) (l .before .before .on-none .ensures .small) in
+    let found = c .before .before .before in
+    let at-t = found .before .before .before .before in
+    let g = at-t .before .before .before .pre in
+    let u = view-small (g .0) (λ table h. at-t .before .before .view .ensures table (h .entries)) (at-t .u .given .1) in
+    let a = subst SmallFound (found .a .given .1) (found .before .before .on-none .ensures .small) in
     rw (c .before .literal .ensures, c .literal2 .ensures) ((u, a), (u, g .1))
 
 returns-3 : tie.Need-returns-3
 unfolding computing
 returns-3 c =
-    let l = c .before .before .before .before in
-    let k = l .before .before .before .before in
-    let t = k .before .before .before .args .t .0 in
-    let b = rw (c .before .before .literal .ensures, c .before .literal2 .ensures) at (c .splits .ensures) in
+    let found = c .before .before .before .before in
+    let at-t = found .before .before .before .before in
+    let t = at-t .before .before .before .args .t .0 in
+    let built = rw (c .before .before .literal .ensures, c .before .literal2 .ensures) at (c .splits .ensures) in
     record {
-      room = b .room;
+      room = built .room;
       answers = λ table h fresh.
-          let K = is-sin (at table t) _ (k .before .before .view .ensures table (h .entries) .is ∙ k .u .given .1) in
-          rw (K .3, found-at (l .before .before .on-none .ensures .found table h) (l .a .given .1)) (sym (b .adds));
+          let K = is-sin (at table t) _ (at-t .before .before .view .ensures table (h .entries) .is ∙ at-t .u .given .1) in
+          rw (K .3, found-at (found .before .before .on-none .ensures .found table h) (found .a .given .1)) (sym (built .adds));
     }
 
 pub sgi-spec : {M : Type 1} → statement M

@@ -19,71 +19,71 @@ returns c =
 returns-2 : tie.Need-returns-2
 unfolding computing
 returns-2 c =
-    let m = c .before .before .before in
-    let t = m .before .before .args .t .0 in
+    let at-p = c .before .before .before in
+    let t = at-p .before .before .args .t .0 in
     record {
       room = tt;
-      answers = λ table h fresh. rw (m .p .given .1, no-arguments Operator.Cup (at table t) (c .before .view .ensures table h .is) (c .match2 .keys2));
+      answers = λ table h fresh. rw (at-p .p .given .1, no-arguments Operator.Cup (at table t) (c .before .view .ensures table h .is) (c .match2 .keys2));
     }
 
 -- x is r
 adds-one-requires : tie.Need-adds-one-requires
 adds-one-requires c κs =
-    let k = c .before .before .before .before .before in
-    let m = k .before .before .before .before in
-    let g = m .before .before .pre .1 in
-    rw (c .literal .ensures) ((rw (m .p .given .1) at (g .0)) .0, g .1)
+    let at-t = c .before .before .before .before .before in
+    let at-p = at-t .before .before .before .before in
+    let g = at-p .before .before .pre .1 in
+    rw (c .literal .ensures) ((rw (at-p .p .given .1) at (g .0)) .0, g .1)
 
 returns-3 : tie.Need-returns-3
 unfolding computing
 returns-3 c =
-    let k = c .before .before .before .before .before .before in
-    let m = k .before .before .before .before in
-    let t = m .before .before .args .t .0 in
-    let b = rw (c .before .literal .ensures) at (c .adds-one .ensures) in
+    let at-t = c .before .before .before .before .before .before in
+    let at-p = at-t .before .before .before .before in
+    let t = at-p .before .before .args .t .0 in
+    let built = rw (c .before .literal .ensures) at (c .adds-one .ensures) in
     record {
-      room = b .room;
+      room = built .room;
       answers = λ table h fresh.
-          let K = is-cup (at table t) _ _ (k .before .before .view .ensures table h .is ∙ k .r .given .1) in
-          rw (m .p .given .1, K .2, eq-eqb _ _ (c .before .before .if1 .taken)) (sym (b .adds));
+          let K = is-cup (at table t) _ _ (at-t .before .before .view .ensures table h .is ∙ at-t .r .given .1) in
+          rw (at-p .p .given .1, K .2, eq-eqb _ _ (c .before .before .if1 .taken)) (sym (built .adds));
     }
 
 -- x is neither r nor s
 returns-4 : tie.Need-returns-4
 unfolding computing
 returns-4 c =
-    let i = c .before .before .before in
-    let k = i .before .before .before .before in
-    let m = k .before .before .before .before in
-    let t = m .before .before .args .t .0 in
+    let not-r = c .before .before .before in
+    let at-t = not-r .before .before .before .before in
+    let at-p = at-t .before .before .before .before in
+    let t = at-p .before .before .args .t .0 in
     record {
       room = tt;
       answers = λ table h fresh.
-          let K = is-cup (at table t) _ _ (k .before .before .view .ensures table h .is ∙ k .r .given .1) in
-          rw (m .p .given .1, K .2, ne-eqb _ _ (i .if1 .left), ne-eqb _ _ (c .if2 .taken));
+          let K = is-cup (at table t) _ _ (at-t .before .before .view .ensures table h .is ∙ at-t .r .given .1) in
+          rw (at-p .p .given .1, K .2, ne-eqb _ _ (not-r .if1 .left), ne-eqb _ _ (c .if2 .taken));
     }
 
 -- x is s, and not r
 adds-one-requires-2 : tie.Need-adds-one-requires-2
 adds-one-requires-2 c κs =
-    let k = c .before .before .before .before .before .before .before .before in
-    let m = k .before .before .before .before in
-    let g = m .before .before .pre .1 in
-    rw (c .literal2 .ensures) ((rw (m .p .given .1) at (g .0)) .0, g .1)
+    let at-t = c .before .before .before .before .before .before .before .before in
+    let at-p = at-t .before .before .before .before in
+    let g = at-p .before .before .pre .1 in
+    rw (c .literal2 .ensures) ((rw (at-p .p .given .1) at (g .0)) .0, g .1)
 
 returns-5 : tie.Need-returns-5
 unfolding computing
 returns-5 c =
-    let i = c .before .before .before .before .before in
-    let k = i .before .before .before .before in
-    let m = k .before .before .before .before in
-    let t = m .before .before .args .t .0 in
-    let b = rw (c .before .literal2 .ensures) at (c .adds-one2 .ensures) in
+    let not-r = c .before .before .before .before .before in
+    let at-t = not-r .before .before .before .before in
+    let at-p = at-t .before .before .before .before in
+    let t = at-p .before .before .args .t .0 in
+    let built = rw (c .before .literal2 .ensures) at (c .adds-one2 .ensures) in
     record {
-      room = b .room;
+      room = built .room;
       answers = λ table h fresh.
-          let K = is-cup (at table t) _ _ (k .before .before .view .ensures table h .is ∙ k .r .given .1) in
-          rw (m .p .given .1, K .2, ne-eqb _ _ (i .if1 .left), eq-eqb _ _ (c .before .before .if2 .left)) (sym (b .adds));
+          let K = is-cup (at table t) _ _ (at-t .before .before .view .ensures table h .is ∙ at-t .r .given .1) in
+          rw (at-p .p .given .1, K .2, ne-eqb _ _ (not-r .if1 .left), eq-eqb _ _ (c .before .before .if2 .left)) (sym (built .adds));
     }
 
 pub cui-spec : {M : Type 1} → statement M

@@ -9,19 +9,19 @@ use Rattle.set_rules.proofs.dfe.Tie as tie
 -- u in dif(r,s)
 adds-two-requires : tie.Need-adds-two-requires
 adds-two-requires c κs =
-    let x = c .before .before .before in
-    let k = x .before .before .before .before in
-    let g = k .before .before in
-    let u = (rw (k .p .given .1) at (g .pre .1)) .0 in
-    let n = view-small (g .pre .0) (x .before .before .view .ensures) (x .r .given .1) in
+    let at-x = c .before .before .before in
+    let at-p = at-x .before .before .before .before in
+    let start = at-p .before .before in
+    let u = (rw (at-p .p .given .1) at (start .pre .1)) .0 in
+    let n = view-small (start .pre .0) (at-x .before .before .view .ensures) (at-x .r .given .1) in
     rw (c .before .literal .ensures, c .literal2 .ensures) ((u, n .0), (u, n .1))
 
 returns-3 : tie.Need-returns-3
 unfolding computing
 returns-3 c =
-    let x = c .before .before .before .before in
-    let k = x .before .before .before .before in
-    parted refl refl (k .p .given .1) (x .r .given .1) (λ e. is-dif e _ _) (x .before .before .view .ensures) (λ table. refl)
+    let at-x = c .before .before .before .before in
+    let at-p = at-x .before .before .before .before in
+    parted refl refl (at-p .p .given .1) (at-x .r .given .1) (λ e. is-dif e _ _) (at-x .before .before .view .ensures) (λ table. refl)
     (rw (c .before .before .literal .ensures, c .before .literal2 .ensures) at (c .adds-two .ensures))
 
 pub dfe-spec : {M : Type 1} → statement M

@@ -11,56 +11,56 @@ use Rattle.set_rules.proofs.dfi.Tie as tie
 returns-3 : tie.Need-returns-3
 unfolding computing
 returns-3 c =
-    let n = c .before .before .before .before in
-    other-member refl refl (ap literalOf (n .before .before .before .p .given .1)) (ap literalOf (n .q .given .1)) (c .if1 .taken)
+    let at-q = c .before .before .before .before in
+    other-member refl refl (ap literalOf (at-q .before .before .before .p .given .1)) (ap literalOf (at-q .q .given .1)) (c .if1 .taken)
 
 -- t is not dif(a,b)
 returns-4 : tie.Need-returns-4
 unfolding computing
 returns-4 c =
-    let n = c .before .before .before .before .before .before in
-    other-term refl refl (ap literalOf (n .before .before .before .p .given .1)) (ap literalOf (n .q .given .1))
+    let at-q = c .before .before .before .before .before .before in
+    other-term refl refl (ap literalOf (at-q .before .before .before .p .given .1)) (ap literalOf (at-q .q .given .1))
     (c .before .view .ensures) (c .match3 .keys2)
 
 -- r is not a
 returns-5 : tie.Need-returns-5
 unfolding computing
 returns-5 c =
-    let k = c .before .before .before .before in
-    let i = k .before .before .before in
-    let n = i .before .before .before .before in
-    other-first refl refl (ap literalOf (n .before .before .before .p .given .1)) (ap literalOf (n .q .given .1))
-    (λ e. is-dif e _ _) (i .if1 .left) (k .a .given .1) (k .before .before .view .ensures) (c .if2 .taken)
+    let at-t = c .before .before .before .before in
+    let same-u = at-t .before .before .before in
+    let at-q = same-u .before .before .before .before in
+    other-first refl refl (ap literalOf (at-q .before .before .before .p .given .1)) (ap literalOf (at-q .q .given .1))
+    (λ e. is-dif e _ _) (same-u .if1 .left) (at-t .a .given .1) (at-t .before .before .view .ensures) (c .if2 .taken)
 
 -- s is not b
 returns-6 : tie.Need-returns-6
 unfolding computing
 returns-6 c =
-    let j = c .before .before .before in
-    let k = j .before .before .before .before in
-    let i = k .before .before .before in
-    let n = i .before .before .before .before in
-    other-second refl refl (ap literalOf (n .before .before .before .p .given .1)) (ap literalOf (n .q .given .1))
-    (λ e. is-dif e _ _) (i .if1 .left) (k .a .given .1) (k .before .before .view .ensures) (j .if2 .left) (c .if3 .taken)
+    let same-r = c .before .before .before in
+    let at-t = same-r .before .before .before .before in
+    let same-u = at-t .before .before .before in
+    let at-q = same-u .before .before .before .before in
+    other-second refl refl (ap literalOf (at-q .before .before .before .p .given .1)) (ap literalOf (at-q .q .given .1))
+    (λ e. is-dif e _ _) (same-u .if1 .left) (at-t .a .given .1) (at-t .before .before .view .ensures) (same-r .if2 .left) (c .if3 .taken)
 
 -- u in r, u ni s, and t is dif(r,s)
 adds-one-requires : tie.Need-adds-one-requires
 adds-one-requires c κs =
-    let k = c .before .before .before .before .before .before .before .before in
-    let n = k .before .before .before .before .before .before .before in
-    let m = n .before .before .before in
-    let g = m .before .before .pre .1 in
-    rw (c .literal .ensures) ((rw (m .p .given .1) at (g .0)) .0, g .2)
+    let at-t = c .before .before .before .before .before .before .before .before in
+    let at-q = at-t .before .before .before .before .before .before .before in
+    let at-p = at-q .before .before .before in
+    let g = at-p .before .before .pre .1 in
+    rw (c .literal .ensures) ((rw (at-p .p .given .1) at (g .0)) .0, g .2)
 
 returns-7 : tie.Need-returns-7
 unfolding computing
 returns-7 c =
-    let j = c .before .before .before .before .before in
-    let k = j .before .before .before .before in
-    let i = k .before .before .before in
-    let n = i .before .before .before .before in
-    joined refl refl (ap literalOf (n .before .before .before .p .given .1)) (ap literalOf (n .q .given .1))
-    (λ e. is-dif e _ _) (i .if1 .left) (k .a .given .1) (k .before .before .view .ensures) (j .if2 .left) (c .before .before .if3 .left)
+    let same-r = c .before .before .before .before .before in
+    let at-t = same-r .before .before .before .before in
+    let same-u = at-t .before .before .before in
+    let at-q = same-u .before .before .before .before in
+    joined refl refl (ap literalOf (at-q .before .before .before .p .given .1)) (ap literalOf (at-q .q .given .1))
+    (λ e. is-dif e _ _) (same-u .if1 .left) (at-t .a .given .1) (at-t .before .before .view .ensures) (same-r .if2 .left) (c .before .before .if3 .left)
     (rw (c .before .literal .ensures) at (c .adds-one .ensures))
 
 pub dfi-spec : {M : Type 1} → statement M

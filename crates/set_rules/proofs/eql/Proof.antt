@@ -11,49 +11,49 @@ use Rattle.set_rules.proofs.eql.Tie as tie
 returns-3 : tie.Need-returns-3
 unfolding computing
 returns-3 c =
-    let k = c .before .before in
-    right-other refl (k .before .before .before .before .p .given .1) (region (k .before .before .sort-of .ensures) (k .enum-told .given .1))
+    let left = c .before .before in
+    right-other refl (left .before .before .before .before .p .given .1) (region (left .before .before .sort-of .ensures) (left .enum-told .given .1))
     (no-region (c .before .sort-of2 .ensures) (c .match3 .keys2))
 
 -- q is not u in x
 returns-4 : tie.Need-returns-4
 unfolding computing
 returns-4 c =
-    let k = c .before in
-    let l = k .before .before .before in
-    let m = l .before .before .before .before in
-    let q = m .before .before .args .q in
-    not-member refl (m .p .given .1) (region (l .before .before .sort-of .ensures) (l .enum-told .given .1))
-    (region (k .before .before .sort-of2 .ensures) (k .enum-told2 .given .1)) q (is-not Relation.In q (c .match4 .keys2))
+    let right = c .before in
+    let left = right .before .before .before in
+    let at-p = left .before .before .before .before in
+    let q = at-p .before .before .args .q in
+    not-member refl (at-p .p .given .1) (region (left .before .before .sort-of .ensures) (left .enum-told .given .1))
+    (region (right .before .before .sort-of2 .ensures) (right .enum-told2 .given .1)) q (is-not Relation.In q (c .match4 .keys2))
 
 -- x is not s
 returns-5 : tie.Need-returns-5
 unfolding computing
 returns-5 c =
-    let n = c .before .before .before .before in
-    let k = n .before .before in
-    let l = k .before .before .before in
-    let m = l .before .before .before .before in
-    other-side refl (m .p .given .1) (region (l .before .before .sort-of .ensures) (l .enum-told .given .1))
-    (region (k .before .before .sort-of2 .ensures) (k .enum-told2 .given .1)) (n .q .given .1) refl (c .if1 .taken)
+    let at-q = c .before .before .before .before in
+    let right = at-q .before .before in
+    let left = right .before .before .before in
+    let at-p = left .before .before .before .before in
+    other-side refl (at-p .p .given .1) (region (left .before .before .sort-of .ensures) (left .enum-told .given .1))
+    (region (right .before .before .sort-of2 .ensures) (right .enum-told2 .given .1)) (at-q .q .given .1) refl (c .if1 .taken)
 
 -- u in s
 adds-one-requires : tie.Need-adds-one-requires
 adds-one-requires c κs =
-    let n = c .before .before .before .before .before in
-    let m = n .before .before .before .before .before .before .before .before .before in
-    let h = rw (m .p .given .1, n .q .given .1) at (m .before .before .pre .1) in
+    let at-q = c .before .before .before .before .before in
+    let at-p = at-q .before .before .before .before .before .before .before .before .before in
+    let h = rw (at-p .p .given .1, at-q .q .given .1) at (at-p .before .before .pre .1) in
     rw (c .literal .ensures) (h .1 .0, h .0 .0)
 
 returns-6 : tie.Need-returns-6
 unfolding computing
 returns-6 c =
-    let n = c .before .before .before .before .before .before in
-    let k = n .before .before in
-    let l = k .before .before .before in
-    let m = l .before .before .before .before in
-    carried refl (m .p .given .1) (region (l .before .before .sort-of .ensures) (l .enum-told .given .1))
-    (region (k .before .before .sort-of2 .ensures) (k .enum-told2 .given .1)) (n .q .given .1) refl (c .before .before .if1 .left) refl
+    let at-q = c .before .before .before .before .before .before in
+    let right = at-q .before .before in
+    let left = right .before .before .before in
+    let at-p = left .before .before .before .before in
+    carried refl (at-p .p .given .1) (region (left .before .before .sort-of .ensures) (left .enum-told .given .1))
+    (region (right .before .before .sort-of2 .ensures) (right .enum-told2 .given .1)) (at-q .q .given .1) refl (c .before .before .if1 .left) refl
     (rw (c .before .literal .ensures) at (c .adds-one .ensures))
 
 pub eql-spec : {M : Type 1} → statement M
@@ -68,7 +68,7 @@ eql-spec =
     (λ c. c .match2 .keys1)
     -- r is no region
     (λ c. left-other refl (c .before .before .before .p .given .1) (no-region (c .before .sort-of .ensures) (c .match2 .keys2)))
-    (λ c κs. let m = c .before .before .before .before in let g = m .before .before .pre in (g .0, (rw (m .p .given .1) at (g .1 .0)) .1))
+    (λ c κs. let at-p = c .before .before .before .before in let g = at-p .before .before .pre in (g .0, (rw (at-p .p .given .1) at (g .1 .0)) .1))
     (λ c. c .match3 .keys1)
     returns-3
     (λ c. c .match4 .keys1)

@@ -27,13 +27,13 @@ returns-2 c = record {
 returns-3 : tie.Need-returns-3
 unfolding computing
 returns-3 c =
-    let k = c .before .before in
+    let left = c .before .before in
     record {
       room = tt;
       answers = λ table h.
           rw (
-            k .before .before .before .before .p .given .1,
-            region (k .before .before .sort-of .ensures) (k .enum-told .given .1) table h,
+            left .before .before .before .before .p .given .1,
+            region (left .before .before .sort-of .ensures) (left .enum-told .given .1) table h,
             no-region (c .before .sort-of2 .ensures) (c .match3 .keys2) table h,
           );
     }
@@ -42,17 +42,17 @@ returns-3 c =
 returns-4 : tie.Need-returns-4
 unfolding computing
 returns-4 c =
-    let l = c .before in
-    let k = l .before .before .before in
-    let m = k .before .before .before .before in
-    let f = not-true (m .before .before .args .fresh) (c .if1 .taken) in
+    let right = c .before in
+    let left = right .before .before .before in
+    let at-p = left .before .before .before .before in
+    let f = not-true (at-p .before .before .args .fresh) (c .if1 .taken) in
     record {
       room = tt;
       answers = λ table h.
           rw (
-            m .p .given .1,
-            region (k .before .before .sort-of .ensures) (k .enum-told .given .1) table h,
-            region (l .before .before .sort-of2 .ensures) (l .enum-told2 .given .1) table h,
+            at-p .p .given .1,
+            region (left .before .before .sort-of .ensures) (left .enum-told .given .1) table h,
+            region (right .before .before .sort-of2 .ensures) (right .enum-told2 .given .1) table h,
             f,
           );
     }
@@ -60,35 +60,35 @@ returns-4 c =
 -- r ne s, and w is fresh
 splits-two-two-requires : tie.Need-splits-two-two-requires
 splits-two-two-requires c κs =
-    let l = c .before .before .before .before .before in
-    let m = l .before .before .before .before .before .before .before in
-    let g = m .before .before .pre .1 in
-    let h = rw (m .p .given .1) at (g .0) in
+    let right = c .before .before .before .before .before in
+    let at-p = right .before .before .before .before .before .before .before in
+    let g = at-p .before .before .pre .1 in
+    let h = rw (at-p .p .given .1) at (g .0) in
     rw (c .before .before .before .literal .ensures, c .before .before .literal2 .ensures, c .before .literal3 .ensures, c .literal4 .ensures)
     (((g .1, h .0), (g .1, h .1)), ((g .1, h .0), (g .1, h .1)))
 
 returns-5 : tie.Need-returns-5
 unfolding computing
 returns-5 c =
-    let l = c .before .before .before .before .before .before in
-    let k = l .before .before .before in
-    let m = k .before .before .before .before in
-    let f = not-false (m .before .before .args .fresh) (c .before .before .before .before .before .if1 .left) in
-    let b = rw (
+    let right = c .before .before .before .before .before .before in
+    let left = right .before .before .before in
+    let at-p = left .before .before .before .before in
+    let f = not-false (at-p .before .before .args .fresh) (c .before .before .before .before .before .if1 .left) in
+    let built = rw (
       c .before .before .before .before .literal .ensures,
       c .before .before .before .literal2 .ensures,
       c .before .before .literal3 .ensures,
       c .before .literal4 .ensures,
     ) at (c .splits-two-two .ensures) in
     record {
-      room = b .room;
+      room = built .room;
       answers = λ table h.
           rw (
-            m .p .given .1,
-            region (k .before .before .sort-of .ensures) (k .enum-told .given .1) table h,
-            region (l .before .before .sort-of2 .ensures) (l .enum-told2 .given .1) table h,
+            at-p .p .given .1,
+            region (left .before .before .sort-of .ensures) (left .enum-told .given .1) table h,
+            region (right .before .before .sort-of2 .ensures) (right .enum-told2 .given .1) table h,
             f,
-          ) (sym (b .adds));
+          ) (sym (built .adds));
     }
 
 pub ext-spec : {M : Type 1} → statement M
@@ -100,7 +100,7 @@ ext-spec =
     (λ c κs. let g = c .before .before .before .pre in (g .0, (rw (c .before .p .given .1) at (g .1 .0)) .0))
     (λ c. c .match2 .keys1)
     returns-2
-    (λ c κs. let m = c .before .before .before .before in let g = m .before .before .pre in (g .0, (rw (m .p .given .1) at (g .1 .0)) .1))
+    (λ c κs. let at-p = c .before .before .before .before in let g = at-p .before .before .pre in (g .0, (rw (at-p .p .given .1) at (g .1 .0)) .1))
     (λ c. c .match3 .keys1)
     returns-3
     returns-4

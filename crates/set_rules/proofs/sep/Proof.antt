@@ -11,29 +11,29 @@ use Rattle.set_rules.proofs.sep.Tie as tie
 returns-3 : tie.Need-returns-3
 unfolding computing
 returns-3 c =
-    let n = c .before .before .before .before in
+    let at-q = c .before .before .before .before in
     record {
       room = tt;
-      answers = λ table h fresh. rw (n .before .before .before .p .given .1, n .q .given .1, ne-eqb _ _ (c .if1 .taken));
+      answers = λ table h fresh. rw (at-q .before .before .before .p .given .1, at-q .q .given .1, ne-eqb _ _ (c .if1 .taken));
     }
 
 -- u in r, v ni r
 adds-one-requires : tie.Need-adds-one-requires
 adds-one-requires c κs =
-    let n = c .before .before .before .before .before in
-    let m = n .before .before .before in
-    let h = rw (m .p .given .1, n .q .given .1) at (m .before .before .pre) in
+    let at-q = c .before .before .before .before .before in
+    let at-p = at-q .before .before .before in
+    let h = rw (at-p .p .given .1, at-q .q .given .1) at (at-p .before .before .pre) in
     rw (c .literal .ensures) (h .0 .0, h .1 .0)
 
 returns-4 : tie.Need-returns-4
 unfolding computing
 returns-4 c =
-    let n = c .before .before .before .before .before .before in
-    let b = rw (c .before .literal .ensures) at (c .adds-one .ensures) in
+    let at-q = c .before .before .before .before .before .before in
+    let built = rw (c .before .literal .ensures) at (c .adds-one .ensures) in
     record {
-      room = b .room;
+      room = built .room;
       answers = λ table h fresh.
-          rw (n .before .before .before .p .given .1, n .q .given .1, eq-eqb _ _ (c .before .before .if1 .left)) (sym (b .adds));
+          rw (at-q .before .before .before .p .given .1, at-q .q .given .1, eq-eqb _ _ (c .before .before .if1 .left)) (sym (built .adds));
     }
 
 pub sep-spec : {M : Type 1} → statement M
