@@ -1,6 +1,8 @@
 -- A side is that of `rep`; else t is a term.
 use mathlib.Core.Path.{_≡_, sym, ap, subst}
 use Rattle.tableau.specs.Fields.{ruleFields}
+use denote.Ref.{now}
+use Rattle.rules.specs.declared.outcome.Outcome.{Outcome}
 use Rattle.syntax.specs.declared.ThirdField as declared
 use Rattle.syntax.specs.Syntax.{ThirdFits, thirdIn}
 use Rattle.steps.specs.Infers.{Given, Infers}
@@ -9,7 +11,11 @@ use borrow.Author.Needs.{needs}
 use Rattle.steps.proofs.concluding.conclude.Statement.{statement}
 use Rattle.steps.proofs.concluding.conclude.Tie as tie
 
--- what is given, where field t is known
+-- the outcome, where field t is known
+abbrev Answers : tie.Start → declared.ThirdField → Outcome → Type 0
+Answers s k r = Infers (s .args .rule) (s .args .p) (s .args .q) (thirdIn k) (s .args .w .0) (s .args .fresh) (now (s .args .terms)) (now (s .args .chains)) r
+
+-- what is given there
 abbrev given : (s : tie.Start) (k : declared.ThirdField) → s .args .third ≡ k → Given (s .args .rule) (thirdIn k) (s .args .w .0)
 given s k e = subst (λ (f : declared.ThirdField). Given (s .args .rule) (thirdIn f) (s .args .w .0)) e (s .pre .1 .2)
 
@@ -27,14 +33,13 @@ unfolding ruleFields
 returns c =
     let s = c .before .before .before .before in
     let e = c .before .before .third .given .1 in
-    subst (λ (k : declared.ThirdField). Infers (s .args .rule) (s .args .p) (s .args .q) (thirdIn k) (s .args .w .0) (s .args .fresh) _ _ (c .rep .result)) (sym e)
+    subst (λ (k : declared.ThirdField). Answers s k (c .rep .result)) (sym e)
     (infers (is-rep (s .args .rule) _ (fits s _ e)) (given s _ e) (λ table S. tt) (c .rep .ensures))
 
 returns-2 : tie.Need-returns-2
 returns-2 c =
     let s = c .before .before .before .before in
-    subst (λ (k : declared.ThirdField). Infers (s .args .rule) (s .args .p) (s .args .q) (thirdIn k) (s .args .w .0) (s .args .fresh) _ _ (c .by-rule .result))
-    (sym (c .before .before .third2 .given .1)) (c .by-rule .ensures)
+    subst (λ (k : declared.ThirdField). Answers s k (c .by-rule .result)) (sym (c .before .before .third2 .given .1)) (c .by-rule .ensures)
 
 pub conclude-spec : {M : Type 1} → statement M
 conclude-spec = tie.close (tie.spec (λ c. search needs) (λ c κs. search needs) (λ c. search needs) by-rule-requires returns returns-2)

@@ -1,0 +1,109 @@
+-- When the freshness of w matters.
+use mathlib.Core.Path.{_≡_, refl, sym, _∙_, ap}
+use mathlib.Core.Bool.{Bool, true, false, _&&_, _||_, not, cond, false≢true}
+use mathlib.Core.List.{List, [], _∷_}
+use mathlib.Core.Option.{Option, none, some}
+use Prim.Native.Nat.{ℕ, _≤_}
+use lib.Dec.{leb, eqb}
+use lib.ListN.{length}
+use types.Run.{OneOf}
+use borrow.Author.Tests.{leb-true, not-true}
+use Rattle.tableau.specs.declared.Reason.{Reason}
+use Rattle.tableau.specs.declared.Relation.{Relation}
+use Rattle.tableau.specs.declared.Rule.{Rule}
+use Rattle.tableau.specs.Basics.{then, guard, Four, every}
+use Rattle.tableau.specs.Words.{ruleNames}
+use Rattle.tableau.specs.Fields.{TermField, unused, term, of, termUse, ruleFields, ruleUses}
+use Rattle.tableau.specs.Terms.{Table, Literal, literal, at, sameRelation}
+use Rattle.tableau.specs.Rules.{Row, Kind, rows, congruence, replacement, rule}
+use Rattle.tableau.specs.Steps.{Letters, Conclusion, addsOne, congruent, given, met, orElse, concludeRows, concludeSub, concludeRep, conclude}
+use Rattle.tableau.specs.Tree.{Checked, _>>=_, _>>_, require, requireSome, answer}
+use Rattle.tableau.specs.Reply.{isTerm, termOrName}
+use Rattle.tableau.proofs.Bools.{both-true, both-false, every-true}
+use Rattle.tableau.proofs.Places.{rules, placeOf, placesBut, every-rule, other-rule}
+use Rattle.steps.specs.Infers.{anyFresh, freshKind, asksFresh}
+
+-- FRESHNESS: a conclusion that does not ask for it
+abbrev Unasked : Option Conclusion → Type 0
+Unasked none = Unit {0}
+Unasked (some c) = c .fresh ≡ false
+
+-- the conclusions of `sub` and `rep` do not
+unasked-either : (e f g : Bool) (l m : Literal) → Unasked (guard e (cond f (some (addsOne l)) (cond g (some (addsOne m)) none)))
+unasked-either false f g l m = tt
+unasked-either true true g l m = refl
+unasked-either true false true l m = refl
+unasked-either true false false l m = tt
+
+unasked-then : {A : Type 0} (m : Option A) (k : A → Option Conclusion) → ((x : A) → Unasked (k x)) → Unasked (then m k)
+unasked-then none k h = tt
+unasked-then (some x) k h = h x
+
+module _ (table : Table) (P Q : Option Literal) (t w : ℕ) where
+  unasked-sub : (L : Literal) → Unasked (concludeSub table L t w)
+  unfolding concludeSub
+  unasked-sub (literal R a b) = let l = literal Relation.Eq t w in unasked-either (sameRelation Relation.Eq R && congruent a b (at table t) (at table w)) true true l l
+
+  unasked-rep : (L M : Literal) → Unasked (concludeRep L M t)
+  unfolding concludeRep
+  unasked-rep (literal R m n) (literal E a b) = unasked-either (sameRelation Relation.Eq E) (eqb t 1 && eqb m a) (eqb t 2 && eqb n a) (literal R b n) (literal R m b)
+
+  -- the row that is taken does not ask, where none does
+  unasked-rows : (Rs : List Row) → anyFresh Rs ≡ false → Unasked (concludeRows table P Q t w Rs)
+  unfolding concludeRows anyFresh
+  unasked-rows [] h = tt
+  unasked-rows (R ∷ Rs) h =
+      let b = both-false (R .fresh) (anyFresh Rs) h in
+      go (met (at table) (R .needs) P Q (given (R .fresh) t w)) (b .0) (unasked-rows Rs (b .1))
+    where
+      go : (o : Option Letters) → R .fresh ≡ false → Unasked (concludeRows table P Q t w Rs) → Unasked (orElse table P Q t w o R (concludeRows table P Q t w Rs))
+      go none h k = k
+      go (some σ) h k = h
+
+  -- so no conclusion of a rule that asks nowhere does
+  unasked : (k : Kind) → freshKind k ≡ false → Unasked (conclude table P Q t w k)
+  unfolding conclude
+  unasked (rows Rs) h = unasked-rows Rs h
+  unasked congruence h = unasked-then P _ unasked-sub
+  unasked replacement h = unasked-then P _ λ L. unasked-then Q _ (unasked-rep L)
+
+-- checks 12 to 14, from the conclusion
+ending : Bool → Option Conclusion → Checked (List (List Literal))
+ending f o = requireSome o Reason.NeedNotMet >>= λ c. require (not (c .fresh) || f) Reason.NotFresh >> requireSome (c .adds) Reason.TermNotMade
+
+-- the flag is not looked at, where the conclusion does not ask
+same-ending : (o : Option Conclusion) → Unasked o → (f g : Bool) → ending f o ≡ ending g o
+unfolding ending
+same-ending none h f g = refl
+same-ending (some c) h f g = rw h
+
+-- the answer of a rule that asks for no fresh w does not depend on the flag
+pub unasked-answer : (table : Table) (P Q : Option Literal) (t w : ℕ) (x : Rule) → asksFresh x ≡ false → (f g : Bool) → answer table f P Q t w x ≡ answer table g P Q t w x
+unfolding answer ending
+unasked-answer table P Q t w x h f g = same-ending (conclude table P Q t w (rule x)) (unasked table P Q t w (rule x) h) f g
+
+-- THE RULES THAT ASK are `ext`, `fir` and `wit`
+pub others-unasked : (x : Rule) → OneOf (placesBut (Rule.Ext ∷ Rule.Fir ∷ Rule.Wit ∷ [])) (placeOf x) → asksFresh x ≡ false
+unfolding rules ruleNames rule anyFresh
+others-unasked x o = not-true _ (other-rule (λ y. not (asksFresh y)) (Rule.Ext ∷ Rule.Fir ∷ Rule.Wit ∷ []) refl refl x o)
+
+-- w is a term where the rule asks for a fresh one
+abbrev isTermField : TermField → Bool
+isTermField unused = false
+isTermField term = true
+isTermField (of s) = true
+
+term-made : (table : Table) (f : TermField) (n : ℕ) → isTermField f ≡ true → termOrName table (termUse f) n ≡ true → isTerm table n ≡ true
+term-made table unused n e h = absurd (false≢true e)
+term-made table term n e h = h
+term-made table (of s) n e h = h
+
+asked-field : (x : Rule) → asksFresh x ≡ true → isTermField (ruleFields x .w) ≡ true
+unfolding rules ruleNames rule anyFresh ruleFields
+asked-field x e = rw e at (every-rule (λ y. not (asksFresh y) || isTermField (ruleFields y .w)) refl x)
+
+pub asked-term : (table : Table) (x : Rule) (k : Four ℕ) → asksFresh x ≡ true → every (termOrName table) (ruleUses x) k ≡ true → (1 ≤ k .d) × (k .d ≤ length table)
+asked-term table x k h e =
+    let i = term-made table (ruleFields x .w) (k .d) (asked-field x h) (every-true (termOrName table) (ruleUses x) k e .3) in
+    let b = both-true (leb 1 (k .d)) _ i in
+    (leb-true 1 (k .d) (b .0), leb-true (k .d) (length table) (b .1))
