@@ -4,24 +4,32 @@ use mathlib.Core.Bool.{Bool, true, false, not, _||_, or-false}
 use mathlib.Core.List.{List}
 use mathlib.Core.Option.{Option}
 use Prim.Native.Nat.{ℕ, _≤_}
-use lib.Dec.{eqb}
-use borrow.Author.Tests.{le-leb}
+use native.Mathlib.Omega.{arith}
+use lib.Dec.{eqb, leb}
+use lib.ListN.{length, take, length-map}
+use lib.Seq.{length-take-le}
+use borrow.Author.Tests.{le-leb, leb-true, eqb-true}
 use Rattle.tableau.specs.declared.Rule.{Rule}
 use Rattle.tableau.specs.declared.Side.{Side}
 use Rattle.tableau.specs.declared.TermNumber.{TermNumber}
 use Rattle.tableau.specs.Words.{ruleNames}
-use Rattle.tableau.specs.Fields.{ThirdField, TermField, unused, side, term, of, ruleFields}
+use Rattle.tableau.specs.Fields.{PlaceField, ThirdField, TermField, unused, place, side, term, of, placeUse, ruleFields}
 use Rattle.tableau.specs.Terms.{Table, Literal}
-use Rattle.tableau.specs.Tree.{answer}
+use Rattle.tableau.specs.Tree.{literalAt, onBranch, answer}
+use Rattle.tableau.specs.Reply.{zeroIfUnused}
+use Rattle.tableau.proofs.Bools.{both-true}
 use Rattle.tableau.proofs.Places.{rules, placeOf, every-rule, same-rule}
 use Rattle.syntax.specs.declared.ThirdField as declared
 use Rattle.syntax.specs.Syntax.{ThirdFits}
 use Rattle.syntax.proofs.Sides.{isSide, side-fits}
 use Rattle.packing.specs.declared.LiteralView.{LiteralView}
 use Rattle.table.specs.Held.{Searchable}
-use Rattle.tree.specs.State.{HasPlace}
+use Rattle.packing.specs.Packing.{unpackLiteral}
+use Rattle.tree.specs.State.{HasPlace, IsBranch}
 use Rattle.rules.specs.declared.outcome.Outcome.{Outcome}
 use Rattle.rules.specs.Answer.{Concludes, ConcludesFresh}
+use Rattle.steps.specs.Reading.{branchOf, ReadAt}
+use Rattle.steps.specs.Checks.{isPlace}
 use Rattle.steps.specs.Infers.{atPlace, ThirdGiven, TermGiven, Given, Infers}
 
 -- check 11 holds of the places from 1 to n
@@ -93,3 +101,23 @@ is-rep x s h = same-rule x Rule.Rep (go (every-rule (λ y. eqb (placeOf y) (plac
 pub not-rep : {x : Rule} (t : TermNumber) → ThirdFits (ruleFields x .t) (declared.ThirdField.Term t) → x ≡ Rule.Rep → ⊥
 unfolding ruleFields
 not-rep t h e = rw e at h
+
+-- THE PLACES of a line, after checks 6 and 11
+pub branch-length : (array : List ℕ) (n : ℕ) → IsBranch array n → length (branchOf array n) ≡ n
+branch-length array n W = length-map (take n array) unpackLiteral ∙ length-take-le n array (omega arith)
+
+module _ (array : List ℕ) (m : ℕ) (W : IsBranch array m) where
+  place-in : (n : ℕ) → isPlace (branchOf array m) n ≡ true → (1 ≤ n) × (n ≤ m)
+  place-in n h =
+      let b = both-true (leb 1 n) _ h in
+      (leb-true 1 n (b .0), omega (arith, leb-true n (length (branchOf array m)) (b .1), branch-length array m W))
+
+  pub place-within : (f : PlaceField) (n : ℕ) → zeroIfUnused (placeUse f) n ≡ true → onBranch (branchOf array m) (placeUse f) n ≡ true → n ≤ m
+  place-within unused n z h = omega (arith, eqb-true n 0 z)
+  place-within place n z h = place-in n h .1
+
+  -- the literal that was read is the one at the place
+  pub place-read : (f : PlaceField) (n : ℕ) (P : LiteralView) → zeroIfUnused (placeUse f) n ≡ true → onBranch (branchOf array m) (placeUse f) n ≡ true
+      → ReadAt array m n P → literalAt (branchOf array m) n ≡ atPlace f P
+  place-read unused n P z h r = ap (literalAt (branchOf array m)) (eqb-true n 0 z)
+  place-read place n P z h r = r .is (place-in n h .0)

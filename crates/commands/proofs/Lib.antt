@@ -1,2 +1,0 @@
-pub mod InferLaws
-pub mod Running
