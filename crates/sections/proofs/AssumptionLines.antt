@@ -1,9 +1,9 @@
 -- A lines in the specification's run.
-use mathlib.Core.Path.{_≡_, refl, sym, _∙_, ap, subst}
+use mathlib.Core.Path.{_≡_, refl, sym, _∙_, ap, ap₂, subst}
 use mathlib.Core.Bool.{Bool, true, false}
 use mathlib.Core.List.{List, [], _∷_, _++_, map, map-append}
-use mathlib.Core.Option.{Option, none, some}
-use Prim.Native.Nat.{ℕ, zero, suc, _+_, _<_, _≤_}
+use mathlib.Core.Option.{none, some}
+use Prim.Native.Nat.{ℕ, suc, _+_, _<_, _≤_}
 use native.Mathlib.Omega.{arith}
 use native.Mathlib.Numerals.{add-one}
 use lib.Dec.{ltb}
@@ -12,32 +12,38 @@ use borrow.Author.Tests.{lt-ltb, le-ltb}
 use Rattle.tableau.specs.declared.Letter.{Letter}
 use Rattle.tableau.specs.declared.Reason.{Reason}
 use Rattle.tableau.specs.declared.Relation.{Relation}
-use Rattle.tableau.specs.Basics.{Four}
-use Rattle.tableau.specs.Terms.{Table, Literal, literal, relations}
-use Rattle.tableau.specs.Tree.{Checked, refused, passed, _>>=_, _>>_, require, Tree, Status, isOpen, maxPlaces}
-use Rattle.tableau.specs.Reply.{some-of, assume, State, rank, inOrder, counted, added, Verdict, refuse}
+use Rattle.tableau.specs.Basics.{Four, every}
+use Rattle.tableau.specs.File.{rank, inOrder}
+use Rattle.tableau.specs.Words.{relations, assume, some-of}
+use Rattle.tableau.specs.Fields.{sides}
+use Rattle.tableau.specs.Terms as specification
+use Rattle.tableau.specs.Terms.{Table, maxTerms}
+use Rattle.tableau.specs.Tree.{Checked, refused, passed, _>>=_, _>>_, require, Tree, isOpen, maxPlaces}
+use Rattle.tableau.specs.Reply.{State, zeroIfUnused, literalLine, assumed, counted, runOpen, refuse}
+use Rattle.tableau.proofs.Checks.{literal-passed}
+use Rattle.syntax.specs.declared.Literal.{Literal}
+use Rattle.syntax.specs.Syntax.{literalIn, sidesIn}
 use Rattle.lines.specs.declared.Fields.{Fields}
 use Rattle.lines.specs.declared.LineRead.{LineRead}
-use Rattle.words.specs.declared.tables.RelationFound.{RelationFound}
 use Rattle.lines.specs.Lines.{lineAt}
-use Rattle.words.specs.Words.{lookupPacked, relationFound}
+use Rattle.words.specs.Words.{lookupPacked}
+use Rattle.words.specs.Taken.{numbersOf}
+use Rattle.packing.specs.Packing.{packLiteral, unpackLiteral}
+use Rattle.packing.proofs.PackingLaws.{literal-unpack-pack}
 use Rattle.terms.specs.declared.Assumption.{Assumption}
-use Rattle.terms.specs.Packing.{packLiteral, unpackLiteral}
 use Rattle.terms.specs.Lines.{assumptionOf}
-use Rattle.tree.specs.State.{codeLimit, IsBranch, Appended}
-use Rattle.tree.specs.Outcome.{assumed}
+use Rattle.terms.proofs.LineLaws.{sides-packable}
+use Rattle.tree.specs.State.{IsBranch, Appended}
 use Rattle.steps.specs.Reading.{branchOf}
-use Rattle.commands.specs.Commands.{fieldChecks}
-use Rattle.commands.proofs.Running.{run-assume, assumption-made, assume-packs}
-use Rattle.commands.proofs.InferLaws.{branch-length}
+use Rattle.steps.proofs.Laws.{branch-length}
+use Rattle.running.specs.Running.{verdictFrom, packedCommand, runFields, NoLine}
+use Rattle.running.proofs.Lines.{line-here, bad-line, refused-here, run-unknown, run-known}
 use Rattle.sections.specs.declared.LineResult.{LineResult}
-use Rattle.sections.specs.Running.{verdictFrom, packedCommand, runFields}
-use Rattle.sections.specs.Sections.{Between, NoLine, verdictAfterTerms, withLiterals, Pushed, AssumptionLine, LiteralsAssumed}
-use Rattle.sections.proofs.Lines.{line-here, bad-line, refused-here}
-use Rattle.sections.proofs.TermLines.{numbers, run-unknown, run-known}
+use Rattle.sections.specs.Sections.{Between, verdictAfterTerms, withLiterals, Pushed, AssumptionLine, LiteralsAssumed}
 
 -- one code more behind the first of an array is one literal more on the branch
-pub pushed : (b b′ : List ℕ) (len n code : ℕ) (codes : List ℕ) → Appended b len codes b′ n → codes ≡ code ∷ [] → Pushed b len code b′ LineResult.Passed
+pub pushed : (b b′ : List ℕ) (len n code : ℕ) (codes : List ℕ) → Appended b len codes b′ n → codes ≡ code ∷ []
+    → Pushed b len code 0 b′ LineResult.Passed
 pushed b b′ len n code codes h e =
     let q : n ≡ len + 1 = h .count ∙ ap (λ (ks : List ℕ). len + length ks) e in (
       omega (arith, q, h .branch .room),
@@ -46,73 +52,104 @@ pushed b b′ len n code codes h e =
           ∙ map-append unpackLiteral (take len b) (code ∷ []),
     )
 
--- AN A LINE
-pub code-small : (table : Table) (R : Relation) (k : Four ℕ) (p : ℕ) → length table ≤ 600
-    → assumptionOf (literal R (k .a) (k .b)) (fieldChecks table (assume R) k) ≡ Assumption.Assumed p → p < codeLimit
-code-small table R k p few e = let m = assumption-made (literal R (k .a) (k .b)) (fieldChecks table (assume R) k) e in
-    subst (λ (x : ℕ). x < codeLimit) (sym (m .1)) (assume-packs table R k (m .0) few .0)
+-- the tree whose branch these literals are
+abbrev unsplit : List specification.Literal → Tree
+unsplit B = record { branch = B; waiting = [] }
 
-pub relation-known : (o : Option Relation) (R : Relation) → relationFound o ≡ RelationFound.Known R → o ≡ some R
-relation-known none R e = cc
-relation-known (some x) R e = cc
-
-pub relation-unknown : (o : Option Relation) → relationFound o ≡ RelationFound.Unknown → o ≡ none
-relation-unknown none e = refl
-relation-unknown (some x) e = cc
-
+-- AN A LINE by its checks from 4 on
 module _ (table : Table) (f : Fields) (k : f .letter ≡ Letter.A) where
-  pub assumption-unknown : (B : List Literal) → lookupPacked relations (f .word) ≡ none → (l : Letter) → inOrder l Letter.A ≡ true
+  pub assumption-unknown : (B : List specification.Literal) → lookupPacked relations (f .word) ≡ none → (l : Letter) → inOrder l Letter.A ≡ true
       → runFields (withLiterals table B l) f ≡ refused Reason.UnknownWord
   unfolding packedCommand
   assumption-unknown B e l o = run-unknown (withLiterals table B l) f k o (ap (some-of assume) e)
 
   module _ (R : Relation) (e : lookupPacked relations (f .word) ≡ some R) where
-    abbrev said : Literal
-    said = literal R (f .a) (f .b)
+    -- the state with the tree that the line makes
+    abbrev after : List specification.Literal → Tree → State
+    after B τ = record {
+      table = table;
+      status = isOpen τ;
+      letter = Letter.A;
+      counts = record { terms = length table; assumptions = suc (length B); steps = 0; closings = 0 };
+    }
 
-    -- the literal on the branch, where there is room
-    abbrev with-said : List Literal → Status → State
-    with-said B s = record { table = table; status = s; letter = Letter.A; counts = record { terms = length table; assumptions = suc (length B); steps = 0; closings = 0 } }
+    assumption-runs : (B : List specification.Literal) (l : Letter) → inOrder l Letter.A ≡ true → runFields (withLiterals table B l) f
+        ≡ (literalLine table R (numbersOf f) >>= λ x. assumed (unsplit B) x >>= λ τ. passed (after B τ))
+    unfolding packedCommand runOpen
+    assumption-runs B l o = run-known (withLiterals table B l) f k (assume R) o (ap (some-of assume) e)
 
-    assumption-runs : (B : List Literal) (l : Letter) → inOrder l Letter.A ≡ true → runFields (withLiterals table B l) f
-        ≡ (fieldChecks table (assume R) (numbers f) >> (assumed (record { branch = B; waiting = [] }) said >>= λ s. passed (with-said B s)))
-    unfolding packedCommand
-    assumption-runs B l o = run-known (withLiterals table B l) f k (assume R) o (ap (some-of assume) e) ∙ run-assume (withLiterals table B l) (record { branch = B; waiting = [] }) Letter.A R (numbers f) refl
+    pub assumption-unused : (B : List specification.Literal) → every zeroIfUnused (sides R) (numbersOf f) ≡ false → (l : Letter) → inOrder l Letter.A ≡ true
+        → runFields (withLiterals table B l) f ≡ refused Reason.UnusedField
+    unfolding literalLine
+    assumption-unused B z l o = assumption-runs B l o ∙ rw z
 
-    pub assumption-refused : (B : List Literal) (r : Reason) → fieldChecks table (assume R) (numbers f) ≡ refused r → (l : Letter) → inOrder l Letter.A ≡ true
-        → runFields (withLiterals table B l) f ≡ refused r
-    assumption-refused B r h l o = assumption-runs B l o
-        ∙ ap (λ (c : Checked (Unit {0})). c >> (assumed (record { branch = B; waiting = [] }) said >>= λ s. passed (with-said B s))) h
+    -- the line is that of the literal which was taken from it
+    module _ (x : Literal) (is-R : x .relation ≡ R) (is-k : sidesIn x ≡ numbersOf f) where
+      abbrev line : Checked specification.Literal
+      line = literalLine table (x .relation) (sidesIn x)
 
-    room-runs : (B : List Literal) → fieldChecks table (assume R) (numbers f) ≡ passed tt → (l : Letter) → inOrder l Letter.A ≡ true → {room : Bool} → ltb (length B) maxPlaces ≡ room
-        → runFields (withLiterals table B l) f ≡ (require room Reason.BranchFull >> passed (with-said B (added (record { branch = B; waiting = [] }) said)))
-    unfolding assumed
-    room-runs B h l o {room} e′ = assumption-runs B l o
-        ∙ ap (λ (c : Checked (Unit {0})). c >> (assumed (record { branch = B; waiting = [] }) said >>= λ s. passed (with-said B s))) h
-        ∙ ap (λ (x : Bool). (require x Reason.BranchFull >> passed (added (record { branch = B; waiting = [] }) said)) >>= λ s. passed (with-said B s)) e′ ∙ regroup room
-      where
-        regroup : (x : Bool) → ((require x Reason.BranchFull >> passed (added (record { branch = B; waiting = [] }) said)) >>= λ s. passed (with-said B s))
-            ≡ (require x Reason.BranchFull >> passed (with-said B (added (record { branch = B; waiting = [] }) said)))
-        regroup true = refl
-        regroup false = refl
+      runs-as : (B : List specification.Literal) (l : Letter) → inOrder l Letter.A ≡ true
+          → runFields (withLiterals table B l) f ≡ (line >>= λ y. assumed (unsplit B) y >>= λ τ. passed (after B τ))
+      runs-as B l o = assumption-runs B l o
+          ∙ ap₂ (λ (S : Relation) (n : Four ℕ). literalLine table S n >>= λ y. assumed (unsplit B) y >>= λ τ. passed (after B τ)) (sym is-R) (sym is-k)
 
-    -- the branch with the literal has one literal more
-    with-said-is : (B B′ : List Literal) → B′ ≡ B ++ (said ∷ []) → with-said B (added (record { branch = B; waiting = [] }) said) ≡ withLiterals table B′ Letter.A
-    with-said-is B B′ q =
-        ap (λ (i : ℕ). record { table = table; status = added (record { branch = B; waiting = [] }) said; letter = Letter.A; counts = record { terms = length table; assumptions = i; steps = 0; closings = 0 } })
-        (sym (length-append B (said ∷ []) ∙ add-one (length B)))
-        ∙ ap (λ (K : List Literal). withLiterals table K Letter.A) (sym q)
+      pub assumption-refused : (B : List specification.Literal) (r : Reason) → Assumption.Refused r ≡ assumptionOf line → (l : Letter) → inOrder l Letter.A ≡ true
+          → runFields (withLiterals table B l) f ≡ refused r
+      assumption-refused B r h l o = runs-as B l o ∙ go line refl h
+        where
+          go : (m : Checked specification.Literal) → line ≡ m → Assumption.Refused r ≡ assumptionOf m
+              → (line >>= λ y. assumed (unsplit B) y >>= λ τ. passed (after B τ)) ≡ refused r
+          go (refused s) q h = rw q (cc)
+          go (passed y) q h = let z : _≡_ {A = ℕ} 0 1 = cc in absurd (omega arith)
 
-    pub assumption-pushed : (b b′ : List ℕ) (len code : ℕ) (r : LineResult) → IsBranch b len → length table ≤ 600 → fieldChecks table (assume R) (numbers f) ≡ passed tt
-        → code ≡ packLiteral said → Pushed b len code b′ r → AssumptionLine table f b len b′ r
-    assumption-pushed b b′ len code LineResult.Passed W few h p g =
-        let n = branch-length b len W in
-        let c : unpackLiteral code ≡ said = ap unpackLiteral p ∙ assume-packs table R (numbers f) h few .1 in
-        let q : branchOf b′ (len + 1) ≡ branchOf b len ++ (said ∷ []) = g .2 ∙ ap (λ (l : Literal). branchOf b len ++ (l ∷ [])) c in
-        (g .1, λ l o. room-runs (branchOf b len) h l o (lt-ltb (length (branchOf b len)) maxPlaces (omega (arith, g .0, n))) ∙ ap passed (with-said-is (branchOf b len) (branchOf b′ (len + 1)) q))
-    assumption-pushed b b′ len code (LineResult.Refused r) W few h p g = λ l o.
-        let n = branch-length b len W in
-        room-runs (branchOf b len) h l o (le-ltb (length (branchOf b len)) maxPlaces (omega (arith, g .0, n))) ∙ ap refused (sym (g .1))
+      -- a literal that passes its checks is given back by its code
+      abbrev Assumed : ℕ → Type 0
+      Assumed code = (line ≡ passed (literalIn x)) × (unpackLiteral code ≡ literalIn x)
+
+      assumed-code : (code : ℕ) → length table ≤ maxTerms → Assumption.Assumed code ≡ assumptionOf line → Assumed code
+      assumed-code code few h = go line refl h
+        where
+          go : (m : Checked specification.Literal) → line ≡ m → Assumption.Assumed code ≡ assumptionOf m → Assumed code
+          go (refused s) q h = let z : _≡_ {A = ℕ} 0 1 = cc in absurd (omega arith)
+          go (passed y) q h =
+              let p = literal-passed table (x .relation) (sidesIn x) q in
+              let c : code ≡ packLiteral y = cc in
+              (q ∙ ap passed (p .is), ap unpackLiteral (c ∙ ap packLiteral (p .is)) ∙ literal-unpack-pack (literalIn x) (sides-packable table x few (p .terms)))
+
+      room-runs : (B : List specification.Literal) → line ≡ passed (literalIn x) → (l : Letter) → inOrder l Letter.A ≡ true → {room : Bool}
+          → ltb (length B) maxPlaces ≡ room
+          → runFields (withLiterals table B l) f ≡ (require room Reason.BranchFull >> passed (after B (unsplit (B ++ (literalIn x ∷ [])))))
+      unfolding assumed
+      room-runs B h l o {room} q = runs-as B l o ∙ rw (h, q) (go room)
+        where
+          go : (b : Bool) → ((require b Reason.BranchFull >> passed (unsplit (B ++ (literalIn x ∷ [])))) >>= λ τ. passed (after B τ))
+              ≡ (require b Reason.BranchFull >> passed (after B (unsplit (B ++ (literalIn x ∷ [])))))
+          go true = refl
+          go false = refl
+
+      -- the branch with the literal has one literal more
+      after-is : (B B′ : List specification.Literal) → B′ ≡ B ++ (literalIn x ∷ []) → after B (unsplit (B ++ (literalIn x ∷ []))) ≡ withLiterals table B′ Letter.A
+      after-is B B′ q =
+          ap (λ (i : ℕ). record {
+            table = table;
+            status = isOpen (unsplit (B ++ (literalIn x ∷ [])));
+            letter = Letter.A;
+            counts = record { terms = length table; assumptions = i; steps = 0; closings = 0 };
+          }) (sym (length-append B (literalIn x ∷ []) ∙ add-one (length B)))
+          ∙ ap (λ (K : List specification.Literal). withLiterals table K Letter.A) (sym q)
+
+      pub assumption-pushed : (b b′ : List ℕ) (len code : ℕ) (r : LineResult) → IsBranch b len → length table ≤ maxTerms
+          → Assumption.Assumed code ≡ assumptionOf line → Pushed b len code (length table + len + 1) b′ r → AssumptionLine table f b len b′ r
+      assumption-pushed b b′ len code LineResult.Passed W few h g =
+          let n = branch-length b len W in
+          let a = assumed-code code few h in
+          let q : branchOf b′ (len + 1) ≡ branchOf b len ++ (literalIn x ∷ []) = g .2 ∙ ap (λ (l : specification.Literal). branchOf b len ++ (l ∷ [])) (a .1) in
+          (g .1, λ l o. room-runs (branchOf b len) (a .0) l o (lt-ltb (length (branchOf b len)) maxPlaces (omega (arith, g .0, n)))
+              ∙ ap passed (after-is (branchOf b len) (branchOf b′ (len + 1)) q))
+      assumption-pushed b b′ len code (LineResult.Refused r i) W few h g =
+          let n = branch-length b len W in
+          let a = assumed-code code few h in
+          (λ l o. room-runs (branchOf b len) (a .0) l o (le-ltb (length (branchOf b len)) maxPlaces (omega (arith, g .0, n))) ∙ ap refused (sym (g .1)), g .2)
 
 -- THE A LINES of a file: the start, a bad line, a line refused, a line more.
 pub assumptions-start : (file : List ℕ) (at n : ℕ) (table : Table) (b : List ℕ) → Between n at file → NoLine Letter.T file at → IsBranch b 0 → LiteralsAssumed file at n table b at 0
@@ -131,8 +168,12 @@ module _ {file : List ℕ} {start n : ℕ} {table : Table} {b : List ℕ} {at m 
   assumptions-bad h e = rw (add-one (n + m)) (t .runs ∙ bad-line file at h e (n + m) _)
 
   module _ (f : Fields) (e : lineAt file at ≡ LineRead.Line f) where
-    pub assumptions-refused : (r : Reason) → AssumptionLine table f b m b (LineResult.Refused r) → verdictAfterTerms file start n table ≡ refuse r (n + m + 1)
-    assumptions-refused r h = rw (add-one (n + m)) (t .runs ∙ line-here file at f e .runs (n + m) _ ∙ ap (verdictFrom file (f .next .at) (suc (n + m))) (h (t .letter) (t .assumable)) ∙ refused-here file (f .next .at) (suc (n + m)) r)
+    pub assumptions-refused : length table ≡ n → (r : Reason) (i : ℕ) → AssumptionLine table f b m b (LineResult.Refused r i)
+        → verdictAfterTerms file start n table ≡ refuse r i
+    assumptions-refused q r i h =
+        let z : suc (n + m) ≡ i = omega (arith, h .1, q) in
+        t .runs ∙ line-here file at f e .runs (n + m) _ ∙ ap (verdictFrom file (f .next .at) (suc (n + m))) (h .0 (t .letter) (t .assumable))
+        ∙ refused-here file (f .next .at) (suc (n + m)) r ∙ ap (refuse r) z
 
     pub assumptions-more : (b′ : List ℕ) → AssumptionLine table f b m b′ LineResult.Passed → LiteralsAssumed file start n table b′ (f .next .at) (m + 1)
     unfolding rank

@@ -1,4 +1,2 @@
-pub mod AssumptionLines
-pub mod Lines
-pub mod StepLines
 pub mod TermLines
+pub mod AssumptionLines

@@ -16,7 +16,7 @@ ghost use Prim.Native.Nat.{_<_, _≤_};
 ghost use lib.ListN.{length};
 ghost use Rattle.tableau.specs.File.{maxBytes};
 ghost use Rattle.tableau.specs.Terms.{Table};
-ghost use Rattle.terms.specs.Held.{arrays, Held};
+ghost use Rattle.terms.specs.Arrays.{arrays, Held};
 ghost use Rattle.sections.specs.Sections.{TermLine, TermSection};
 
 // Checks 4 and 6 to 10 of a T line, where n terms are made: it is line n + 1.

@@ -98,13 +98,17 @@ term-passed table w n e =
     record { unusedZero = e₆ .0; room = e₇ .0; terms = e₈ .0; sorts = e₉ .0; new = e₁₀ .0; after = sym (passed-injective (e₁₀ .1)) }
 
 -- an A line
-pub literal-passed : {l : Literal} (table : Table) (R : Relation) (n : Four ℕ) → literalLine table R n ≡ passed l → l ≡ literal R (n .a) (n .b)
+pub record LiteralPassed (table : Table) (R : Relation) (n : Four ℕ) (l : Literal) : Type 0 where
+  pub terms : every (termOrName table) (sides R) n ≡ true
+  pub is : l ≡ literal R (n .a) (n .b)
+
+pub literal-passed : {l : Literal} (table : Table) (R : Relation) (n : Four ℕ) → literalLine table R n ≡ passed l → LiteralPassed table R n l
 unfolding literalLine
 literal-passed table R n e =
     let e₆ = require-passed (every zeroIfUnused (sides R) n) _ _ e in
     let e₈ = require-passed (every (termOrName table) (sides R) n) _ _ (e₆ .1) in
     let e₉ = require-passed (every (ofSort table) (sides R) n && oneSort R (sortOf (at table (n .a))) (sortOf (at table (n .b)))) _ _ (e₈ .1) in
-    sym (passed-injective (e₉ .1))
+    record { terms = e₈ .0; is = sym (passed-injective (e₉ .1)) }
 
 -- an S line
 pub record StepPassed (table : Table) (τ : Tree) (x : Rule) (n : Four ℕ) (s : Status) : Type 0 where
@@ -151,7 +155,7 @@ ran σ τ (assume R) n e =
     let l = bind-passed (literalLine (σ .table) R n) _ e in
     let t = bind-passed (assumed τ (l .0)) _ (l .2) in
     let r = require-passed (ltb (length (τ .branch)) maxPlaces) _ _ (t .1) in
-    let s = sym (passed-injective (r .1)) ∙ ap (λ (k : Literal). record { branch = τ .branch ++ (k ∷ []); waiting = τ .waiting }) (literal-passed (σ .table) R n (l .1)) in
+    let s = sym (passed-injective (r .1)) ∙ ap (λ (k : Literal). record { branch = τ .branch ++ (k ∷ []); waiting = τ .waiting }) (literal-passed (σ .table) R n (l .1) .is) in
     after-line (t .2) (record { did = (refl, ap isOpen s); letter = refl; counts = refl })
 ran σ τ (infer x) n e =
     let k = bind-passed (stepLine (σ .table) (τ .branch) x n) _ e in

@@ -1,78 +1,103 @@
--- `assumption_lines::one` meets its contract: check 4, then those of the command, then check 15.
-use mathlib.Core.Path.{_≡_, refl, sym, _∙_}
+-- Each return knows what the line was taken for, and the check that failed.
+use mathlib.Core.Path.{_≡_, refl, sym, ap, subst, _∙_}
+use mathlib.Core.Bool.{true}
 use mathlib.Core.Option.{some}
-use Rattle.tableau.specs.Terms.{relations}
-use Rattle.words.specs.Words.{lookupPacked}
-use Rattle.commands.proofs.Running as running
-use Rattle.sections.proofs.AssumptionLines.{code-small, relation-known, relation-unknown, assumption-unknown, assumption-refused, assumption-pushed}
+use Prim.Native.Nat.{ℕ, _+_, _≤_, _<_}
+use native.Mathlib.Omega.{arith}
+use lib.ListN.{length}
+use Rattle.tableau.specs.Basics.{every}
+use Rattle.tableau.specs.Fields.{sides}
+use Rattle.tableau.specs.Words.{relations}
+use Rattle.tableau.specs.Terms.{Table, maxTerms}
+use Rattle.tableau.specs.Reply.{zeroIfUnused, literalLine}
+use Rattle.syntax.specs.Syntax.{sidesIn}
+use Rattle.words.specs.Words.{lookupPacked, RelationKnown}
+use Rattle.words.specs.Taken.{numbersOf, LiteralTakenAs}
+use Rattle.terms.specs.Lines.{assumptionOf, SmallCode}
+use Rattle.sections.specs.Sections.{Pushed, AssumptionLine}
+use Rattle.sections.proofs.AssumptionLines.{assumption-unknown, assumption-unused, assumption-refused, assumption-pushed}
 use borrow.Author.Needs.{needs}
 use Rattle.sections.proofs.assumption_lines.one.Statement.{statement}
 use Rattle.sections.proofs.assumption_lines.one.Tie as tie
-use Rattle.sections.proofs.assumption_lines.one.Reads as reads
-use Rattle.sections.proofs.assumption_lines.one.Lts as lts
-use Rattle.sections.proofs.assumption_lines.push.Reads as push-reads
-use Rattle.commands.proofs.assuming.assume.Reads as assume-reads
-use Rattle.lines.proofs.relation_of.Reads as relation-of-reads
 
--- the relation that the word names
+-- the number of the line fits, and is told of any table of n terms
+few : (s : tie.Start) → s .args .n ≤ maxTerms
+few s = let p = s .pre .0 in omega (arith, p .1 .few, p .2)
+
+-- the word is known
 known : (c : tie.After-known-told) → lookupPacked relations (c .before .before .before .before .args .f .word) ≡ some (c .before .relation .given .0 .0)
-known c = relation-known _ _ (sym (c .before .before .before .relation-of .ensures) ∙ c .before .relation .given .1)
+known c = subst (RelationKnown _) (c .before .relation .given .1) (c .before .before .before .relation-of .ensures)
 
-relation-of-requires : tie.Need-relation-of-requires
-relation-of-requires c κs = search needs
+-- and the line is taken apart
+abbrev word-told : tie.After-known-told2 → tie.After-known-told
+word-told c = c .before .before .before .before
 
-enum-known-relation : tie.Need-enum-known-relation
-enum-known-relation c = search needs
+abbrev first : tie.After-known-told2 → tie.Start
+first c = word-told c .before .before .before .before
 
-enum-told : tie.Need-enum-told
-enum-told c = search needs
+taken : (c : tie.After-known-told2)
+    → (every zeroIfUnused (sides (word-told c .before .relation .given .0 .0)) (numbersOf (first c .args .f)) ≡ true)
+    × (c .before .literal .given .0 .0 .relation ≡ word-told c .before .relation .given .0 .0) × (sidesIn (c .before .literal .given .0 .0) ≡ numbersOf (first c .args .f))
+taken c = subst (LiteralTakenAs _ _) (c .before .literal .given .1) (c .before .before .before .literal-of .ensures)
 
 -- check 4
 returns : tie.Need-returns
 returns c table E q =
-    let g = c .before .before .before in
-    assumption-unknown table (g .args .f) (g .pre .1 .1) _ (relation-unknown _ (sym (c .before .before .relation-of .ensures) ∙ c .enum-told .given .1))
+    let s = c .before .before .before in
+    ((λ l o. assumption-unknown table (s .args .f) (s .pre .1 .1) _ (subst (RelationKnown _) (c .enum-told .given .1) (c .before .before .relation-of .ensures)) l o), rw q)
 
-assume-requires : tie.Need-assume-requires
-assume-requires c κs = search needs
+-- check 6
+returns-2 : tie.Need-returns-2
+returns-2 c table E q =
+    let k = c .before .before .before in
+    let s = k .before .before .before .before in
+    ((λ l o. assumption-unused table (s .args .f) (s .pre .1 .1) _ (known k) _ (subst (LiteralTakenAs _ _) (c .enum-told2 .given .1) (c .before .before .literal-of .ensures)) l o), rw q)
 
-enum-known-reason : tie.Need-enum-known-reason
-enum-known-reason c = search needs
-
-enum-known-literal : tie.Need-enum-known-literal
-enum-known-literal c = search needs
+-- checks 8 and 9
+returns-3 : tie.Need-returns-3
+returns-3 c table E q =
+    let a = c .before .before .before in
+    let k = a .before in
+    let s = first k in
+    let t = taken k in
+    let e = sym (c .before .reason .given .1) ∙ a .assume-literal .ensures .0 table E q in
+    ((λ l o. assumption-refused table (s .args .f) (s .pre .1 .1) _ (known (word-told k)) _ (t .1) (t .2) _ _ e l o), rw q)
 
 push-requires : tie.Need-push-requires
 push-requires c κs =
-    let g = c .before .before .before .before .before .before .before .before .before in
-    let p = g .pre .0 in
-    (g .pre .1 .0, code-small (p .0) _ _ _ (p .1 .few) (sym (c .before .before .before .before .assume .ensures (p .0) (p .1) (p .2)) ∙ c .before .before .literal .given .1))
-
--- checks 6, 8 and 9
-returns-2 : tie.Need-returns-2
-returns-2 c table E q =
-    let g = c .before .before .before .before .before .before .before .before in
-    assumption-refused table (g .args .f) (g .pre .1 .1) _ (known (c .before .before .before .before)) _ _
-    (running.assumption-refused _ _ (sym (c .before .before .before .assume .ensures table E q) ∙ c .before .reason .given .1))
+    let a = c .before .before .before .before in
+    let s = first (a .before) in
+    (s .pre .1 .0, subst SmallCode (c .before .before .code .given .1) (a .assume-literal .ensures .1))
 
 -- check 15
-returns-3 : tie.Need-returns-3
-returns-3 c table E q =
-    let g = c .before .before .before .before .before .before .before .before .before .before in
-    let m = running.assumption-made _ _ (sym (c .before .before .before .before .before .assume .ensures table E q) ∙ c .before .before .before .literal .given .1) in
-    assumption-pushed table (g .args .f) (g .pre .1 .1) _ (known (c .before .before .before .before .before .before)) _ (c .push .last .0) _ _ (c .push .result) (g .pre .1 .0) (E .few) (m .0) (m .1) (c .push .ensures)
+returns-4 : tie.Need-returns-4
+returns-4 c table E q =
+    let a = c .before .before .before .before .before in
+    let k = a .before in
+    let s = first k in
+    let t = taken k in
+    let e = sym (c .before .before .before .code .given .1) ∙ a .assume-literal .ensures .0 table E q in
+    let code = c .before .before .before .code .given .0 .0 in
+    assumption-pushed table (s .args .f) (s .pre .1 .1) _ (known (word-told k)) _ (t .1) (t .2) _ (c .push .last .0) _ code (c .push .result) (s .pre .1 .0) (E .few) e
+    (subst (λ (i : ℕ). Pushed (s .args .branch .now) (s .args .len) code (i + s .args .len + 1) (c .push .last .0) (c .push .result)) (sym q) (c .push .ensures))
 
 pub one-spec : {M : Type 1} → statement M
 one-spec =
     tie.close
     (tie.spec
-    relation-of-requires
-    enum-known-relation
-    enum-told
+    (λ c. omega (arith, few c, c .pre .1 .0 .room))
+    (λ c. omega (arith, few c, c .pre .1 .0 .room))
+    (λ c κs. search needs)
+    (λ c. search needs)
+    (λ c. search needs)
     returns
-    assume-requires
-    enum-known-reason
-    enum-known-literal
-    push-requires
+    (λ c κs. search needs)
+    (λ c. search needs)
+    (λ c. search needs)
     returns-2
-    returns-3)
+    (λ c κs. search needs)
+    (λ c. search needs)
+    (λ c. search needs)
+    push-requires
+    returns-3
+    returns-4)

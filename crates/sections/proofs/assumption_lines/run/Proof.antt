@@ -7,17 +7,13 @@ use borrow.Author.Needs.{needs}
 use Rattle.tableau.specs.Terms.{Table}
 use Rattle.lines.specs.declared.LineRead.{LineRead}
 use Rattle.lines.specs.Lines.{lineAt}
-use Rattle.terms.specs.Holds.{Entries}
+use Rattle.table.specs.Held.{Entries}
 use Rattle.sections.specs.Sections.{AssumptionLine, LiteralsAssumed}
-use Rattle.sections.proofs.Lines.{line-here}
-use Rattle.sections.proofs.TermLines.{none-at-end, none-here, other-letter}
+use Rattle.running.proofs.Lines.{line-here, none-at-end, none-here}
+use Rattle.sections.proofs.TermLines.{other-letter}
 use Rattle.sections.proofs.AssumptionLines.{assumptions-start, assumptions-bad, assumptions-refused, assumptions-more}
 use Rattle.sections.proofs.assumption_lines.run.Statement.{statement}
 use Rattle.sections.proofs.assumption_lines.run.Tie as tie
-use Rattle.sections.proofs.assumption_lines.run.Reads as reads
-use Rattle.sections.proofs.assumption_lines.run.Lts as lts
-use Rattle.sections.proofs.assumption_lines.one.Reads as one-reads
-use Rattle.lines.proofs.read_line.Reads as read-line-reads
 
 abbrev Inv-loop : tie.InvT-loop
 Inv-loop file n terms branch₀ at₀ len₀ branch at len = (table : Table) → Entries table terms → length table ≡ n → LiteralsAssumed file at₀ n table branch at len
@@ -36,28 +32,16 @@ here c = let p = c .before .before .pre .0 in (p .0, c .loop .inv (p .0) (p .1) 
 loop-holds : tie.Need-loop-holds Inv-loop μ-loop
 loop-holds c table E q = let p = c .before .pre .1 in assumptions-start _ _ _ table _ (p .0) (p .1) (p .2)
 
-read-line-requires : tie.Need-read-line-requires Inv-loop μ-loop
-read-line-requires c κs = search needs
-
-enum-known-f : tie.Need-enum-known-f Inv-loop μ-loop
-enum-known-f c = search needs
-
-enum-told : tie.Need-enum-told Inv-loop μ-loop
-enum-told c = search needs
-
 -- the number of the line is small, since each line has a byte
-add-t16 : tie.Need-add-t16 Inv-loop μ-loop
-add-t16 c = let b = here (c .before .before .before .before) .1 .between in omega (arith, b .lines, b .inside, b .short)
-
 add-t17 : tie.Need-add-t17 Inv-loop μ-loop
 add-t17 c = let b = here (c .before .before .before .before) .1 .between in omega (arith, b .lines, b .inside, b .short)
+
+add-t18 : tie.Need-add-t18 Inv-loop μ-loop
+add-t18 c = let b = here (c .before .before .before .before) .1 .between in omega (arith, b .lines, b .inside, b .short)
 
 -- check 2
 returns : tie.Need-returns Inv-loop μ-loop
 returns c table E q = assumptions-bad (c .before .before .before .before .loop .inv table E q) (omega arith) (sym (c .before .before .read-line .ensures) ∙ c .enum-told .given .1)
-
-enum-told-2 : tie.Need-enum-told-2 Inv-loop μ-loop
-enum-told-2 c = search needs
 
 -- a line of another letter
 returns-2 : tie.Need-returns-2 Inv-loop μ-loop
@@ -69,23 +53,11 @@ returns-2 c table E q = (
 one-requires : tie.Need-one-requires Inv-loop μ-loop
 one-requires c κs = (c .before .before .before .before .before .before .before .before .before .before .pre .0, (here (c .before .before .before .before .before .before .before .before) .1 .branch, c .before .enum-told2 .given .1))
 
-enum-known-reason : tie.Need-enum-known-reason Inv-loop μ-loop
-enum-known-reason c = search needs
-
-add-t21 : tie.Need-add-t21 Inv-loop μ-loop
-add-t21 c = let b = here (c .before .before .before .before .before .before .before .before .before .before .before .before) .1 .between in omega (arith, b .lines, b .inside, b .short)
-
-add-t22 : tie.Need-add-t22 Inv-loop μ-loop
-add-t22 c = let b = here (c .before .before .before .before .before .before .before .before .before .before .before .before) .1 .between in omega (arith, b .lines, b .inside, b .short)
-
 -- checks 4, 6, 8, 9 and 15
 returns-3 : tie.Need-returns-3 Inv-loop μ-loop
 returns-3 c table E q =
-    assumptions-refused (c .before .before .before .before .before .before .before .before .before .before .before .before .loop .inv table E q) _ (read (c .before .before .before .before .before .before .before .before)) _
+    assumptions-refused (c .before .before .before .before .before .before .before .before .before .before .before .before .loop .inv table E q) _ (read (c .before .before .before .before .before .before .before .before)) q _ _
     (subst (AssumptionLine table _ _ _ _) (c .before .reason .given .1) (c .before .before .before .one .ensures table E q))
-
-enum-told-3 : tie.Need-enum-told-3 Inv-loop μ-loop
-enum-told-3 c = search needs
 
 add-len : tie.Need-add-len Inv-loop μ-loop
 add-len c = let b = here (c .before .before .before .before .before .before .before .before .before .before .before) .1 .between in omega (arith, b .lines, b .inside, b .short)
@@ -108,20 +80,18 @@ run-spec =
     Inv-loop
     μ-loop
     loop-holds
-    read-line-requires
-    enum-known-f
-    enum-told
-    add-t16
+    (λ c κs. search needs)
+    (λ c. search needs)
+    (λ c. search needs)
     add-t17
+    add-t18
     returns
-    enum-told-2
+    (λ c. search needs)
     returns-2
     one-requires
-    enum-known-reason
-    add-t21
-    add-t22
+    (λ c. search needs)
     returns-3
-    enum-told-3
+    (λ c. search needs)
     add-len
     loop-less
     loop-again

@@ -1,39 +1,102 @@
--- `term_lines::one` meets its contract: an unknown word breaks check 4, a known one makes a term.
-use mathlib.Core.Path.{_≡_, refl, sym, _∙_}
-use Rattle.sections.proofs.TermLines.{term-unknown, term-made, word-known, word-unknown}
+-- Each return knows what the line was taken for, and the check that failed.
+use mathlib.Core.Path.{_≡_, refl, sym, ap, subst, ap₂, _∙_}
+use mathlib.Core.Bool.{true}
+use mathlib.Core.Option.{some}
+use Prim.Native.Nat.{ℕ, _<_, _≤_}
+use native.Mathlib.Omega.{arith}
+use Rattle.tableau.specs.declared.Word.{Word}
+use Rattle.tableau.specs.Basics.{Four, every}
+use Rattle.tableau.specs.Fields.{wordFields}
+use Rattle.tableau.specs.Terms.{maxTerms}
+use Rattle.tableau.specs.Words.{words}
+use Rattle.tableau.specs.Reply.{zeroIfUnused}
+use Rattle.syntax.specs.Syntax.{wordIn, fieldsIn}
+use Rattle.words.specs.Words.{lookupPacked, WordKnown, WordFits}
+use Rattle.words.specs.Taken.{numbersOf, TermTakenAs}
+use Rattle.packing.specs.Packing.{nameLimit}
+use Rattle.terms.specs.Lines.{MakesTerm}
+use Rattle.sections.proofs.TermLines.{term-unknown, term-unused, term-made, term-refused}
 use borrow.Author.Needs.{needs}
 use Rattle.sections.proofs.term_lines.one.Statement.{statement}
 use Rattle.sections.proofs.term_lines.one.Tie as tie
-use Rattle.sections.proofs.term_lines.one.Reads as reads
-use Rattle.sections.proofs.term_lines.one.Lts as lts
-use Rattle.commands.proofs.making.make.Reads as make-reads
-use Rattle.lines.proofs.word_of.Reads as word-of-reads
 
-word-of-requires : tie.Need-word-of-requires
-word-of-requires c κs = search needs
+-- the number of the line fits
+few : (s : tie.Start) → s .args .n ≤ maxTerms
+few s = let H = s .pre .0 .1 in omega (arith, H .count, H .searchable .entries .few)
 
-enum-known-w : tie.Need-enum-known-w
-enum-known-w c = search needs
+-- the word is known
+known : (c : tie.After-known-told)
+    → (lookupPacked words (c .before .before .before .before .args .f .word) ≡ some (c .before .row .given .0 .0 .word)) × WordFits (c .before .row .given .0 .0)
+known c = subst (WordKnown _) (c .before .row .given .1) (c .before .before .before .word-of .ensures)
 
-enum-told : tie.Need-enum-told
-enum-told c = search needs
+-- and the line is taken apart
+abbrev word-told : tie.After-known-told2 → tie.After-known-told
+word-told c = c .before .before .before .before
+
+abbrev first : tie.After-known-told2 → tie.Start
+first c = word-told c .before .before .before .before
+
+taken : (c : tie.After-known-told2)
+    → (every zeroIfUnused (wordFields (word-told c .before .row .given .0 .0 .word)) (numbersOf (first c .args .f)) ≡ true)
+    × (wordIn (c .before .term .given .0 .0) ≡ word-told c .before .row .given .0 .0 .word) × (fieldsIn (c .before .term .given .0 .0) ≡ numbersOf (first c .args .f))
+taken c = subst (TermTakenAs _ _) (c .before .term .given .1) (c .before .before .before .term-of .ensures)
 
 -- check 4
 returns : tie.Need-returns
 returns c table h =
-    let g = c .before .before .before in
-    term-unknown table (g .args .f) (g .pre .1 .0) (word-unknown _ (sym (c .before .before .word-of .ensures) ∙ c .enum-told .given .1))
+    let s = c .before .before .before in
+    (term-unknown table (s .args .f) (s .pre .1 .0) (subst (WordKnown _) (c .enum-told .given .1) (c .before .before .word-of .ensures)), refl)
 
-make-requires : tie.Need-make-requires
-make-requires c κs = search needs
-
--- checks 6 to 10
+-- check 6
 returns-2 : tie.Need-returns-2
 returns-2 c table h =
-    let g = c .before .before .before .before .before .before .before .before .before in
-    let w = word-known _ _ (sym (c .before .before .before .before .before .before .before .before .word-of .ensures) ∙ c .before .before .before .before .before .before .w .given .1) in
-    term-made table (g .args .f) _ _ _ _ _ (g .pre .1 .0) w (c .make .ensures table h)
+    let k = c .before .before .before in
+    let s = k .before .before .before .before in
+    (term-unused table (s .args .f) (s .pre .1 .0) _ (known k .0) (subst (TermTakenAs _ _) (c .enum-told2 .given .1) (c .before .before .term-of .ensures)), refl)
+
+make-term-requires : tie.Need-make-term-requires
+make-term-requires c κs =
+    let k = c .before .before .before in
+    let s = first k in
+    let t = taken k in
+    let small : s .args .f .a < nameLimit = omega (arith, s .pre .1 .1) in
+    (s .pre .0, (ap₂ (λ (w : Word) (n : Four ℕ). every zeroIfUnused (wordFields w) n) (t .1) (t .2) ∙ t .0, subst (λ (n : Four ℕ). n .a < nameLimit) (sym (t .2)) small))
+
+-- checks 7 to 10
+returns-3 : tie.Need-returns-3
+returns-3 c table h =
+    let m = c .before .before in
+    let k = m .before .before .before .before in
+    let s = first k in
+    let t = taken k in
+    term-made table (s .args .f) (s .pre .1 .0) _ (known (word-told k) .0) _ (t .1) (t .2) (subst (MakesTerm table _ _ _ _) (c .enum-told3 .given .1) (m .make-term .ensures table h))
+
+returns-4 : tie.Need-returns-4
+returns-4 c table h =
+    let m = c .before .before .before in
+    let k = m .before .before .before .before in
+    let s = first k in
+    let t = taken k in
+    (term-refused table (s .args .f) (s .pre .1 .0) _ (known (word-told k) .0) _ (t .1) (t .2)
+    (subst (MakesTerm table _ _ _ _) (c .before .reason .given .1) (m .make-term .ensures table h)), refl)
 
 pub one-spec : {M : Type 1} → statement M
 one-spec =
-    tie.close (tie.spec word-of-requires enum-known-w enum-told returns make-requires returns-2)
+    tie.close
+    (tie.spec
+    (λ c κs. search needs)
+    (λ c. search needs)
+    (λ c. search needs)
+    (λ c. omega (arith, few (c .before .before .before)))
+    returns
+    (λ c κs. known c .1)
+    (λ c. search needs)
+    (λ c. search needs)
+    (λ c. omega (arith, few (c .before .before .before .before .before .before .before)))
+    returns-2
+    make-term-requires
+    (λ c. search needs)
+    (λ c. search needs)
+    (λ c. omega (arith, few (first (c .before .before .before .before .before .before .before))))
+    returns-3
+    returns-4)
