@@ -1,2 +1,3 @@
 pub mod TermLines
 pub mod AssumptionLines
+pub mod StepLines

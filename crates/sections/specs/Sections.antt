@@ -12,7 +12,7 @@ use Rattle.tableau.specs.File.{maxBytes, inOrder}
 use Rattle.tableau.specs.Words.{ruleNames}
 use Rattle.tableau.specs.Terms.{Table, Literal}
 use Rattle.tableau.specs.Tree.{refused, passed, _>>=_, Status, isOpen, isClosed, root, maxPlaces, grown}
-use Rattle.tableau.specs.Reply.{State, start, isClosing, Verdict, accept, refuse}
+use Rattle.tableau.specs.Reply.{State, start, stepLine, isClosing, Verdict, accept, refuse}
 use Rattle.syntax.specs.declared.Step.{Step}
 use Rattle.syntax.specs.Syntax.{stepFields, WellTaken}
 use Rattle.lines.specs.declared.Cursor.{Cursor}
@@ -34,6 +34,7 @@ use Rattle.steps.specs.Reading.{branchOf}
 use Rattle.running.specs.Running.{verdictFrom, runFields, NoLine}
 use Rattle.sections.specs.declared.LineResult.{LineResult}
 use Rattle.sections.specs.declared.Section.{Section}
+use Rattle.sections.specs.declared.step_lines.StepRead.{StepRead}
 
 -- i lines are read, and the next begins at the position
 pub record Between (i at : ℕ) (file : List ℕ) : Type 0 where
@@ -120,3 +121,56 @@ abbrev pub statusOf : Bool → Tree → Status
 statusOf true t = isClosed
 statusOf false t = isOpen (treeOf unpackLiteral t)
 
+-- AN S LINE with a known rule, taken apart, on an open tree; or what the specification's run refuses, wherever it stands before the line.
+pub record IsStep (file : List ℕ) (at : ℕ) (step : Step) (next : Cursor) : Type 0 where
+  pub fields : Fields
+  pub read : lineAt file at ≡ LineRead.Line fields
+  pub letter : fields .letter ≡ Letter.S
+  pub known : lookupPacked ruleNames (fields .word) ≡ some (step .rule)
+  pub numbers : numbersOf fields ≡ stepFields step
+  pub behind : fields .next ≡ next
+  pub taken : WellTaken step
+
+abbrev pub StepLine : List ℕ → ℕ → Bool → ℕ → StepRead → Type 0
+StepLine file at closed line (StepRead.Step x c) = IsStep file at x c × (closed ≡ false)
+StepLine file at closed line (StepRead.Refused r j) =
+    ((i : ℕ) (σ : State) → OutOfOrder (σ .letter) Letter.T file at → OutOfOrder (σ .letter) Letter.A file at
+    → (closed ≡ true → σ .status ≡ isClosed) → (closed ≡ false → Opened (σ .status)) → verdictFrom file at i (passed σ) ≡ refuse r (i + 1))
+    × (j ≡ line)
+
+-- a step of which more or less than one alternative comes
+abbrev pub Branches : Outcome → Type 0
+Branches (Outcome.Refused r) = Unit {0}
+Branches Outcome.Closes = Unit {0}
+Branches (Outcome.Adds k) = ⊥
+Branches (Outcome.Splits k l) = Unit {0}
+Branches (Outcome.SplitsThree k l m) = Unit {0}
+
+-- what an outcome makes of the tree: checks 15 and 16
+pub record Grows (t : Tree) (x : Outcome) (o : Change) : Type 0 where
+  pub within : Within (o .tree)
+  pub result : answered (treeOf unpackLiteral (o .tree)) (o .answer) ≡ (answerOf x >>= grown (treeOf unpackLiteral t))
+
+-- what the line's step makes of the tree: all its checks from 6 on
+pub record Steps (table : Table) (t : Tree) (step : Step) (o : Change) : Type 0 where
+  pub within : Within (o .tree)
+  pub result : answered (treeOf unpackLiteral (o .tree)) (o .answer)
+      ≡ (stepLine table (branchOf (t .branch) (t .len)) (step .rule) (stepFields step) >>= grown (treeOf unpackLiteral t))
+
+-- k steps are taken and c of them closed; the next line, at the position, is an S line or breaks check 3
+pub record StepsTaken (file : List ℕ) (from n : ℕ) (table : Table) (m : ℕ) (t₀ : Tree) (l₀ : Letter) (t : Tree) (closed : Bool) (at k c : ℕ) : Type 0 where
+  pub letter : Letter
+  pub noTerm : OutOfOrder letter Letter.T file at
+  pub noAssumption : OutOfOrder letter Letter.A file at
+  pub runs : verdictFrom file from (n + m) (passed (stateOf table (isOpen (treeOf unpackLiteral t₀)) l₀ m 0 0))
+      ≡ verdictFrom file at (n + m + k) (passed (stateOf table (statusOf closed t) letter m k c))
+
+-- the verdict where the file ends: on a closed tree its counts, else check 17
+abbrev pub verdictAtEnd : Bool → ℕ → ℕ → ℕ → ℕ → Verdict
+verdictAtEnd true n m k c = accept (record { terms = n; assumptions = m; steps = k; closings = c })
+verdictAtEnd false n m k c = refuse Reason.BranchOpen (n + m + k + 1)
+
+abbrev pub StepSection : List ℕ → ℕ → ℕ → Table → ℕ → Tree → Verdict → Type 0
+StepSection file at n table m t v =
+    (l : Letter) → OutOfOrder l Letter.T file at → OutOfOrder l Letter.A file at
+    → v ≡ verdictFrom file at (n + m) (passed (stateOf table (isOpen (treeOf unpackLiteral t)) l m 0 0))

@@ -3,6 +3,7 @@ use lines::Cursor;
 use tableau::Reason;
 
 pub mod assumption_lines;
+pub mod step_lines;
 pub mod term_lines;
 
 // The result of a line of any letter; a refusal has its reason beside the number of the line.

@@ -1,0 +1,25 @@
+-- `cls` and `emp` are the rules that close.
+use mathlib.Core.Path.{sym, ap}
+use Rattle.tableau.specs.Words.{ruleNames}
+use Rattle.tableau.specs.Rules.{rule}
+use Rattle.tableau.proofs.Places.{rules}
+use Rattle.sections.specs.Sections.{closingsOf}
+use Rattle.sections.proofs.StepLines.{not-closing}
+use borrow.Author.Needs.{needs}
+use Rattle.sections.proofs.step_lines.closings.Statement.{statement}
+use Rattle.sections.proofs.step_lines.closings.Tie as tie
+
+returns : tie.Need-returns
+unfolding rule
+returns c = sym (ap closingsOf (c .enum-told .given .1))
+
+returns-2 : tie.Need-returns-2
+unfolding rule
+returns-2 c = sym (ap closingsOf (c .enum-told2 .given .1))
+
+returns-3 : tie.Need-returns-3
+unfolding rules ruleNames
+returns-3 c = sym (not-closing (c .before .args .rule) (c .match .keys3))
+
+pub closings-spec : {M : Type 1} → statement M
+closings-spec = tie.close (tie.spec (λ c. search needs) (λ c. search needs) returns returns-2 returns-3)
