@@ -18,12 +18,12 @@ use Rattle.tableau.specs.Reply.{start, refuse, Verdict, runLines, verdict, Repl
 use Rattle.tableau.specs.Reply.{commaNumbers, yesOrNo, replyLine, call, bufferLength}
 use Rattle.tableau.proofs.Counts.{number-in-range}
 use Rattle.tableau.proofs.Soundness.{demand3}
-use Rattle.terms.specs.Packing.{unpackLiteral}
+use Rattle.packing.specs.Packing.{unpackLiteral}
 use Rattle.tree.specs.declared.Tree.{Tree}
 use Rattle.tree.specs.State.{IsBranch, stackOf, treeOf}
 use Rattle.steps.specs.Reading.{branchOf}
-use Rattle.commands.proofs.InferLaws.{branch-length}
-use Rattle.sections.specs.Running.{verdictFrom}
+use Rattle.steps.proofs.Laws.{branch-length}
+use Rattle.running.specs.Running.{verdictFrom}
 use Rattle.sections.specs.Sections.{stateOf, withLiterals}
 
 -- CHECK 1

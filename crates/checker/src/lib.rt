@@ -15,9 +15,10 @@ ghost use Rattle.tableau.specs.Claims.{BeginsWithYes, NoHeap};
 ghost use Rattle.tableau.specs.Reply as specification;
 ghost use Rattle.tableau.specs.declared.Letter.{Letter};
 ghost use Rattle.tableau.specs.Terms.{Table};
-ghost use Rattle.terms.specs.Lines.{arrays, HoldsIn};
+ghost use Rattle.terms.specs.Arrays.{arrays, Held};
 ghost use Rattle.reply.specs.Verdict.{verdictOf};
-ghost use Rattle.sections.specs.Sections.{NoLine, Between, verdictAfterTerms};
+ghost use Rattle.running.specs.Running.{NoLine};
+ghost use Rattle.sections.specs.Sections.{Between, verdictAfterTerms};
 ghost use Rattle.checker.specs.Text.{textOf};
 
 // A file has at most so many bytes (check 1).
@@ -34,14 +35,13 @@ fn after_terms(
     file: &[u8],
     cursor: Cursor,
     n: usize,
-    terms: &[u64; 601],
-    head: &[u16; 967],
-    next: &[u16; 601],
-    uses: &[u64; 6010],
+    terms: &[u64; table::NUMBERS],
+    chains: &[u16; table::LINKS],
+    rows: &[u64; mentions::WORDS],
 ) -> Verdict
-    requires { ⌜ ((table : Table) × HoldsIn table (arrays (now terms) (now head) (now next) (now uses)) n) ⌝ }
+    requires { ⌜ ((table : Table) × Held table (arrays (now terms) (now chains) (now rows)) n) ⌝ }
     requires { ⌜ Between n (cursor .at) (now file) × NoLine Letter.T (now file) (cursor .at) ⌝ }
-    ensures { λ r. ⌜ ((table : Table) → HoldsIn table (arrays (now (terms .entry)) (now (head .entry)) (now (next .entry)) (now (uses .entry))) n
+    ensures { λ r. ⌜ ((table : Table) → Held table (arrays (now (terms .entry)) (now (chains .entry)) (now (rows .entry))) n
         → verdictOf r ≡ verdictAfterTerms (now (file .entry)) (cursor .at) n table) ⌝ }
 {
     let mut tree = Tree::empty();
@@ -49,7 +49,7 @@ fn after_terms(
         Section::Refused(reason, line) => Verdict::Refused(reason, line),
         Section::Ended(at, m) => {
             tree.len = m;
-            step_lines::run(file, at, n, m, tree, terms, head, next, uses)
+            step_lines::run(file, at, n, m, tree, terms, chains, rows)
         }
     }
 }
@@ -61,13 +61,12 @@ fn check(file: &[u8]) -> Verdict
     if FILE_BYTES < file.len() {
         return Verdict::Refused(Reason::TooLong, 0);
     }
-    let mut terms: [u64; 601] = [0; 601];
-    let mut head: [u16; 967] = [0; 967];
-    let mut next: [u16; 601] = [0; 601];
-    let mut uses: [u64; 6010] = [0; 6010];
-    match term_lines::run(file, &mut terms, &mut head, &mut next, &mut uses) {
+    let mut terms: [u64; table::NUMBERS] = [0; table::NUMBERS];
+    let mut chains: [u16; table::LINKS] = [0; table::LINKS];
+    let mut rows: [u64; mentions::WORDS] = [0; mentions::WORDS];
+    match term_lines::run(file, &mut terms, &mut chains, &mut rows) {
         Section::Refused(reason, line) => Verdict::Refused(reason, line),
-        Section::Ended(cursor, n) => after_terms(file, cursor, n, &terms, &head, &next, &uses),
+        Section::Ended(cursor, n) => after_terms(file, cursor, n, &terms, &chains, &rows),
     }
 }
 

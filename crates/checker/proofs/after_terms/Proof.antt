@@ -5,9 +5,9 @@ use lib.ListN.{length}
 use Rattle.tableau.specs.Reply.{State}
 use Rattle.tableau.specs.Terms.{Table}
 use Rattle.tableau.specs.Tree.{Tree, passed}
-use Rattle.terms.specs.Packing.{unpackLiteral}
-use Rattle.sections.specs.Running.{verdictFrom}
-use Rattle.terms.specs.Holds.{Entries}
+use Rattle.packing.specs.Packing.{unpackLiteral}
+use Rattle.running.specs.Running.{verdictFrom}
+use Rattle.table.specs.Held.{Entries}
 use Rattle.tree.specs.declared.Tree as declared
 use Rattle.sections.specs.declared.Section.{Section}
 use Rattle.sections.specs.Sections.{AssumptionSection}
