@@ -6,7 +6,6 @@ ghost use Rattle.tableau.specs.Basics.{lookup};
 ghost use Rattle.tableau.specs.File.{letters};
 ghost use Rattle.lines.specs.Lines.{lineAt};
 ghost use Rattle.lines.specs.Remains.{letterFound, Sound, Reads, Begins};
-
 use tableau::Letter;
 
 // A position in the file.

@@ -143,9 +143,11 @@ module _ (table : Table) (f : Fields) (k : f .letter ≡ Letter.A) where
       assumption-pushed b b′ len code LineResult.Passed W few h g =
           let n = branch-length b len W in
           let a = assumed-code code few h in
-          let q : branchOf b′ (len + 1) ≡ branchOf b len ++ (literalIn x ∷ []) = g .2 ∙ ap (λ (l : specification.Literal). branchOf b len ++ (l ∷ [])) (a .1) in
-          (g .1, λ l o. room-runs (branchOf b len) (a .0) l o (lt-ltb (length (branchOf b len)) maxPlaces (omega (arith, g .0, n)))
-              ∙ ap passed (after-is (branchOf b len) (branchOf b′ (len + 1)) q))
+          let q : branchOf b′ (len + 1) ≡ branchOf b len ++ (literalIn x ∷ []) = g .2 ∙ ap (λ (l : specification.Literal). branchOf b len ++ (l ∷ [])) (a .1) in (
+            g .1,
+            λ l o. room-runs (branchOf b len) (a .0) l o (lt-ltb (length (branchOf b len)) maxPlaces (omega (arith, g .0, n)))
+                ∙ ap passed (after-is (branchOf b len) (branchOf b′ (len + 1)) q),
+          )
       assumption-pushed b b′ len code (LineResult.Refused r i) W few h g =
           let n = branch-length b len W in
           let a = assumed-code code few h in

@@ -1,8 +1,6 @@
 // S lines.
 use lines::Cursor;
 use lines::LineRead;
-use words::RuleFound;
-use words::StepTaken;
 use reply::Counts;
 use reply::Verdict;
 use rules::outcome::Outcome;
@@ -15,6 +13,8 @@ use tree::Answer;
 use tree::Change;
 use tree::Extended;
 use tree::Tree;
+use words::RuleFound;
+use words::StepTaken;
 ghost use mathlib.Core.Path.{_≡_};
 ghost use Prim.Native.Nat.{_+_, _<_, _≤_};
 ghost use lib.ListN.{length};

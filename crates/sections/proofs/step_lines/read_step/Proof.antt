@@ -60,16 +60,18 @@ returns-6 c =
     let t = c .before .before in
     let s = t .before .before in
     let k = s .before .before in
-    let u = subst (StepTakenAs _ _) (t .step .given .1) (s .step-of .ensures) in
-    (record {
-      fields = fields k .f .given .0 .0;
-      read = read (fields k);
-      letter = letter k;
-      known = known k .0 ∙ (λ i. some (sym (u .0) i));
-      numbers = sym (u .1);
-      behind = refl;
-      taken = u .2;
-    }, s .before .if1 .left)
+    let u = subst (StepTakenAs _ _) (t .step .given .1) (s .step-of .ensures) in (
+      record {
+        fields = fields k .f .given .0 .0;
+        read = read (fields k);
+        letter = letter k;
+        known = known k .0 ∙ (λ i. some (sym (u .0) i));
+        numbers = sym (u .1);
+        behind = refl;
+        taken = u .2;
+      },
+      s .before .if1 .left,
+    )
 
 pub read-step-spec : {M : Type 1} → statement M
 read-step-spec =

@@ -76,9 +76,11 @@ returns-4 c table h =
     let m = c .before .before .before in
     let k = m .before .before .before .before in
     let s = first k in
-    let t = taken k in
-    (term-refused table (s .args .f) (s .pre .1 .0) _ (known (word-told k) .0) _ (t .1) (t .2)
-    (subst (MakesTerm table _ _ _ _) (c .before .reason .given .1) (m .make-term .ensures table h)), refl)
+    let t = taken k in (
+      term-refused table (s .args .f) (s .pre .1 .0) _ (known (word-told k) .0) _ (t .1) (t .2)
+          (subst (MakesTerm table _ _ _ _) (c .before .reason .given .1) (m .make-term .ensures table h)),
+      refl,
+    )
 
 pub one-spec : {M : Type 1} → statement M
 one-spec =

@@ -38,9 +38,10 @@ within c =
     let s = c .before .before in
     let x = s .args .step .rule in
     let z = every-true zeroIfUnused (ruleUses x) (stepFields (s .args .step)) (s .pre .1 .1 .unusedZero) in
-    let h = every-true (onBranch (branch s)) (ruleUses x) (stepFields (s .args .step)) (eleven-held c) in
-    (place-within (now (s .args .branch)) (s .args .len) (s .pre .1 .0) (ruleFields x .p) _ (z .0) (h .0),
-     place-within (now (s .args .branch)) (s .args .len) (s .pre .1 .0) (ruleFields x .q) _ (z .1) (h .1))
+    let h = every-true (onBranch (branch s)) (ruleUses x) (stepFields (s .args .step)) (eleven-held c) in (
+      place-within (now (s .args .branch)) (s .args .len) (s .pre .1 .0) (ruleFields x .p) _ (z .0) (h .0),
+      place-within (now (s .args .branch)) (s .args .len) (s .pre .1 .0) (ruleFields x .q) _ (z .1) (h .1),
+    )
 
 returns : tie.Need-returns
 unfolding alternatives

@@ -43,10 +43,11 @@ unfolding stepLine
 returns-3 c =
     let j = c .before in
     let k = j .before .before in
-    let W = k .before .before .pre .1 .1 in
-    (c .added .ensures .0,
-     λ table H. rw (W .unusedZero, eight-held k table (H .count), sym (j .before .sorts-fit .ensures table (H .searchable .entries)) ∙ not-false _ (j .if2 .left))
-        (c .added .ensures .1 table H))
+    let W = k .before .before .pre .1 .1 in (
+      c .added .ensures .0,
+      λ table H. rw (W .unusedZero, eight-held k table (H .count), sym (j .before .sorts-fit .ensures table (H .searchable .entries)) ∙ not-false _ (j .if2 .left))
+          (c .added .ensures .1 table H),
+    )
 
 pub infer-spec : {M : Type 1} → statement M
 infer-spec = tie.close (tie.spec (λ c κs. c .pre .1 .1) returns sorts-fit-requires returns-2 added-requires returns-3)
