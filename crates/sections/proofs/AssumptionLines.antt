@@ -19,7 +19,7 @@ use Rattle.tableau.specs.Fields.{sides}
 use Rattle.tableau.specs.Terms as specification
 use Rattle.tableau.specs.Terms.{Table, maxTerms}
 use Rattle.tableau.specs.Tree.{Checked, refused, passed, _>>=_, _>>_, require, Tree, isOpen, maxPlaces}
-use Rattle.tableau.specs.Reply.{State, zeroIfUnused, literalLine, assumed, counted, runOpen, refuse}
+use Rattle.tableau.specs.Reply.{State, zeroIfUnused, literalLine, assumed, runOpen, refuse}
 use Rattle.tableau.proofs.Checks.{literal-passed}
 use Rattle.syntax.specs.declared.Literal.{Literal}
 use Rattle.syntax.specs.Syntax.{literalIn, sidesIn}

@@ -1,19 +1,17 @@
 -- S lines in the specification's run.
-use mathlib.Core.Path.{_≡_, refl, sym, _∙_, ap, subst}
-use mathlib.Core.Bool.{Bool, true, false, not, cond}
+use mathlib.Core.Path.{_≡_, refl, sym, _∙_, ap}
+use mathlib.Core.Bool.{Bool, true, false, cond}
 use mathlib.Core.List.{List, [], _∷_, map}
-use mathlib.Core.Logic.{_⊎_, inl, inr}
+use mathlib.Core.Logic.{inl, inr}
 use mathlib.Core.Option.{none, some}
 use Prim.Native.Nat.{ℕ, suc, _+_, _<_, _≤_}
 use native.Mathlib.Omega.{arith}
 use native.Mathlib.Numerals.{add-one}
 use lib.ListN.{length}
-use borrow.Author.Tests.{not-true}
 use denote.Enum.Declared as Declared
 use types.Run.{OneOf}
 use Rattle.tableau.proofs.Letter as letter-type
 use Rattle.tree.proofs.Answer as answer-type
-use Rattle.rules.proofs.outcome.Outcome as outcome-type
 use Rattle.tableau.specs.declared.Letter.{Letter}
 use Rattle.tableau.specs.declared.Reason.{Reason}
 use Rattle.tableau.specs.declared.Rule.{Rule}
@@ -25,7 +23,6 @@ use Rattle.tableau.specs.Rules.{rule}
 use Rattle.tableau.specs.Terms.{Table, Literal}
 use Rattle.tableau.specs.Tree.{Checked, refused, passed, _>>=_, Status, isOpen, isClosed, grown}
 use Rattle.tableau.specs.Reply.{State, zeroIfUnused, stepLine, requireOpen, isClosing, counted, runOpen, Verdict, accept, refuse, atEnd}
-use Rattle.tableau.proofs.Places.{not-among, rules, placeOf, placesBut, other-rule}
 use Rattle.syntax.specs.declared.Step.{Step}
 use Rattle.syntax.specs.Syntax.{stepFields}
 use Rattle.lines.specs.declared.Cursor.{Cursor}
@@ -44,10 +41,11 @@ use Rattle.tree.specs.Change.{answered, Gives}
 use Rattle.rules.specs.declared.outcome.Outcome.{Outcome}
 use Rattle.rules.specs.Answer.{answerOf}
 use Rattle.steps.specs.Reading.{branchOf}
+use Rattle.growth.specs.Growth.{Grows, closingsOf, closesTree, verdictAtEnd}
 use Rattle.running.specs.Running.{verdictFrom, packedCommand, runFields}
 use Rattle.running.proofs.Lines.{line-here, bad-line, refused-here, at-end, run-disordered, run-unknown, run-known}
 use Rattle.sections.specs.declared.step_lines.StepRead.{StepRead}
-use Rattle.sections.specs.Sections.{OutOfOrder, IsStep, StepLine, Branches, Grows, Steps, Opened, stateOf, closingsOf, closesTree, statusOf, verdictAtEnd, StepsTaken}
+use Rattle.sections.specs.Sections.{OutOfOrder, IsStep, StepLine, Steps, Opened, stateOf, statusOf, StepsTaken}
 
 -- an S line is never out of order
 steps-last : (l : Letter) → inOrder l Letter.S ≡ true
@@ -68,30 +66,6 @@ disordered l Letter.S (inr e) a b = absurd (omega (arith, e))
 closings-are : (c : ℕ) (b : Bool) → cond b (suc c) c ≡ c + cond b 1 0
 closings-are c true = sym (add-one c)
 closings-are c false = omega arith
-
-pub closings-most : (x : Rule) → closingsOf x ≤ 1
-closings-most x = go (isClosing x)
-  where
-    go : (b : Bool) → cond b 1 0 ≤ 1
-    go true = omega arith
-    go false = omega arith
-
-abbrev closings : Bool → ℕ
-closings b = cond b 1 0
-
--- the rules that close are `cls` and `emp`
-closes-not : (x : Rule) → OneOf (placesBut (Rule.Cls ∷ Rule.Emp ∷ [])) (placeOf x) → isClosing x ≡ false
-unfolding rules ruleNames rule
-closes-not x o = not-true (isClosing x) (other-rule (λ y. not (isClosing y)) (Rule.Cls ∷ Rule.Emp ∷ []) refl refl x o)
-
-pub not-closing : (x : Rule) → OneOf (placesBut (Rule.Cls ∷ Rule.Emp ∷ [])) (placeOf x) → closingsOf x ≡ 0
-not-closing x o = ap closings {x = isClosing x} {y = false} (closes-not x o)
-
-pub stays-open : (a : Answer) → OneOf (0 ∷ 2 ∷ []) (Declared.tagOf answer-type.the-type a) → closesTree a ≡ false
-stays-open Answer.Open h = refl
-stays-open Answer.Closed (inl e) = absurd (omega (arith, e))
-stays-open Answer.Closed (inr e) = absurd (omega (arith, e))
-stays-open (Answer.Refused r) h = refl
 
 -- an answer that is no refusal
 unrefused : (t : Tree) (a : Answer) → OneOf (0 ∷ 1 ∷ []) (Declared.tagOf answer-type.the-type a) → answered (treeOf unpackLiteral t) a ≡ passed (statusOf (closesTree a) t)
@@ -132,14 +106,6 @@ module _ (file : List ℕ) (at i : ℕ) (σ : State) where
           go : (s : Status) → Opened s → (requireOpen s >>= λ τ. runOpen σ τ (infer x) (numbersOf f)) ≡ refused Reason.UnusedField
           go (isOpen τ) o = rw z
           go isClosed o = absurd o
-
--- an outcome that is not one alternative
-pub branching : (r : Outcome) → OneOf (0 ∷ 1 ∷ 3 ∷ 4 ∷ []) (Declared.tagOf outcome-type.the-type r) → Branches r
-branching (Outcome.Refused x) h = tt
-branching Outcome.Closes h = tt
-branching (Outcome.Adds a) h = absurd (not-among (0 ∷ 1 ∷ 3 ∷ 4 ∷ []) 2 2 refl h refl)
-branching (Outcome.Splits a b) h = tt
-branching (Outcome.SplitsThree a b c) h = tt
 
 -- WHAT A STEP MAKES OF THE TREE, where an outcome is the line's answer: as the methods of the tree grow it, or by one alternative added in place
 module _ (table : Table) (t : Tree) (x : Step) where

@@ -18,7 +18,7 @@ use Rattle.tableau.specs.Basics.{Four, every}
 use Rattle.tableau.specs.File.{maxBytes, rank}
 use Rattle.tableau.specs.Words.{words, make, some-of}
 use Rattle.tableau.specs.Fields.{wordFields}
-use Rattle.tableau.specs.Terms.{Table, written}
+use Rattle.tableau.specs.Terms.{Table}
 use Rattle.tableau.specs.Tree.{Checked, refused, passed, _>>=_, isOpen, root}
 use Rattle.tableau.specs.Reply.{State, start, zeroIfUnused, termLine, counted, runOpen, refuse}
 use Rattle.tableau.proofs.Checks.{term-passed}

@@ -1,18 +1,17 @@
 -- The lines of a file letter by letter: T, then A, then S. What a line of each makes of the state, and where its section ends.
 use mathlib.Core.Path.{_≡_}
-use mathlib.Core.Bool.{Bool, true, false, cond}
+use mathlib.Core.Bool.{Bool, true, false}
 use mathlib.Core.List.{List, [], _∷_, _++_}
 use mathlib.Core.Option.{some}
 use Prim.Native.Nat.{ℕ, _+_, _<_, _≤_}
 use lib.ListN.{length}
 use Rattle.tableau.specs.declared.Letter.{Letter}
 use Rattle.tableau.specs.declared.Reason.{Reason}
-use Rattle.tableau.specs.declared.Rule.{Rule}
 use Rattle.tableau.specs.File.{maxBytes, inOrder}
 use Rattle.tableau.specs.Words.{ruleNames}
 use Rattle.tableau.specs.Terms.{Table, Literal}
 use Rattle.tableau.specs.Tree.{refused, passed, _>>=_, Status, isOpen, isClosed, root, maxPlaces, grown}
-use Rattle.tableau.specs.Reply.{State, start, stepLine, isClosing, Verdict, accept, refuse}
+use Rattle.tableau.specs.Reply.{State, start, stepLine, Verdict, refuse}
 use Rattle.syntax.specs.declared.Step.{Step}
 use Rattle.syntax.specs.Syntax.{stepFields, WellTaken}
 use Rattle.lines.specs.declared.Cursor.{Cursor}
@@ -24,12 +23,9 @@ use Rattle.words.specs.Words.{lookupPacked}
 use Rattle.packing.specs.Packing.{unpackLiteral}
 use Rattle.terms.specs.Arrays.{Arrays, Held}
 use Rattle.tree.specs.declared.Tree.{Tree}
-use Rattle.tree.specs.declared.Answer.{Answer}
 use Rattle.tree.specs.declared.Change.{Change}
 use Rattle.tree.specs.State.{IsBranch, treeOf, Within}
 use Rattle.tree.specs.Change.{answered}
-use Rattle.rules.specs.declared.outcome.Outcome.{Outcome}
-use Rattle.rules.specs.Answer.{answerOf}
 use Rattle.steps.specs.Reading.{branchOf}
 use Rattle.running.specs.Running.{verdictFrom, runFields, NoLine}
 use Rattle.sections.specs.declared.LineResult.{LineResult}
@@ -105,14 +101,6 @@ AssumptionSection file at n table b (Section.Ended c m) = LiteralsAssumed file a
 AssumptionSection file at n table b (Section.Refused r i) = verdictAfterTerms file at n table ≡ refuse r i
 
 -- S LINES, to the end of the file
-abbrev pub closingsOf : Rule → ℕ
-closingsOf x = cond (isClosing x) 1 0
-
-abbrev pub closesTree : Answer → Bool
-closesTree Answer.Open = false
-closesTree Answer.Closed = true
-closesTree (Answer.Refused r) = false
-
 abbrev pub Opened : Status → Type 0
 Opened (isOpen τ) = Unit {0}
 Opened isClosed = ⊥
@@ -138,19 +126,6 @@ StepLine file at closed line (StepRead.Refused r j) =
     → (closed ≡ true → σ .status ≡ isClosed) → (closed ≡ false → Opened (σ .status)) → verdictFrom file at i (passed σ) ≡ refuse r (i + 1))
     × (j ≡ line)
 
--- a step of which more or less than one alternative comes
-abbrev pub Branches : Outcome → Type 0
-Branches (Outcome.Refused r) = Unit {0}
-Branches Outcome.Closes = Unit {0}
-Branches (Outcome.Adds k) = ⊥
-Branches (Outcome.Splits k l) = Unit {0}
-Branches (Outcome.SplitsThree k l m) = Unit {0}
-
--- what an outcome makes of the tree: checks 15 and 16
-pub record Grows (t : Tree) (x : Outcome) (o : Change) : Type 0 where
-  pub within : Within (o .tree)
-  pub result : answered (treeOf unpackLiteral (o .tree)) (o .answer) ≡ (answerOf x >>= grown (treeOf unpackLiteral t))
-
 -- what the line's step makes of the tree: all its checks from 6 on
 pub record Steps (table : Table) (t : Tree) (step : Step) (o : Change) : Type 0 where
   pub within : Within (o .tree)
@@ -164,11 +139,6 @@ pub record StepsTaken (file : List ℕ) (from n : ℕ) (table : Table) (m : ℕ)
   pub noAssumption : OutOfOrder letter Letter.A file at
   pub runs : verdictFrom file from (n + m) (passed (stateOf table (isOpen (treeOf unpackLiteral t₀)) l₀ m 0 0))
       ≡ verdictFrom file at (n + m + k) (passed (stateOf table (statusOf closed t) letter m k c))
-
--- the verdict where the file ends: on a closed tree its counts, else check 17
-abbrev pub verdictAtEnd : Bool → ℕ → ℕ → ℕ → ℕ → Verdict
-verdictAtEnd true n m k c = accept (record { terms = n; assumptions = m; steps = k; closings = c })
-verdictAtEnd false n m k c = refuse Reason.BranchOpen (n + m + k + 1)
 
 abbrev pub StepSection : List ℕ → ℕ → ℕ → Table → ℕ → Tree → Verdict → Type 0
 StepSection file at n table m t v =

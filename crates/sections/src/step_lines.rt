@@ -1,50 +1,28 @@
 // S lines.
+use growth::closings;
+use growth::end;
+use growth::grow;
+use growth::is_closed;
 use lines::Cursor;
 use lines::LineRead;
-use reply::Counts;
 use reply::Verdict;
 use rules::outcome::Outcome;
 use steps::infer;
 use syntax::Step;
 use tableau::Letter;
 use tableau::Reason;
-use tableau::Rule;
 use tree::Answer;
-use tree::Change;
 use tree::Extended;
 use tree::Tree;
 use words::RuleFound;
 use words::StepTaken;
-ghost use mathlib.Core.Path.{_≡_};
-ghost use Prim.Native.Nat.{_+_, _<_, _≤_};
+ghost use Prim.Native.Nat.{_+_, _<_};
 ghost use lib.ListN.{length};
-ghost use Rattle.tableau.specs.File.{maxBytes};
 ghost use Rattle.tableau.specs.Terms.{Table};
 ghost use Rattle.terms.specs.Arrays.{arrays, Held};
 ghost use Rattle.tree.specs.State.{Within};
-ghost use Rattle.rules.specs.Answer.{Room};
 ghost use Rattle.reply.specs.Verdict.{verdictOf};
-ghost use Rattle.sections.specs.Sections.{Between, Branches, Grows, StepLine, StepSection, closingsOf, closesTree, verdictAtEnd};
-
-// `cls` and `emp` close.
-fn closings(rule: Rule) -> usize
-    ensures { λ r. ⌜ r ≡ closingsOf rule ⌝ }
-{
-    match rule {
-        Rule::Cls => 1,
-        Rule::Emp => 1,
-        _ => 0,
-    }
-}
-
-fn is_closed(answer: Answer) -> bool
-    ensures { λ r. ⌜ r ≡ closesTree answer ⌝ }
-{
-    match answer {
-        Answer::Closed => true,
-        _ => false,
-    }
-}
+ghost use Rattle.sections.specs.Sections.{Between, StepLine, StepSection};
 
 // An S line whose rule is known, taken apart, with the position after it; or the first of the checks 2 to 6 that it breaks.
 enum StepRead {
@@ -76,42 +54,6 @@ fn read_step(file: &[u8], at: usize, closed: bool, line: usize) -> StepRead
     };
     let next = f.next;
     StepRead::Step(step, next)
-}
-
-// What a step makes of the tree, with checks 15 and 16. A step that adds one alternative is not handed here: that is stored in place.
-fn grow(tree: Tree, outcome: Outcome) -> Change
-    requires { ⌜ Within tree × Room outcome × Branches outcome ⌝ }
-    ensures { λ r. ⌜ Grows tree outcome r ⌝ }
-{
-    match outcome {
-        Outcome::Closes => tree.close(),
-        Outcome::Splits(a, b) => tree.split2(a, b),
-        Outcome::SplitsThree(a, b, c) => tree.split3(a, b, c),
-        Outcome::Refused(reason) => Change {
-            tree,
-            answer: Answer::Refused(reason),
-        },
-        Outcome::Adds(_) => Change {
-            tree,
-            answer: Answer::Open,
-        },
-    }
-}
-
-// The end of the file: a closed tree is accepted, an open one breaks check 17.
-fn end(closed: bool, n: usize, m: usize, steps: usize, closed_count: usize) -> Verdict
-    requires { ⌜ n + m + steps ≤ maxBytes ⌝ }
-    ensures { λ r. ⌜ verdictOf r ≡ verdictAtEnd closed n m steps «closed_count» ⌝ }
-{
-    if closed {
-        return Verdict::Accepted(Counts {
-            terms: n,
-            assumptions: m,
-            steps,
-            closings: closed_count,
-        });
-    }
-    Verdict::Refused(Reason::BranchOpen, n + m + steps + 1)
 }
 
 pub fn run(

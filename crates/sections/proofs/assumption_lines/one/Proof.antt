@@ -1,20 +1,19 @@
 -- Each return knows what the line was taken for, and the check that failed.
-use mathlib.Core.Path.{_≡_, refl, sym, ap, subst, _∙_}
+use mathlib.Core.Path.{_≡_, sym, subst, _∙_}
 use mathlib.Core.Bool.{true}
 use mathlib.Core.Option.{some}
-use Prim.Native.Nat.{ℕ, _+_, _≤_, _<_}
+use Prim.Native.Nat.{ℕ, _+_, _≤_}
 use native.Mathlib.Omega.{arith}
-use lib.ListN.{length}
 use Rattle.tableau.specs.Basics.{every}
 use Rattle.tableau.specs.Fields.{sides}
 use Rattle.tableau.specs.Words.{relations}
-use Rattle.tableau.specs.Terms.{Table, maxTerms}
-use Rattle.tableau.specs.Reply.{zeroIfUnused, literalLine}
+use Rattle.tableau.specs.Terms.{maxTerms}
+use Rattle.tableau.specs.Reply.{zeroIfUnused}
 use Rattle.syntax.specs.Syntax.{sidesIn}
 use Rattle.words.specs.Words.{lookupPacked, RelationKnown}
 use Rattle.words.specs.Taken.{numbersOf, LiteralTakenAs}
-use Rattle.terms.specs.Lines.{assumptionOf, SmallCode}
-use Rattle.sections.specs.Sections.{Pushed, AssumptionLine}
+use Rattle.terms.specs.Lines.{SmallCode}
+use Rattle.sections.specs.Sections.{Pushed}
 use Rattle.sections.proofs.AssumptionLines.{assumption-unknown, assumption-unused, assumption-refused, assumption-pushed}
 use borrow.Author.Needs.{needs}
 use Rattle.sections.proofs.assumption_lines.one.Statement.{statement}

@@ -1,5 +1,5 @@
 -- `assumption_lines::run` meets its contract: so far every line was an A line whose literal is on the branch.
-use mathlib.Core.Path.{_≡_, refl, sym, _∙_, subst}
+use mathlib.Core.Path.{_≡_, sym, _∙_, subst}
 use Prim.Native.Nat.{_-_}
 use native.Mathlib.Omega.{arith}
 use lib.ListN.{length}

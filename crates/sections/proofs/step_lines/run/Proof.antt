@@ -9,16 +9,17 @@ use Rattle.tableau.specs.declared.Letter.{Letter}
 use Rattle.tableau.specs.Terms.{Table}
 use Rattle.tableau.specs.Reply.{stepLine}
 use Rattle.syntax.specs.Syntax.{stepFields}
-use Rattle.terms.specs.Arrays.{Arrays, arrays, Held}
+use Rattle.terms.specs.Arrays.{arrays, Held}
 use Rattle.tree.specs.State.{AtMost, Within}
 use Rattle.tree.specs.Change.{Extends}
 use Rattle.tree.proofs.Changes.{extend-open, extend-full}
 use Rattle.rules.specs.declared.outcome.Outcome.{Outcome}
 use Rattle.rules.specs.Answer.{Room, answerOf}
 use Rattle.steps.specs.Reading.{branchOf}
+use Rattle.growth.proofs.Laws.{branching, closings-most}
 use Rattle.running.proofs.Lines.{line-here}
 use Rattle.sections.specs.Sections.{Between, OutOfOrder, IsStep, StepLine, StepsTaken}
-use Rattle.sections.proofs.StepLines.{branching, closings-most, steps-start, steps-read, steps-refused, steps-more, steps-end, grows, adds}
+use Rattle.sections.proofs.StepLines.{steps-start, steps-read, steps-refused, steps-more, steps-end, grows, adds}
 use borrow.Author.Needs.{needs}
 use Rattle.sections.proofs.step_lines.run.Statement.{statement}
 use Rattle.sections.proofs.step_lines.run.Tie as tie

@@ -1,5 +1,5 @@
 -- Each return knows what the line was taken for, and the check that failed.
-use mathlib.Core.Path.{_≡_, refl, sym, ap, subst, ap₂, _∙_}
+use mathlib.Core.Path.{_≡_, refl, sym, subst, ap₂, _∙_}
 use mathlib.Core.Bool.{true}
 use mathlib.Core.Option.{some}
 use Prim.Native.Nat.{ℕ, _<_, _≤_}

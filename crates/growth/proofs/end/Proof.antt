@@ -1,11 +1,11 @@
--- `step_lines::end` meets its contract.
+-- A closed tree is accepted, an open one refused.
 use mathlib.Core.Bool.{Bool}
 use mathlib.Core.Path.{sym, ap}
 use borrow.Author.Needs.{needs}
 use Rattle.tableau.specs.Reply.{Verdict}
-use Rattle.sections.specs.Sections.{verdictAtEnd}
-use Rattle.sections.proofs.step_lines.end.Statement.{statement}
-use Rattle.sections.proofs.step_lines.end.Tie as tie
+use Rattle.growth.specs.Growth.{verdictAtEnd}
+use Rattle.growth.proofs.end.Statement.{statement}
+use Rattle.growth.proofs.end.Tie as tie
 
 abbrev by : tie.Start → Bool → Verdict
 by s b = verdictAtEnd b (s .args .n) (s .args .m) (s .args .steps) (s .args .closed-count)

@@ -8,10 +8,10 @@ use Rattle.tree.specs.declared.Tree.{Tree}
 use Rattle.tree.specs.declared.Change.{Change}
 use Rattle.rules.specs.declared.outcome.Outcome.{Outcome}
 use Rattle.rules.specs.Answer.{Room}
-use Rattle.sections.specs.Sections.{Branches, Grows}
+use Rattle.growth.specs.Growth.{Branches, Grows}
 use borrow.Author.Needs.{needs}
-use Rattle.sections.proofs.step_lines.grow.Statement.{statement}
-use Rattle.sections.proofs.step_lines.grow.Tie as tie
+use Rattle.growth.proofs.grow.Statement.{statement}
+use Rattle.growth.proofs.grow.Tie as tie
 
 -- equal outcomes make the same of a tree
 grows-by : {t : Tree} {x y : Outcome} {o : Change} → x ≡ y → Grows t y o → Grows t x o

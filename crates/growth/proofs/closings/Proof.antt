@@ -3,11 +3,11 @@ use mathlib.Core.Path.{sym, ap}
 use Rattle.tableau.specs.Words.{ruleNames}
 use Rattle.tableau.specs.Rules.{rule}
 use Rattle.tableau.proofs.Places.{rules}
-use Rattle.sections.specs.Sections.{closingsOf}
-use Rattle.sections.proofs.StepLines.{not-closing}
+use Rattle.growth.specs.Growth.{closingsOf}
+use Rattle.growth.proofs.Laws.{not-closing}
 use borrow.Author.Needs.{needs}
-use Rattle.sections.proofs.step_lines.closings.Statement.{statement}
-use Rattle.sections.proofs.step_lines.closings.Tie as tie
+use Rattle.growth.proofs.closings.Statement.{statement}
+use Rattle.growth.proofs.closings.Tie as tie
 
 returns : tie.Need-returns
 unfolding rule
