@@ -4,6 +4,7 @@ use packing::literals::left_of;
 use packing::literals::right_of;
 use tableau::Sort;
 use tableau::TermNumber;
+use tree::Tree;
 ghost use mathlib.Core.Path.{_≡_};
 ghost use mathlib.Core.List.{map};
 ghost use Prim.Native.Nat.{_<_, _≤_};
@@ -43,7 +44,7 @@ fn in_literal(mentions: &[u64; mentions::WORDS], n: usize, literal: u32, w: Term
 fn on_branch(
     mentions: &[u64; mentions::WORDS],
     n: usize,
-    branch: &[u32; 1000],
+    branch: &[u32; Tree::PLACES],
     len: usize,
     w: TermNumber,
 ) -> bool
@@ -67,7 +68,7 @@ pub fn is_fresh(
     terms: &[u64; table::NUMBERS],
     mentions: &[u64; mentions::WORDS],
     n: usize,
-    branch: &[u32; 1000],
+    branch: &[u32; Tree::PLACES],
     len: usize,
     w: TermNumber,
 ) -> bool

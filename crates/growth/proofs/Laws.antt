@@ -50,3 +50,11 @@ branching Outcome.Closes h = tt
 branching (Outcome.Adds a) h = absurd (not-among (0 ∷ 1 ∷ 3 ∷ 4 ∷ []) 2 2 refl h refl)
 branching (Outcome.Splits a b) h = tt
 branching (Outcome.SplitsThree a b c) h = tt
+
+-- one that is no split and no refusal either closes
+pub closes-else : (r : Outcome) → OneOf (1 ∷ 2 ∷ []) (Declared.tagOf outcome-type.the-type r) → Branches r → r ≡ Outcome.Closes
+closes-else (Outcome.Refused x) h b = absurd (not-among (1 ∷ 2 ∷ []) 0 0 refl h refl)
+closes-else Outcome.Closes h b = refl
+closes-else (Outcome.Adds a) h b = absurd b
+closes-else (Outcome.Splits k l) h b = absurd (not-among (1 ∷ 2 ∷ []) 3 3 refl h refl)
+closes-else (Outcome.SplitsThree k l m) h b = absurd (not-among (1 ∷ 2 ∷ []) 4 4 refl h refl)

@@ -41,17 +41,13 @@ pub fn grow(tree: Tree, outcome: Outcome) -> Change
     ensures { λ r. ⌜ Grows tree outcome r ⌝ }
 {
     match outcome {
-        Outcome::Closes => tree.close(),
         Outcome::Splits(a, b) => tree.split2(a, b),
         Outcome::SplitsThree(a, b, c) => tree.split3(a, b, c),
         Outcome::Refused(reason) => Change {
             tree,
             answer: Answer::Refused(reason),
         },
-        Outcome::Adds(_) => Change {
-            tree,
-            answer: Answer::Open,
-        },
+        _ => tree.close(),
     }
 }
 

@@ -18,7 +18,7 @@ ghost use Rattle.rules.specs.Answer.{SearchableBy, Concludes, ConcludesFresh};
 ghost use Rattle.heap_rules.specs.Accesses.{Accesses};
 
 // The terms of an access to the field f of u in the heap h, typ(u), dty(f) and rea(h,u,f), if all three stand in the table.
-pub enum Access {
+enum Access {
     At(TermNumber, TermNumber, TermNumber),
     NotMade,
 }

@@ -1,5 +1,5 @@
-// The rules of singletons, of `all` and `nul`, and the cut. Each looks at the terms that its row names and searches for those that it adds: refusal 12 where what
-// the row needs isn't so, then 13 where w is not fresh, then 14 where a term to be added is not made.
+// The rules of singletons, of `all` and `nul`, and the cut. Each looks at the terms that its row names and searches for those that it
+// adds: refusal 12 where what the row needs isn't so, then 13 where w is not fresh, then 14 where a term to be added is not made.
 use packing::LiteralView;
 use packing::TermView;
 use rules::outcome;

@@ -71,9 +71,12 @@ unpackTerm p = written (wordAt (p / 8 % 32)) (unpackFields p)
 abbrev pub nameLimit : ℕ
 nameLimit = 2 ^ 17
 
+abbrev pub termLimit : ℕ
+termLimit = 1024
+
 abbrev pub Packable : Term → Type 0
 Packable (variable s n) = n < nameLimit
-Packable (apply o k) = (k .a < 1024) × (k .b < 1024) × (k .c < 1024) × (k .d < 1024)
+Packable (apply o k) = (k .a < termLimit) × (k .b < termLimit) × (k .c < termLimit) × (k .d < termLimit)
 
 -- A TERM'S VIEW, and the term that a view is of.
 abbrev pub number : TermNo → TermNumber
@@ -111,7 +114,7 @@ takesArguments p = eqb (p / 8 % 32) 1 || (leb 4 (p / 8 % 32) && leb (p / 8 % 32)
 
 -- the arguments that a view shows are small: a packed field has room for them
 abbrev pub Small : TermNo → Type 0
-Small n = n < 1024
+Small n = n < termLimit
 
 abbrev pub SmallView : TermView → Type 0
 SmallView (TermView.Variable s n) = Unit {0}
@@ -147,7 +150,7 @@ abbrev pub codeLimit : ℕ
 codeLimit = 2 ^ 23
 
 abbrev pub PackableLiteral : Literal → Type 0
-PackableLiteral (literal R m n) = (m < 1024) × (n < 1024)
+PackableLiteral (literal R m n) = (m < termLimit) × (n < termLimit)
 
 -- a literal's view, and the literal that a view is of
 unfoldable pub literalViewAs : Relation → TermNumber → TermNumber → LiteralView

@@ -7,8 +7,13 @@ ghost use mathlib.Core.Path.{_≡_};
 ghost use Prim.Native.Nat.{_<_};
 ghost use Rattle.tableau.specs.Terms.{relationIndex};
 ghost use Rattle.syntax.specs.Syntax.{literalIn};
-ghost use Rattle.packing.specs.Packing.{packLiteral, unpackLiteral, codeLimit, PackableLiteral, literalViewOf};
+ghost use Rattle.packing.specs.Packing.{packLiteral, unpackLiteral, codeLimit, Small, PackableLiteral, literalViewOf};
 ghost use Rattle.packing.specs.Packing.{relationOf, leftOf, rightOf, leftIn, rightIn};
+
+// The right side is below SIDE, the left one above it, and the relation above RELATION.
+const SIDE: u32 = 1024;
+
+const RELATION: u32 = 1048576;
 
 fn relation_index(relation: Relation) -> u32
     ensures { λ r. ⌜ (r ≡ relationIndex relation) × (r < 6) ⌝ }
@@ -28,15 +33,15 @@ pub fn pack(literal: Literal) -> u32
     ensures { λ r. ⌜ (r ≡ packLiteral (literalIn literal)) × (r < codeLimit) ⌝ }
 {
     let relation = literal.relation;
-    (relation_index(relation) * 1024 + literal.left.0 as u32) * 1024 + literal.right.0 as u32
+    (relation_index(relation) * SIDE + literal.left.0 as u32) * SIDE + literal.right.0 as u32
 }
 
 pub fn view(packed: u32) -> LiteralView
     ensures { λ r. ⌜ r ≡ literalViewOf (unpackLiteral packed) ⌝ }
 {
-    let m = TermNumber((packed / 1024 % 1024) as usize);
-    let n = TermNumber((packed % 1024) as usize);
-    match packed / 1048576 {
+    let m = TermNumber((packed / SIDE % SIDE) as usize);
+    let n = TermNumber((packed % SIDE) as usize);
+    match packed / RELATION {
         0 => LiteralView::In(m, n),
         1 => LiteralView::Ni(m, n),
         2 => LiteralView::Eq(m, n),
@@ -48,15 +53,15 @@ pub fn view(packed: u32) -> LiteralView
 
 // The sides of a packed literal.
 pub fn left_of(packed: u32) -> TermNumber
-    ensures { λ r. ⌜ (r .0 ≡ leftIn (unpackLiteral packed)) × (r .0 < 1024) ⌝ }
+    ensures { λ r. ⌜ (r .0 ≡ leftIn (unpackLiteral packed)) × Small (r .0) ⌝ }
 {
-    TermNumber((packed / 1024 % 1024) as usize)
+    TermNumber((packed / SIDE % SIDE) as usize)
 }
 
 pub fn right_of(packed: u32) -> TermNumber
-    ensures { λ r. ⌜ (r .0 ≡ rightIn (unpackLiteral packed)) × (r .0 < 1024) ⌝ }
+    ensures { λ r. ⌜ (r .0 ≡ rightIn (unpackLiteral packed)) × Small (r .0) ⌝ }
 {
-    TermNumber((packed % 1024) as usize)
+    TermNumber((packed % SIDE) as usize)
 }
 
 // The parts of any literal.

@@ -16,14 +16,26 @@ ghost use Rattle.tableau.specs.Terms as specification;
 ghost use Rattle.tableau.specs.Steps as rule;
 ghost use Rattle.tableau.specs.declared.Word.{Word};
 ghost use Rattle.syntax.specs.Syntax.{argumentsIn, termIn};
-ghost use Rattle.packing.specs.Packing.{packTerm, unpackTerm, unpackFields, wordBits, nameLimit, Packable, viewOf, takesArguments, Packs};
+ghost use Rattle.packing.specs.Packing.{packTerm, unpackTerm, unpackFields, wordBits, nameLimit, Packable, Packs, Small};
+ghost use Rattle.packing.specs.Packing.{viewOf, takesArguments};
+
+// The low bits, with the word and the sort, are below LOW; above them a field is one of FIELD numbers. The fourth field is the lowest.
+const LOW: u64 = 256;
+
+const FIELD: u64 = 1024;
+
+const THIRD: u64 = 262144;
+
+const SECOND: u64 = 268435456;
+
+const FIRST: u64 = 274877906944;
 
 // Four fields above the low bits.
 fn pack_fields(low: u64, a: usize, b: usize, c: usize, d: usize) -> u64
-    requires { ⌜ (low < 256) × (a < nameLimit) × (b < 1024) × (c < 1024) × (d < 1024) ⌝ }
+    requires { ⌜ (low < 256) × (a < nameLimit) × Small b × Small c × Small d ⌝ }
     ensures { λ r. ⌜ r ≡ (((a * 1024 + b) * 1024 + c) * 1024 + d) * 256 + low ⌝ }
 {
-    (((a as u64 * 1024 + b as u64) * 1024 + c as u64) * 1024 + d as u64) * 256 + low
+    (((a as u64 * FIELD + b as u64) * FIELD + c as u64) * FIELD + d as u64) * LOW + low
 }
 
 fn sort_index(sort: Sort) -> u64
@@ -85,12 +97,12 @@ pub fn pack(term: Term) -> u64
 pub fn view(packed: u64) -> TermView
     ensures { λ r. ⌜ r ≡ viewOf (unpackTerm packed) ⌝ }
 {
-    let first = (packed / 274877906944) as usize;
+    let first = (packed / FIRST) as usize;
     let name = Name(first);
     let a = TermNumber(first);
-    let b = TermNumber((packed / 268435456 % 1024) as usize);
-    let c = TermNumber((packed / 262144 % 1024) as usize);
-    let d = TermNumber((packed / 256 % 1024) as usize);
+    let b = TermNumber((packed / SECOND % FIELD) as usize);
+    let c = TermNumber((packed / THIRD % FIELD) as usize);
+    let d = TermNumber((packed / LOW % FIELD) as usize);
     match packed / 8 % 32 {
         0 => TermView::Nul,
         1 => TermView::Rea(a, b, c),
@@ -137,10 +149,10 @@ fn arguments(packed: u64) -> Arguments
     ensures { λ r. ⌜ argumentsIn r ≡ unpackFields packed ⌝ }
 {
     Arguments {
-        a: TermNumber((packed / 274877906944) as usize),
-        b: TermNumber((packed / 268435456 % 1024) as usize),
-        c: TermNumber((packed / 262144 % 1024) as usize),
-        d: TermNumber((packed / 256 % 1024) as usize),
+        a: TermNumber((packed / FIRST) as usize),
+        b: TermNumber((packed / SECOND % FIELD) as usize),
+        c: TermNumber((packed / THIRD % FIELD) as usize),
+        d: TermNumber((packed / LOW % FIELD) as usize),
     }
 }
 
@@ -170,15 +182,15 @@ fn all_agree(a: TermNumber, b: TermNumber, k: Arguments, l: Arguments) -> bool
         && (agree(a, b, second, l.b) && (agree(a, b, third, l.c) && agree(a, b, fourth, l.d)))
 }
 
-// What `sub` asks of the packed terms x and y: one word, whose arguments are terms and not a name, and has at least one; at each argument they agree, or x has a
-// and y has b.
+// What `sub` asks of the packed terms x and y: one word, that has at least one argument, and terms and not a name for them; at each
+// argument they agree, or x has a and y has b.
 pub fn congruent(a: TermNumber, b: TermNumber, x: u64, y: u64) -> bool
     ensures { λ r. ⌜ ((e f : specification.Term) → Packs e x → Packs f y → r ≡ rule.congruent (a .0) (b .0) e f) ⌝ }
 {
     if !takes_terms(x) {
         return false;
     }
-    if x % 256 != y % 256 {
+    if x % LOW != y % LOW {
         return false;
     }
     all_agree(a, b, arguments(x), arguments(y))

@@ -5,11 +5,10 @@ use mathlib.Core.Option.{Option}
 use Prim.Native.Nat.{ℕ, suc, _<_, _≤_}
 use lib.ListN.{length, drop}
 use Rattle.tableau.specs.declared.Letter.{Letter}
-use Rattle.tableau.specs.declared.Reason.{Reason}
-use Rattle.tableau.specs.File.{LF, inOrder, split}
+use Rattle.tableau.specs.File.{LF, split}
 use Rattle.tableau.specs.Words.{words, relations, ruleNames, Command, make, assume, infer, some-of}
-use Rattle.tableau.specs.Tree.{Checked, passed, _>>=_, _>>_, require, requireSome}
-use Rattle.tableau.specs.Reply.{State, requireOpen, runOpen, Verdict, runLines}
+use Rattle.tableau.specs.Tree.{Checked, passed}
+use Rattle.tableau.specs.Reply.{State, runCommand, Verdict, runLines}
 use Rattle.lines.specs.declared.Fields.{Fields}
 use Rattle.lines.specs.declared.LineRead.{LineRead}
 use Rattle.lines.specs.Lines.{lineAt}
@@ -28,17 +27,18 @@ packedCommand Letter.S w = some-of infer (lookupPacked ruleNames w)
 
 -- checks 3 to 5 of a line that is read, then those of its command
 unfoldable pub runFields : State → Fields → Checked State
-runFields σ f = do
-  require (inOrder (σ .letter) (f .letter)) Reason.LetterOrder
-  c ← requireSome (packedCommand (f .letter) (f .word)) Reason.UnknownWord
-  τ ← requireOpen (σ .status)
-  runOpen σ τ c (numbersOf f)
+runFields σ f = runCommand σ (f .letter) (packedCommand (f .letter) (f .word)) (numbersOf f)
 
--- A line with these fields begins at the position: it ends inside the file, its numbers have at most four digits, and the run goes on behind it.
+-- no number of four digits reaches this
+abbrev pub numberLimit : ℕ
+numberLimit = 10000
+
+-- A line with these fields begins at the position: it ends inside the file, its first number has at most four digits, and the run goes
+-- on behind it.
 pub record LineHere (file : List ℕ) (at : ℕ) (f : Fields) : Type 0 where
   pub longer : at < f .next .at
   pub inside : f .next .at ≤ length file
-  pub small : f .a < 10000
+  pub small : f .a < numberLimit
   pub runs : (i : ℕ) (σ : State) → verdictFrom file at i (passed σ) ≡ verdictFrom file (f .next .at) (suc i) (runFields σ f)
 
 -- no line of letter k begins at the position

@@ -78,7 +78,7 @@ Pushed b len code line b′ LineResult.Passed =
     (len < maxPlaces) × IsBranch b′ (len + 1) × (branchOf b′ (len + 1) ≡ branchOf b len ++ (unpackLiteral code ∷ []))
 Pushed b len code line b′ (LineResult.Refused r i) = (maxPlaces ≤ len) × (r ≡ Reason.BranchFull) × (i ≡ line)
 
--- a line that is refused, after the T lines of the table and len A lines
+-- a line after the T lines of the table and len A lines
 abbrev pub AssumptionLine : Table → Fields → List ℕ → ℕ → List ℕ → LineResult → Type 0
 AssumptionLine table f b len b′ LineResult.Passed =
     IsBranch b′ (len + 1)

@@ -18,7 +18,8 @@ ghost use Prim.Native.Nat.{_+_, _<_};
 ghost use lib.ListN.{length};
 ghost use Rattle.tableau.specs.Terms.{Table};
 ghost use Rattle.table.specs.Held.{Entries};
-ghost use Rattle.tree.specs.State.{codeLimit, IsBranch};
+ghost use Rattle.packing.specs.Packing.{codeLimit};
+ghost use Rattle.tree.specs.State.{IsBranch};
 ghost use Rattle.running.specs.Running.{NoLine};
 ghost use Rattle.sections.specs.Sections.{Between, Pushed, AssumptionLine, AssumptionSection};
 

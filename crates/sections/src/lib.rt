@@ -6,7 +6,7 @@ pub mod assumption_lines;
 pub mod step_lines;
 pub mod term_lines;
 
-// The result of a line of any letter; a refusal has its reason beside the number of the line.
+// The result of a T or A line; a refusal has its reason beside the number of the line.
 pub enum LineResult {
     Passed,
     Refused(Reason, usize),

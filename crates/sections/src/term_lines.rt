@@ -17,6 +17,7 @@ ghost use lib.ListN.{length};
 ghost use Rattle.tableau.specs.File.{maxBytes};
 ghost use Rattle.tableau.specs.Terms.{Table};
 ghost use Rattle.terms.specs.Arrays.{arrays, Held};
+ghost use Rattle.running.specs.Running.{numberLimit};
 ghost use Rattle.sections.specs.Sections.{TermLine, TermSection};
 
 // Checks 4 and 6 to 10 of a T line, where n terms are made: it is line n + 1.
@@ -28,7 +29,7 @@ fn one(
     f: Fields,
 ) -> LineResult
     requires { ⌜ ((table : Table) × Held table (arrays (now terms) (now chains) (now rows)) n) ⌝ }
-    requires { ⌜ (f .letter ≡ Letter.T) × (f .a < 10000) ⌝ }
+    requires { ⌜ (f .letter ≡ Letter.T) × (f .a < numberLimit) ⌝ }
     ensures { λ r. ⌜ ((table : Table) → Held table (arrays (now (terms .entry)) (now (chains .entry)) (now (rows .entry))) n
         → TermLine table f (arrays (now (terms .exit)) (now (chains .exit)) (now (rows .exit))) n r) ⌝ }
 {

@@ -48,8 +48,8 @@ pub record Infers (x : Rule) (P Q : LiteralView) (t w : ℕ) (fresh : Bool) (ter
       → answer table fresh (atPlace (ruleFields x .p) P) (atPlace (ruleFields x .q) Q) t w x ≡ answerOf r
 
 -- check 8 has passed
-abbrev pub TermsMade : Table → Step → Type 0
-TermsMade table s = every (termOrName table) (ruleUses (s .rule)) (stepFields s) ≡ true
+abbrev pub TermsNamed : Table → Step → Type 0
+TermsNamed table s = every (termOrName table) (ruleUses (s .rule)) (stepFields s) ≡ true
 
 -- THE RULES THAT ASK FOR A FRESH w: those with a row that does
 unfoldable pub anyFresh : List Row → Bool

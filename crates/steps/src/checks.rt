@@ -11,18 +11,19 @@ use tree::Tree;
 ghost use mathlib.Core.Path.{_≡_};
 ghost use mathlib.Core.Bool.{true, _||_};
 ghost use mathlib.Core.List.{List};
-ghost use Prim.Native.Nat.{_<_};
 ghost use lib.Bits.{bitAnd};
 ghost use lib.Dec.{eqb};
 ghost use lib.ListN.{length};
 ghost use Rattle.tableau.specs.Basics.{every};
-ghost use Rattle.tableau.specs.Fields.{ruleUses, ruleFields};
+ghost use Rattle.tableau.specs.Fields.{ruleUses};
 ghost use Rattle.tableau.specs.Terms.{Table, Literal};
 ghost use Rattle.tableau.specs.Tree.{onBranch};
 ghost use Rattle.tableau.specs.Reply.{isTerm, termOrName, ofSort};
-ghost use Rattle.syntax.specs.Syntax.{stepFields, WellTaken, maskOf};
+ghost use Rattle.syntax.specs.Syntax.{stepFields, WellTaken};
 ghost use Rattle.table.specs.Held.{Entries};
+ghost use Rattle.packing.specs.Packing.{Small};
 ghost use Rattle.steps.specs.Checks.{HasSorts, isPlace};
+ghost use Rattle.steps.specs.Infers.{TermsNamed};
 
 // A term whose bit is not set is not asked for.
 fn made_if_used(n: usize, used: Mask, bit: u8, t: TermNumber) -> bool
@@ -48,7 +49,7 @@ pub fn terms_made(n: usize, step: Step) -> bool
 // Check 9: "wrong sort in .. `cut` or `ler`".
 fn has_sorts(terms: &[u64; table::NUMBERS], rule: Rule, t: TermNumber, w: TermNumber) -> bool
     requires { ⌜ ((table : Table) × Entries table (now terms)) ⌝ }
-    requires { ⌜ (t .0 < 1024) × (w .0 < 1024) ⌝ }
+    requires { ⌜ Small (t .0) × Small (w .0) ⌝ }
     ensures { λ r. ⌜ ((table : Table) → Entries table (now (terms .entry)) → HasSorts table rule (t .0) (w .0) r) ⌝ }
 {
     match rule {
@@ -61,7 +62,7 @@ fn has_sorts(terms: &[u64; table::NUMBERS], rule: Rule, t: TermNumber, w: TermNu
 }
 
 pub fn sorts_fit(terms: &[u64; table::NUMBERS], step: Step) -> bool
-    requires { ⌜ ((table : Table) × Entries table (now terms) × (every (termOrName table) (ruleUses (step .rule)) (stepFields step) ≡ true)) ⌝ }
+    requires { ⌜ ((table : Table) × Entries table (now terms) × TermsNamed table step) ⌝ }
     requires { ⌜ WellTaken step ⌝ }
     ensures { λ r. ⌜ ((table : Table) → Entries table (now (terms .entry))
         → r ≡ every (ofSort table) (ruleUses (step .rule)) (stepFields step)) ⌝ }

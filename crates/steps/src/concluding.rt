@@ -14,7 +14,7 @@ ghost use Rattle.tableau.specs.Fields.{ruleFields};
 ghost use Rattle.tableau.specs.Terms.{Table};
 ghost use Rattle.table.specs.Held.{Searchable};
 ghost use Rattle.syntax.specs.Syntax.{ThirdFits, thirdIn};
-ghost use Rattle.syntax.specs.declared.ThirdField as declared;
+ghost use Rattle.syntax.specs.declared.ThirdField.{ThirdField as Third};
 ghost use Rattle.packing.specs.Packing.{SmallLiteral};
 ghost use Rattle.steps.specs.Infers.{Given, Infers};
 
@@ -30,7 +30,7 @@ fn by_rule(
     chains: &[u16; table::LINKS],
 ) -> Outcome
     requires { ⌜ ((table : Table) × Searchable table (now terms) (now chains)) ⌝ }
-    requires { ⌜ SmallLiteral p × SmallLiteral q × Given rule (t .0) (w .0) × ThirdFits (ruleFields rule .t) (declared.ThirdField.Term t) ⌝ }
+    requires { ⌜ SmallLiteral p × SmallLiteral q × Given rule (t .0) (w .0) × ThirdFits (ruleFields rule .t) (Third.Term t) ⌝ }
     ensures { λ r. ⌜ Infers rule p q (t .0) (w .0) fresh (now (terms .entry)) (now (chains .entry)) r ⌝ }
 {
     match rule {

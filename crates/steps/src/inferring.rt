@@ -7,21 +7,20 @@ use rules::outcome::Outcome;
 use syntax::Step;
 use tableau::Reason;
 use tableau::Rule;
-use tableau::TermNumber;
 use tree::Tree;
 ghost use mathlib.Core.Path.{_≡_};
-ghost use mathlib.Core.Bool.{true};
-ghost use Rattle.tableau.specs.Basics.{every};
-ghost use Rattle.tableau.specs.Fields.{ruleUses};
+ghost use lib.ListN.{length};
 ghost use Rattle.tableau.specs.Terms.{Table};
-ghost use Rattle.tableau.specs.Reply.{termOrName, stepLine};
+ghost use Rattle.tableau.specs.Reply.{stepLine};
 ghost use Rattle.tableau.specs.Tree.{alternatives};
 ghost use Rattle.syntax.specs.Syntax.{stepFields, WellTaken};
 ghost use Rattle.terms.specs.Arrays.{arrays, Held};
+ghost use Rattle.table.specs.Held.{Entries};
+ghost use Rattle.mentions.specs.Mentions.{MentionRows};
 ghost use Rattle.tree.specs.State.{IsBranch};
 ghost use Rattle.rules.specs.Answer.{Room, answerOf};
 ghost use Rattle.steps.specs.Reading.{branchOf};
-ghost use Rattle.steps.specs.Infers.{Freshness, asksFresh, TermsMade};
+ghost use Rattle.steps.specs.Infers.{Freshness, asksFresh, TermsNamed};
 
 fn asks_fresh(rule: Rule) -> bool
     ensures { λ r. ⌜ r ≡ asksFresh rule ⌝ }
@@ -40,13 +39,12 @@ fn fresh(
     branch: &[u32; Tree::PLACES],
     len: usize,
     terms: &[u64; table::NUMBERS],
-    chains: &[u16; table::LINKS],
     rows: &[u64; mentions::WORDS],
     n: usize,
 ) -> bool
-    requires { ⌜ ((table : Table) × Held table (arrays (now terms) (now chains) (now rows)) n × TermsMade table step) ⌝ }
-    requires { ⌜ IsBranch (now branch) len × WellTaken step ⌝ }
-    ensures { λ r. ⌜ ((table : Table) → Held table (arrays (now (terms .entry)) (now (chains .entry)) (now (rows .entry))) n
+    requires { ⌜ ((table : Table) × Entries table (now terms) × (length table ≡ n) × TermsNamed table step) ⌝ }
+    requires { ⌜ IsBranch (now branch) len ⌝ }
+    ensures { λ r. ⌜ ((table : Table) → Entries table (now (terms .entry)) → MentionRows table (now (rows .entry)) → length table ≡ n
         → Freshness table (branchOf (now (branch .entry)) len) (step .rule) (step .w .0) r) ⌝ }
 {
     let rule = step.rule;
@@ -67,7 +65,7 @@ fn added(
     rows: &[u64; mentions::WORDS],
     n: usize,
 ) -> Outcome
-    requires { ⌜ ((table : Table) × Held table (arrays (now terms) (now chains) (now rows)) n × TermsMade table step) ⌝ }
+    requires { ⌜ ((table : Table) × Held table (arrays (now terms) (now chains) (now rows)) n × TermsNamed table step) ⌝ }
     requires { ⌜ IsBranch (now branch) len × WellTaken step ⌝ }
     ensures { λ r. ⌜ Room r ⌝ }
     ensures { λ r. ⌜ ((table : Table) → Held table (arrays (now (terms .entry)) (now (chains .entry)) (now (rows .entry))) n
@@ -80,7 +78,7 @@ fn added(
     let place_q = step.q;
     let p = literal(branch, len, place_p);
     let q = literal(branch, len, place_q);
-    let w_fresh = fresh(step, branch, len, terms, chains, rows, n);
+    let w_fresh = fresh(step, branch, len, terms, rows, n);
     let rule = step.rule;
     let third = step.t;
     let w = step.w;

@@ -1,5 +1,5 @@
-// The table of terms, in two arrays that the caller lends. terms[t] is the packed term t. chains[h] is the last term with the hash h, and chains[HASHES + t] the
-// one before t with the same hash (0: none).
+// The table of terms, in two arrays that the caller lends. terms[t] is the packed term t. chains[h] is the last term with the hash h, and
+// chains[HASHES + t] the one before t with the same hash (0: none).
 use packing::TermView;
 use packing::terms::pack;
 use syntax::Term;
@@ -11,7 +11,7 @@ ghost use lib.ListN.{getD, set};
 ghost use Rattle.tableau.specs.Terms.{Table, at, numberOf, sortOf, sameSort, maxTerms};
 ghost use Rattle.tableau.specs.Terms as specification;
 ghost use Rattle.syntax.specs.Syntax.{termIn};
-ghost use Rattle.packing.specs.Packing.{Packable, Packs};
+ghost use Rattle.packing.specs.Packing.{Packable, Packs, Small};
 ghost use Rattle.table.specs.Held.{Entries, Searchable, hashes, hashOf, foundOf, ViewAt, FoundAs};
 
 // "terms numbered from 1, at most 600"
@@ -71,7 +71,7 @@ pub fn find(terms: &[u64; NUMBERS], chains: &[u16; LINKS], term: Term) -> Found
 // The packed form of a term. A number that no term has is read as `nul`, here and below.
 pub fn packed(terms: &[u64; NUMBERS], term: TermNumber) -> u64
     requires { ⌜ ((table : Table) × Entries table (now terms)) ⌝ }
-    requires { ⌜ term .0 < 1024 ⌝ }
+    requires { ⌜ Small (term .0) ⌝ }
     ensures { λ r. ⌜ ((table : Table) → Entries table (now (terms .entry)) → Packs (at table (term .0)) r) ⌝ }
 {
     let t = term.0;
@@ -80,7 +80,7 @@ pub fn packed(terms: &[u64; NUMBERS], term: TermNumber) -> u64
 
 pub fn view(terms: &[u64; NUMBERS], term: TermNumber) -> TermView
     requires { ⌜ ((table : Table) × Entries table (now terms)) ⌝ }
-    requires { ⌜ term .0 < 1024 ⌝ }
+    requires { ⌜ Small (term .0) ⌝ }
     ensures { λ r. ⌜ ((table : Table) → Entries table (now (terms .entry)) → ViewAt table (term .0) r) ⌝ }
 {
     packing::terms::view(packed(terms, term))
@@ -88,7 +88,7 @@ pub fn view(terms: &[u64; NUMBERS], term: TermNumber) -> TermView
 
 pub fn sort_of(terms: &[u64; NUMBERS], term: TermNumber) -> Sort
     requires { ⌜ ((table : Table) × Entries table (now terms)) ⌝ }
-    requires { ⌜ term .0 < 1024 ⌝ }
+    requires { ⌜ Small (term .0) ⌝ }
     ensures { λ r. ⌜ ((table : Table) → Entries table (now (terms .entry)) → r ≡ sortOf (at table (term .0))) ⌝ }
 {
     packing::terms::sort(packed(terms, term))
@@ -97,7 +97,7 @@ pub fn sort_of(terms: &[u64; NUMBERS], term: TermNumber) -> Sort
 // Is the term of the given sort?
 pub fn has_sort(terms: &[u64; NUMBERS], sort: Sort, term: TermNumber) -> bool
     requires { ⌜ ((table : Table) × Entries table (now terms)) ⌝ }
-    requires { ⌜ term .0 < 1024 ⌝ }
+    requires { ⌜ Small (term .0) ⌝ }
     ensures { λ r. ⌜ ((table : Table) → Entries table (now (terms .entry)) → r ≡ sameSort sort (sortOf (at table (term .0)))) ⌝ }
 {
     packing::terms::has_sort(packed(terms, term), sort)

@@ -1,7 +1,7 @@
 -- 'The reply': the checks of a line in the order of their numbers, the reply of a whole file, and the forms in which it is given.
 use mathlib.Core.Bool.{Bool, true, false, _&&_, not, cond}
 use mathlib.Core.List.{List, [], _∷_, _++_}
-use mathlib.Core.Option.{Option, none, some}
+use mathlib.Core.Option.{Option}
 use Prim.Native.Nat.{ℕ, zero, suc, _+_, _/_, _%_}
 use lib.Dec.{eqb, leb, ltb}
 use lib.ListN.{length}
@@ -158,14 +158,18 @@ runOpen σ τ (infer x) n = do
   status′ ← grown τ ks
   passed (record { table = σ .table; status = status′; letter = Letter.S; counts = counted (σ .counts) (infer x) })
 
--- "Checks on a line run in the order of the numbers below": 2 to 5, a line for each, then those above.
+-- "Checks on a line run in the order of the numbers below": 2 to 5, a line for each, then those above. The word stands for a command, if it is known.
+abbrev pub runCommand : State → Letter → Option Command → Four ℕ → Checked State
+runCommand σ l command n = do
+  require (inOrder (σ .letter) l) Reason.LetterOrder
+  c ← requireSome command Reason.UnknownWord
+  τ ← requireOpen (σ .status)
+  runOpen σ τ c n
+
 unfoldable pub runRead : State → Option Line → Checked State
 runRead σ read = do
   l ← requireSome read Reason.BadShape
-  require (inOrder (σ .letter) (l .letter)) Reason.LetterOrder
-  c ← requireSome (commandOf (l .letter) (l .word)) Reason.UnknownWord
-  τ ← requireOpen (σ .status)
-  runOpen σ τ c (l .fields)
+  runCommand σ (l .letter) (commandOf (l .letter) (l .word)) (l .fields)
 
 abbrev pub runLine : State → List ℕ → Checked State
 runLine σ bs = runRead σ (shape bs)

@@ -51,7 +51,7 @@ abbrev pub written : Word → Four ℕ → Term
 written (Word.Variable s) n = variable s (n .a)
 written (Word.Operation o) n = apply o n
 
--- Tests of equality, by the places in the lists above.
+-- Tests of equality, by the places of the variants.
 unfoldable pub sortIndex : Sort → ℕ
 sortIndex Sort.Reference = 0
 sortIndex Sort.Region = 1

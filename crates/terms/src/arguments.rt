@@ -13,7 +13,7 @@ ghost use Rattle.tableau.specs.Fields.{arguments, argumentUse, wordFields};
 ghost use Rattle.tableau.specs.Terms.{Table};
 ghost use Rattle.tableau.specs.Reply.{termOrName, ofSort};
 ghost use Rattle.syntax.specs.Syntax.{wordIn, fieldsIn, termIn, argumentsIn};
-ghost use Rattle.packing.specs.Packing.{Packable};
+ghost use Rattle.packing.specs.Packing.{Packable, Small, termLimit};
 ghost use Rattle.table.specs.Held.{Entries};
 ghost use Rattle.mentions.specs.Mentions.{Below};
 ghost use Rattle.terms.specs.Lines.{argumentIn, rowIn};
@@ -75,7 +75,7 @@ fn is_made(n: usize, sort: ArgumentSort, t: TermNumber) -> bool
 // Check 9 of an argument.
 fn has_sort(terms: &[u64; table::NUMBERS], sort: ArgumentSort, t: TermNumber) -> bool
     requires { ⌜ ((table : Table) × Entries table (now terms)) ⌝ }
-    requires { ⌜ t .0 < 1024 ⌝ }
+    requires { ⌜ Small (t .0) ⌝ }
     ensures { λ r. ⌜ ((table : Table) → Entries table (now (terms .entry)) → r ≡ ofSort table (argumentUse (argumentIn sort)) (t .0)) ⌝ }
 {
     match sort {
@@ -97,7 +97,7 @@ fn all_made(n: usize, row: ArgumentRow, k: Arguments) -> bool
 
 fn all_have_sorts(terms: &[u64; table::NUMBERS], row: ArgumentRow, k: Arguments) -> bool
     requires { ⌜ ((table : Table) × Entries table (now terms)) ⌝ }
-    requires { ⌜ Below 1024 (argumentsIn k) ⌝ }
+    requires { ⌜ Below termLimit (argumentsIn k) ⌝ }
     ensures { λ r. ⌜ ((table : Table) → Entries table (now (terms .entry))
         → r ≡ every (ofSort table) (mapFour argumentUse (rowIn row)) (argumentsIn k)) ⌝ }
 {

@@ -23,13 +23,13 @@ ghost use Rattle.terms.specs.Lines.{MakesTerm, assumptionOf, SmallCode};
 mod arguments;
 mod sides;
 
-// The result of a T line.
+// The checks 7 to 10 of a T line.
 pub enum Making {
     Made,
     Refused(Reason),
 }
 
-// The result of an A line: the packed literal.
+// The checks 8 and 9 of an A line: the packed literal.
 pub enum Assumption {
     Assumed(u32),
     Refused(Reason),

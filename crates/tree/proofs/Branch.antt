@@ -14,7 +14,8 @@ use Rattle.tableau.specs.declared.Relation.{Relation}
 use Rattle.tableau.specs.Terms.{Literal, literal}
 use Rattle.tableau.specs.Tree.{maxPlaces, literalAt}
 use Rattle.tableau.proofs.Bools.{both-true}
-use Rattle.tree.specs.State.{codeLimit, HasPlace, IsBranch, Appended}
+use Rattle.packing.specs.Packing.{codeLimit}
+use Rattle.tree.specs.State.{HasPlace, IsBranch, Appended}
 use Rattle.tree.proofs.Arrays.{all-set}
 
 -- check 11 holds of the places from 1 to n

@@ -24,7 +24,7 @@ Kept Answer.Open t t′ = Unit {0}
 Kept Answer.Closed t t′ = t′ ≡ t
 Kept (Answer.Refused r) t t′ = t′ ≡ t
 
--- For every reading of the codes, the outcome is what g says of the tree before.
+-- For every reading of the codes, the change is what g says of the tree before.
 pub record Gives (t : Tree) (g : (ℕ → Literal) → specification.Tree → Checked Status) (o : Change) : Type 0 where
   pub within : Within (o .tree)
   pub result : (f : ℕ → Literal) → answered (treeOf f (o .tree)) (o .answer) ≡ g f (treeOf f t)

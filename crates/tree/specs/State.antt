@@ -9,12 +9,9 @@ use Rattle.tableau.specs.Fields.{place}
 use Rattle.tableau.specs.Terms.{Literal}
 use Rattle.tableau.specs.Tree as specification
 use Rattle.tableau.specs.Tree.{literalAt, onBranch, maxPlaces, maxWaiting, Waiting}
+use Rattle.packing.specs.Packing.{codeLimit}
 use Rattle.tree.specs.declared.Alternative.{Alternative}
 use Rattle.tree.specs.declared.Tree.{Tree}
-
--- every code is below this
-abbrev pub codeLimit : ℕ
-codeLimit = 2 ^ 23
 
 -- ALTERNATIVES: the codes that one adds, in order.
 abbrev pub codesOf : Alternative → List ℕ

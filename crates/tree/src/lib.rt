@@ -1,12 +1,13 @@
-// The tree state: the branch and the alternatives that wait. A literal is one number here, its code; the contracts hold for every reading of the
-// codes as literals.
+// The tree state: the branch and the alternatives that wait. A literal is one number here, its code; the contracts hold for every reading
+// of the codes as literals.
 ghost use mathlib.Core.Path.{_≡_};
 ghost use mathlib.Core.Bool.{true};
 ghost use mathlib.Core.List.{[], _∷_, map};
 ghost use Prim.Native.Nat.{ℕ, _+_, _≤_, _<_, min, max};
 ghost use Rattle.tableau.specs.Terms.{Literal};
 ghost use Rattle.tableau.specs.Tree.{maxPlaces, root, passed, close, grown};
-ghost use Rattle.tree.specs.State.{codeLimit, codesOf, AtMost, packed, cutOf, unpacked, IsBranch, HasPlace, IsAt, Appended, treeOf, Within};
+ghost use Rattle.packing.specs.Packing.{codeLimit};
+ghost use Rattle.tree.specs.State.{codesOf, AtMost, packed, cutOf, unpacked, IsBranch, HasPlace, IsAt, Appended, treeOf, Within};
 ghost use Rattle.tree.specs.Change.{Gives, Extends};
 use tableau::Place;
 use tableau::Reason;
@@ -19,7 +20,8 @@ pub struct Alternative {
     pub third: u32,
 }
 
-// The branch is the first `len` of its array; the first `count` of the other are the packed alternatives that wait, and the last is taken next.
+// The branch is the first `len` of its array; the first `count` of the other are the packed alternatives that wait, and the last is taken
+// next.
 pub struct Tree {
     pub branch: [u32; Tree::PLACES],
     pub len: usize,

@@ -1,5 +1,5 @@
-// The words of T, A and S lines: what each stands for, and the fields that it uses. A letter's words stand in one fixed byte string, in the
-// order of its table.
+// The words of T, A and S lines: what each stands for, and the fields that it uses. A letter's words stand in one fixed byte string, in
+// the order of its table.
 ghost use mathlib.Core.List.{[], _∷_};
 ghost use mathlib.Core.Path.{_≡_};
 ghost use Rattle.lines.specs.Lines.{packWord};

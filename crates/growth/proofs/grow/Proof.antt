@@ -8,7 +8,8 @@ use Rattle.tree.specs.declared.Tree.{Tree}
 use Rattle.tree.specs.declared.Change.{Change}
 use Rattle.rules.specs.declared.outcome.Outcome.{Outcome}
 use Rattle.rules.specs.Answer.{Room}
-use Rattle.growth.specs.Growth.{Branches, Grows}
+use Rattle.growth.specs.Growth.{Grows}
+use Rattle.growth.proofs.Laws.{closes-else}
 use borrow.Author.Needs.{needs}
 use Rattle.growth.proofs.grow.Statement.{statement}
 use Rattle.growth.proofs.grow.Tie as tie
@@ -36,40 +37,35 @@ split3-requires c κs =
 
 returns : tie.Need-returns
 returns c =
-    let g = c .close .ensures in
-    grows-by (c .before .enum-told .given .1) (record { within = g .within; result = g .result unpackLiteral ∙ sym (closing _) })
-
-returns-2 : tie.Need-returns-2
-returns-2 c =
     let g = c .split2 .ensures in
     grows-by (c .before .before .outcome .given .1) (record { within = g .within; result = g .result unpackLiteral })
 
-returns-3 : tie.Need-returns-3
-returns-3 c =
+returns-2 : tie.Need-returns-2
+returns-2 c =
     let g = c .split3 .ensures in
     grows-by (c .before .before .outcome2 .given .1) (record { within = g .within; result = g .result unpackLiteral })
 
-returns-4 : tie.Need-returns-4
-returns-4 c = grows-by (c .before .outcome3 .given .1) (record { within = c .before .before .before .pre .0; result = refl })
+returns-3 : tie.Need-returns-3
+returns-3 c = grows-by (c .before .outcome3 .given .1) (record { within = c .before .before .before .pre .0; result = refl })
 
 -- one alternative does not come here
-returns-5 : tie.Need-returns-5
-returns-5 c = absurd (subst Branches (c .enum-told2 .given .1) (c .before .before .pre .2))
+returns-4 : tie.Need-returns-4
+returns-4 c =
+    let g = c .close .ensures in
+    let s = c .before .before in
+    grows-by (closes-else (s .args .outcome) (c .before .match .keys4) (s .pre .2)) (record { within = g .within; result = g .result unpackLiteral ∙ sym (closing _) })
 
 pub grow-spec : {M : Type 1} → statement M
 grow-spec =
     tie.close
     (tie.spec
     (λ c. search needs)
-    (λ c κs. search needs)
-    (λ c. search needs)
     split2-requires
     (λ c. search needs)
     split3-requires
     (λ c. search needs)
-    (λ c. search needs)
+    (λ c κs. search needs)
     returns
     returns-2
     returns-3
-    returns-4
-    returns-5)
+    returns-4)

@@ -11,22 +11,22 @@ use Rattle.steps.proofs.inferring.fresh.Statement.{statement}
 use Rattle.steps.proofs.inferring.fresh.Tie as tie
 
 returns : tie.Need-returns
-returns c = λ table H P Q t.
+returns c = λ table E M q P Q t.
     let s = c .before .before .before .args in
     unasked-answer table P Q t (s .step .w .0) (s .step .rule) (sym (c .before .asks-fresh .ensures) ∙ not-true _ (c .if1 .taken)) false _
 
 is-fresh-requires : tie.Need-is-fresh-requires
 is-fresh-requires c κs =
     let s = c .before .before .before in
-    let H = s .pre .0 .1 in
-    let E = H .searchable .entries in
-    let w = asked-term (s .pre .0 .0) (s .args .step .rule) (stepFields (s .args .step)) (sym (c .before .asks-fresh .ensures) ∙ not-false _ (c .if1 .left)) (s .pre .0 .2) in
-    ((s .pre .0 .0, E), ((w .0, omega (arith, w .1, H .count), omega (arith, E .few, H .count)), (s .pre .1 .0 .room, s .pre .1 .0 .size)))
+    let E = s .pre .0 .1 in
+    let q = s .pre .0 .2 in
+    let w = asked-term (s .pre .0 .0) (s .args .step .rule) (stepFields (s .args .step)) (sym (c .before .asks-fresh .ensures) ∙ not-false _ (c .if1 .left)) (s .pre .0 .3) in
+    ((s .pre .0 .0, E), ((w .0, omega (arith, w .1, q), omega (arith, E .few, q)), (s .pre .1 .room, s .pre .1 .size)))
 
 returns-2 : tie.Need-returns-2
-returns-2 c = λ table H P Q t.
+returns-2 c = λ table E M q P Q t.
     let s = c .before .before .before .before .args in
-    ap (λ (f : Bool). answer table f P Q t (s .step .w .0) (s .step .rule)) (c .is-fresh .ensures table (H .searchable .entries) (H .mentioned) (H .count))
+    ap (λ (f : Bool). answer table f P Q t (s .step .w .0) (s .step .rule)) (c .is-fresh .ensures table E M q)
 
 pub fresh-spec : {M : Type 1} → statement M
 fresh-spec = tie.close (tie.spec (λ c κs. search needs) returns is-fresh-requires returns-2)

@@ -5,13 +5,13 @@ use lib.ListN.{length}
 use borrow.Author.Tests.{not-true, not-false}
 use Rattle.tableau.specs.Terms.{Table}
 use Rattle.tableau.specs.Reply.{stepLine}
-use Rattle.steps.specs.Infers.{TermsMade}
+use Rattle.steps.specs.Infers.{TermsNamed}
 use borrow.Author.Needs.{needs}
 use Rattle.steps.proofs.inferring.infer.Statement.{statement}
 use Rattle.steps.proofs.inferring.infer.Tie as tie
 
 -- check 8 held
-eight-held : (c : tie.Else1) (table : Table) → length table ≡ c .before .before .args .n → TermsMade table (c .before .before .args .step)
+eight-held : (c : tie.Else1) (table : Table) → length table ≡ c .before .before .args .n → TermsNamed table (c .before .before .args .step)
 eight-held c table q = sym (c .before .terms-made .ensures table q) ∙ not-false _ (c .if1 .left)
 
 returns : tie.Need-returns
