@@ -3,7 +3,9 @@ use mathlib.Core.List.{List, [], _∷_}
 use mathlib.Core.Option.{Option, none, some}
 use Prim.Native.Nat.{ℕ, _+_, _*_}
 use lib.ListN.{length, drop}
+use Rattle.tableau.specs.Basics.{Four, four}
 use Rattle.tableau.specs.File.{LF, split, Line, shape}
+use Rattle.lines.specs.declared.LineFields.{LineFields}
 use Rattle.lines.specs.declared.LineRead.{LineRead}
 
 -- the bytes of a word in one number, the first byte lowest
@@ -35,3 +37,7 @@ firstLine read at (l ∷ m ∷ ls) = read (at + length l + 1) l
 -- the line that begins at a position of the file
 unfoldable pub lineAt : List ℕ → ℕ → LineRead
 lineAt file at = firstLine (λ next′ l. lineRead next′ (shape l)) at (split LF (drop at file))
+
+-- fields 3 to 6 of a line that was read
+abbrev pub numbersOf : LineFields → Four ℕ
+numbersOf f = four (f .a) (f .b) (f .c) (f .d)

@@ -14,7 +14,7 @@ pub struct Cursor {
 }
 
 // The six fields of a line, its word packed in one number, and the position after its LF.
-pub struct Fields {
+pub struct LineFields {
     pub letter: Letter,
     pub word: usize,
     pub a: usize,
@@ -25,7 +25,7 @@ pub struct Fields {
 }
 
 pub enum LineRead {
-    Line(Fields),
+    Line(LineFields),
     BadShape,
 }
 
@@ -254,7 +254,7 @@ pub fn read_line(file: &[u8], cursor: Cursor) -> LineRead
             }
             Step::End => {
                 let letter = state.letter;
-                return LineRead::Line(Fields {
+                return LineRead::Line(LineFields {
                     letter: letter,
                     word: state.word,
                     a: state.a,

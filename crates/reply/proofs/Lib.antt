@@ -1,3 +1,3 @@
 pub mod Stores
 pub mod Decimals
-pub mod Fields
+pub mod NumberFields

@@ -18,10 +18,10 @@ use Rattle.tableau.specs.Tree.{Checked, refused, passed, _>>=_, _>>_, require, 
 use Rattle.tableau.specs.Words.{Command, some-of, make, assume, infer, commandOf}
 use Rattle.tableau.specs.Reply.{State, requireOpen, runOpen, runRead, runLine, Verdict, refuse, atEnd, runLines}
 use Rattle.tableau.proofs.Bools.{both-true, then-inv, guard-inv, none≢some}
-use Rattle.lines.specs.declared.Fields.{Fields}
+use Rattle.lines.specs.declared.LineFields.{LineFields}
 use Rattle.lines.specs.declared.LineRead.{LineRead}
 use Rattle.lines.specs.Lines.{packWord, lineRead, firstLine, lineAt}
-use Rattle.words.specs.Taken.{numbersOf}
+use Rattle.lines.specs.Lines.{numbersOf}
 use Rattle.words.proofs.PackedWords.{words-packed, relations-packed, rules-packed}
 use Rattle.lines.proofs.Remaining.{pieces, split-same, split-other}
 use Rattle.running.specs.Running.{verdictFrom, packedCommand, runFields, LineHere, NoLine}
@@ -118,7 +118,7 @@ command-packed Letter.A w h = ap (some-of assume) (relations-packed w h)
 command-packed Letter.S w h = ap (some-of infer) (rules-packed w h)
 
 -- a line that has its shape runs as its fields do
-abbrev line-fields : ℕ → Line → Fields
+abbrev line-fields : ℕ → Line → LineFields
 line-fields n L = record { letter = L .letter; word = packWord (L .word); a = L .fields .a; b = L .fields .b; c = L .fields .c; d = L .fields .d; next = record { at = n } }
 
 run-shaped : (σ : State) (l : List ℕ) (L : Line) (n : ℕ) → shape l ≡ some L → runLine σ l ≡ runFields σ (line-fields n L)
@@ -139,13 +139,13 @@ refused-here file at i r = go (split LF (drop at file))
     go [] = refl
     go (l ∷ ls) = refl
 
-bad≢line : {f : Fields} → LineRead.BadShape ≡ LineRead.Line f → ⊥
+bad≢line : {f : LineFields} → LineRead.BadShape ≡ LineRead.Line f → ⊥
 bad≢line {f} e = let z : true ≡ false = cc in true≢false z
 
-line-injective : {f g : Fields} → LineRead.Line f ≡ LineRead.Line g → f ≡ g
+line-injective : {f g : LineFields} → LineRead.Line f ≡ LineRead.Line g → f ≡ g
 line-injective e = cc
 
-pub line-here : (file : List ℕ) (at : ℕ) (f : Fields) → lineAt file at ≡ LineRead.Line f → LineHere file at f
+pub line-here : (file : List ℕ) (at : ℕ) (f : LineFields) → lineAt file at ≡ LineRead.Line f → LineHere file at f
 unfolding lineAt
 line-here file at f e = go (split LF (drop at file)) refl e
   where
@@ -205,7 +205,7 @@ unfolding split lineAt
 no-line file at h = rw (drop-of-length-le file h)
 
 -- CHECKS 3 AND 4 of a line that is read: out of order, with an unknown word, or a command
-module _ (σ : State) (f : Fields) {l : Letter} (k : f .letter ≡ l) where
+module _ (σ : State) (f : LineFields) {l : Letter} (k : f .letter ≡ l) where
   pub run-disordered : inOrder (σ .letter) l ≡ false → runFields σ f ≡ refused Reason.LetterOrder
   unfolding runFields
   run-disordered o = rw (k, o)
@@ -223,5 +223,5 @@ module _ (σ : State) (f : Fields) {l : Letter} (k : f .letter ≡ l) where
 pub none-at-end : (k : Letter) (file : List ℕ) (at : ℕ) → length file ≤ at → NoLine k file at
 none-at-end k file at h f e l = bad≢line (sym (no-line file at h) ∙ e)
 
-pub none-here : (k : Letter) (file : List ℕ) (at : ℕ) (f : Fields) → lineAt file at ≡ LineRead.Line f → (f .letter ≡ k → ⊥) → NoLine k file at
-none-here k file at f e h g e′ l = h (ap (λ (x : Fields). x .letter) (line-injective (sym e ∙ e′)) ∙ l)
+pub none-here : (k : Letter) (file : List ℕ) (at : ℕ) (f : LineFields) → lineAt file at ≡ LineRead.Line f → (f .letter ≡ k → ⊥) → NoLine k file at
+none-here k file at f e h g e′ l = h (ap (λ (x : LineFields). x .letter) (line-injective (sym e ∙ e′)) ∙ l)

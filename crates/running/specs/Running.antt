@@ -9,10 +9,10 @@ use Rattle.tableau.specs.File.{LF, split}
 use Rattle.tableau.specs.Words.{words, relations, ruleNames, Command, make, assume, infer, some-of}
 use Rattle.tableau.specs.Tree.{Checked, passed}
 use Rattle.tableau.specs.Reply.{State, runCommand, Verdict, runLines}
-use Rattle.lines.specs.declared.Fields.{Fields}
+use Rattle.lines.specs.declared.LineFields.{LineFields}
 use Rattle.lines.specs.declared.LineRead.{LineRead}
 use Rattle.lines.specs.Lines.{lineAt}
-use Rattle.words.specs.Taken.{numbersOf}
+use Rattle.lines.specs.Lines.{numbersOf}
 use Rattle.words.specs.Words.{lookupPacked}
 
 -- the verdict, where i lines are read and the next begins at the position
@@ -26,7 +26,7 @@ packedCommand Letter.A w = some-of assume (lookupPacked relations w)
 packedCommand Letter.S w = some-of infer (lookupPacked ruleNames w)
 
 -- checks 3 to 5 of a line that is read, then those of its command
-unfoldable pub runFields : State → Fields → Checked State
+unfoldable pub runFields : State → LineFields → Checked State
 runFields σ f = runCommand σ (f .letter) (packedCommand (f .letter) (f .word)) (numbersOf f)
 
 -- no number of four digits reaches this
@@ -35,7 +35,7 @@ numberLimit = 10000
 
 -- A line with these fields begins at the position: it ends inside the file, its first number has at most four digits, and the run goes
 -- on behind it.
-pub record LineHere (file : List ℕ) (at : ℕ) (f : Fields) : Type 0 where
+pub record LineHere (file : List ℕ) (at : ℕ) (f : LineFields) : Type 0 where
   pub longer : at < f .next .at
   pub inside : f .next .at ≤ length file
   pub small : f .a < numberLimit
@@ -43,4 +43,4 @@ pub record LineHere (file : List ℕ) (at : ℕ) (f : Fields) : Type 0 where
 
 -- no line of letter k begins at the position
 abbrev pub NoLine : Letter → List ℕ → ℕ → Type 0
-NoLine k file at = (f : Fields) → lineAt file at ≡ LineRead.Line f → f .letter ≡ k → ⊥
+NoLine k file at = (f : LineFields) → lineAt file at ≡ LineRead.Line f → f .letter ≡ k → ⊥

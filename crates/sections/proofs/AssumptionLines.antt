@@ -23,11 +23,11 @@ use Rattle.tableau.specs.Reply.{State, zeroIfUnused, literalLine, assumed, runO
 use Rattle.tableau.proofs.Checks.{literal-passed}
 use Rattle.syntax.specs.declared.Literal.{Literal}
 use Rattle.syntax.specs.Syntax.{literalIn, sidesIn}
-use Rattle.lines.specs.declared.Fields.{Fields}
+use Rattle.lines.specs.declared.LineFields.{LineFields}
 use Rattle.lines.specs.declared.LineRead.{LineRead}
 use Rattle.lines.specs.Lines.{lineAt}
 use Rattle.words.specs.Words.{lookupPacked}
-use Rattle.words.specs.Taken.{numbersOf}
+use Rattle.lines.specs.Lines.{numbersOf}
 use Rattle.packing.specs.Packing.{packLiteral, unpackLiteral}
 use Rattle.packing.proofs.PackingLaws.{literal-unpack-pack}
 use Rattle.terms.specs.declared.Assumption.{Assumption}
@@ -57,7 +57,7 @@ abbrev unsplit : List specification.Literal → Tree
 unsplit B = record { branch = B; waiting = [] }
 
 -- AN A LINE by its checks from 4 on
-module _ (table : Table) (f : Fields) (k : f .letter ≡ Letter.A) where
+module _ (table : Table) (f : LineFields) (k : f .letter ≡ Letter.A) where
   pub assumption-unknown : (B : List specification.Literal) → lookupPacked relations (f .word) ≡ none → (l : Letter) → inOrder l Letter.A ≡ true
       → runFields (withLiterals table B l) f ≡ refused Reason.UnknownWord
   unfolding packedCommand
@@ -169,7 +169,7 @@ module _ {file : List ℕ} {start n : ℕ} {table : Table} {b : List ℕ} {at m 
   pub assumptions-bad : at < length file → lineAt file at ≡ LineRead.BadShape → verdictAfterTerms file start n table ≡ refuse Reason.BadShape (n + m + 1)
   assumptions-bad h e = rw (add-one (n + m)) (t .runs ∙ bad-line file at h e (n + m) _)
 
-  module _ (f : Fields) (e : lineAt file at ≡ LineRead.Line f) where
+  module _ (f : LineFields) (e : lineAt file at ≡ LineRead.Line f) where
     pub assumptions-refused : length table ≡ n → (r : Reason) (i : ℕ) → AssumptionLine table f b m b (LineResult.Refused r i)
         → verdictAfterTerms file start n table ≡ refuse r i
     assumptions-refused q r i h =

@@ -26,11 +26,11 @@ use Rattle.tableau.specs.Reply.{State, zeroIfUnused, stepLine, requireOpen, isC
 use Rattle.syntax.specs.declared.Step.{Step}
 use Rattle.syntax.specs.Syntax.{stepFields}
 use Rattle.lines.specs.declared.Cursor.{Cursor}
-use Rattle.lines.specs.declared.Fields.{Fields}
+use Rattle.lines.specs.declared.LineFields.{LineFields}
 use Rattle.lines.specs.declared.LineRead.{LineRead}
 use Rattle.lines.specs.Lines.{lineAt}
 use Rattle.words.specs.Words.{lookupPacked}
-use Rattle.words.specs.Taken.{numbersOf}
+use Rattle.lines.specs.Lines.{numbersOf}
 use Rattle.packing.specs.Packing.{unpackLiteral}
 use Rattle.tree.specs.declared.Alternative.{Alternative}
 use Rattle.tree.specs.declared.Tree.{Tree}
@@ -76,13 +76,13 @@ unrefused t (Answer.Refused r) (inr e) = absurd (omega (arith, e))
 
 -- CHECKS 2 TO 6 of a line that breaks one of them
 module _ (file : List ℕ) (at i : ℕ) (σ : State) where
-  refused-by : (f : Fields) → lineAt file at ≡ LineRead.Line f → (r : Reason) → runFields σ f ≡ refused r → verdictFrom file at i (passed σ) ≡ refuse r (i + 1)
+  refused-by : (f : LineFields) → lineAt file at ≡ LineRead.Line f → (r : Reason) → runFields σ f ≡ refused r → verdictFrom file at i (passed σ) ≡ refuse r (i + 1)
   refused-by f e r h = rw (add-one i) (line-here file at f e .runs i σ ∙ ap (verdictFrom file (f .next .at) (suc i)) h ∙ refused-here file (f .next .at) (suc i) r)
 
   pub bad : at < length file → lineAt file at ≡ LineRead.BadShape → verdictFrom file at i (passed σ) ≡ refuse Reason.BadShape (i + 1)
   bad h e = rw (add-one i) (bad-line file at h e i σ)
 
-  module _ (f : Fields) (e : lineAt file at ≡ LineRead.Line f) where
+  module _ (f : LineFields) (e : lineAt file at ≡ LineRead.Line f) where
     pub disordered-line : OneOf (0 ∷ 1 ∷ []) (Declared.tagOf letter-type.the-type (f .letter)) → OutOfOrder (σ .letter) Letter.T file at → OutOfOrder (σ .letter) Letter.A file at
         → verdictFrom file at i (passed σ) ≡ refuse Reason.LetterOrder (i + 1)
     disordered-line h a b = refused-by f e Reason.LetterOrder (run-disordered σ f refl (disordered (σ .letter) (f .letter) h (a f e) (b f e)))

@@ -24,11 +24,11 @@ use Rattle.tableau.specs.Reply.{State, start, zeroIfUnused, termLine, counted, 
 use Rattle.tableau.proofs.Checks.{term-passed}
 use Rattle.syntax.specs.declared.Term.{Term}
 use Rattle.syntax.specs.Syntax.{wordIn, fieldsIn, termIn}
-use Rattle.lines.specs.declared.Fields.{Fields}
+use Rattle.lines.specs.declared.LineFields.{LineFields}
 use Rattle.lines.specs.declared.LineRead.{LineRead}
 use Rattle.lines.specs.Lines.{lineAt}
 use Rattle.words.specs.Words.{lookupPacked}
-use Rattle.words.specs.Taken.{numbersOf}
+use Rattle.lines.specs.Lines.{numbersOf}
 use Rattle.terms.specs.declared.Making.{Making}
 use Rattle.terms.specs.Arrays.{Arrays, Held}
 use Rattle.terms.specs.Lines.{makingOf, MakesTerm}
@@ -47,7 +47,7 @@ other-letter k l (inl h) p q e = p (ap tag (sym e) ∙ h)
 other-letter k l (inr h) p q e = q (ap tag (sym e) ∙ h)
 
 -- A T LINE by its checks from 4 on
-module _ (table : Table) (f : Fields) (k : f .letter ≡ Letter.T) where
+module _ (table : Table) (f : LineFields) (k : f .letter ≡ Letter.T) where
   pub term-unknown : lookupPacked words (f .word) ≡ none → runFields (withTerms table) f ≡ refused Reason.UnknownWord
   unfolding packedCommand rank
   term-unknown e = run-unknown (withTerms table) f k refl (ap (some-of make) e)
@@ -105,7 +105,7 @@ module _ {file : List ℕ} {A : Arrays} {at n : ℕ} (t : TermsMade file A at n)
   pub terms-bad : at < length file → lineAt file at ≡ LineRead.BadShape → verdictFrom file 0 0 (passed start) ≡ refuse Reason.BadShape (n + 1)
   terms-bad h e = rw (add-one n) (t .runs ∙ bad-line file at h e n (withTerms (t .table)))
 
-  module _ (f : Fields) (e : lineAt file at ≡ LineRead.Line f) where
+  module _ (f : LineFields) (e : lineAt file at ≡ LineRead.Line f) where
     pub terms-refused : (r : Reason) (i : ℕ) → (runFields (withTerms (t .table)) f ≡ refused r) × (i ≡ n + 1) → verdictFrom file 0 0 (passed start) ≡ refuse r i
     terms-refused r i h =
         rw (h .1, add-one n) (t .runs ∙ line-here file at f e .runs n (withTerms (t .table)) ∙ ap (verdictFrom file (f .next .at) (suc n)) (h .0)

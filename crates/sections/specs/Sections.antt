@@ -15,10 +15,10 @@ use Rattle.tableau.specs.Reply.{State, start, stepLine, Verdict, refuse}
 use Rattle.syntax.specs.declared.Step.{Step}
 use Rattle.syntax.specs.Syntax.{stepFields, WellTaken}
 use Rattle.lines.specs.declared.Cursor.{Cursor}
-use Rattle.lines.specs.declared.Fields.{Fields}
+use Rattle.lines.specs.declared.LineFields.{LineFields}
 use Rattle.lines.specs.declared.LineRead.{LineRead}
 use Rattle.lines.specs.Lines.{lineAt}
-use Rattle.words.specs.Taken.{numbersOf}
+use Rattle.lines.specs.Lines.{numbersOf}
 use Rattle.words.specs.Words.{lookupPacked}
 use Rattle.packing.specs.Packing.{unpackLiteral}
 use Rattle.terms.specs.Arrays.{Arrays, Held}
@@ -40,7 +40,7 @@ pub record Between (i at : ℕ) (file : List ℕ) : Type 0 where
 
 -- a line of letter k there breaks check 3
 abbrev pub OutOfOrder : Letter → Letter → List ℕ → ℕ → Type 0
-OutOfOrder last k file at = (f : Fields) → lineAt file at ≡ LineRead.Line f → f .letter ≡ k → inOrder last k ≡ false
+OutOfOrder last k file at = (f : LineFields) → lineAt file at ≡ LineRead.Line f → f .letter ≡ k → inOrder last k ≡ false
 
 -- the specification's state: table, tree, letter of the last line, A lines, S lines and closings so far
 abbrev pub stateOf : Table → Status → Letter → ℕ → ℕ → ℕ → State
@@ -51,7 +51,7 @@ abbrev pub withTerms : Table → State
 withTerms table = stateOf table (isOpen root) Letter.T 0 0 0
 
 -- a line that is refused is line n + 1
-abbrev pub TermLine : Table → Fields → Arrays → ℕ → LineResult → Type 0
+abbrev pub TermLine : Table → LineFields → Arrays → ℕ → LineResult → Type 0
 TermLine table f A n LineResult.Passed = (table′ : Table) × Held table′ A (n + 1) × (runFields (withTerms table) f ≡ passed (withTerms table′))
 TermLine table f A n (LineResult.Refused r i) = (runFields (withTerms table) f ≡ refused r) × (i ≡ n + 1)
 
@@ -79,7 +79,7 @@ Pushed b len code line b′ LineResult.Passed =
 Pushed b len code line b′ (LineResult.Refused r i) = (maxPlaces ≤ len) × (r ≡ Reason.BranchFull) × (i ≡ line)
 
 -- a line after the T lines of the table and len A lines
-abbrev pub AssumptionLine : Table → Fields → List ℕ → ℕ → List ℕ → LineResult → Type 0
+abbrev pub AssumptionLine : Table → LineFields → List ℕ → ℕ → List ℕ → LineResult → Type 0
 AssumptionLine table f b len b′ LineResult.Passed =
     IsBranch b′ (len + 1)
     × ((l : Letter) → inOrder l Letter.A ≡ true
@@ -111,7 +111,7 @@ statusOf false t = isOpen (treeOf unpackLiteral t)
 
 -- AN S LINE with a known rule, taken apart, on an open tree; or what the specification's run refuses, wherever it stands before the line.
 pub record IsStep (file : List ℕ) (at : ℕ) (step : Step) (next : Cursor) : Type 0 where
-  pub fields : Fields
+  pub fields : LineFields
   pub read : lineAt file at ≡ LineRead.Line fields
   pub letter : fields .letter ≡ Letter.S
   pub known : lookupPacked ruleNames (fields .word) ≡ some (step .rule)

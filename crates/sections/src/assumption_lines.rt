@@ -2,8 +2,9 @@
 use crate::LineResult;
 use crate::Section;
 use lines::Cursor;
-use lines::Fields;
+use lines::LineFields;
 use lines::LineRead;
+use parsing::LiteralTaken;
 use tableau::Letter;
 use tableau::Reason;
 use terms::Assumption;
@@ -11,7 +12,6 @@ use terms::assume_literal;
 use tree::Alternative;
 use tree::Extended;
 use tree::Tree;
-use words::LiteralTaken;
 use words::RelationFound;
 ghost use mathlib.Core.Path.{_≡_};
 ghost use Prim.Native.Nat.{_+_, _<_};
@@ -40,7 +40,7 @@ fn one(
     n: usize,
     branch: &mut [u32; Tree::PLACES],
     len: usize,
-    f: Fields,
+    f: LineFields,
 ) -> LineResult
     requires { ⌜ ((table : Table) × Entries table (now terms) × (length table ≡ n)) ⌝ }
     requires { ⌜ IsBranch (now branch) len × (f .letter ≡ Letter.A) ⌝ }
@@ -52,7 +52,7 @@ fn one(
     let RelationFound::Known(relation) = words::relation_of(word) else {
         return LineResult::Refused(Reason::UnknownWord, line);
     };
-    let LiteralTaken::Literal(literal) = words::literal_of(relation, f) else {
+    let LiteralTaken::Literal(literal) = parsing::literal_of(relation, f) else {
         return LineResult::Refused(Reason::UnusedField, line);
     };
     match assume_literal(terms, n, literal) {

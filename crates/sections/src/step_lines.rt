@@ -5,6 +5,7 @@ use growth::grow;
 use growth::is_closed;
 use lines::Cursor;
 use lines::LineRead;
+use parsing::StepTaken;
 use reply::Verdict;
 use rules::outcome::Outcome;
 use steps::infer;
@@ -15,7 +16,6 @@ use tree::Answer;
 use tree::Extended;
 use tree::Tree;
 use words::RuleFound;
-use words::StepTaken;
 ghost use Prim.Native.Nat.{_+_, _<_};
 ghost use lib.ListN.{length};
 ghost use Rattle.tableau.specs.Terms.{Table};
@@ -49,7 +49,7 @@ fn read_step(file: &[u8], at: usize, closed: bool, line: usize) -> StepRead
     if closed {
         return StepRead::Refused(Reason::TreeClosed, line);
     }
-    let StepTaken::Step(step) = words::step_of(row, f) else {
+    let StepTaken::Step(step) = parsing::step_of(row, f) else {
         return StepRead::Refused(Reason::UnusedField, line);
     };
     let next = f.next;

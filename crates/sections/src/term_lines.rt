@@ -2,13 +2,13 @@
 use crate::LineResult;
 use crate::Section;
 use lines::Cursor;
-use lines::Fields;
+use lines::LineFields;
 use lines::LineRead;
+use parsing::TermTaken;
 use tableau::Letter;
 use tableau::Reason;
 use terms::Making;
 use terms::make_term;
-use words::TermTaken;
 use words::WordFound;
 ghost use mathlib.Core.Path.{_≡_};
 ghost use mathlib.Core.List.{[]};
@@ -26,7 +26,7 @@ fn one(
     chains: &mut [u16; table::LINKS],
     rows: &mut [u64; mentions::WORDS],
     n: usize,
-    f: Fields,
+    f: LineFields,
 ) -> LineResult
     requires { ⌜ ((table : Table) × Held table (arrays (now terms) (now chains) (now rows)) n) ⌝ }
     requires { ⌜ (f .letter ≡ Letter.T) × (f .a < numberLimit) ⌝ }
@@ -37,7 +37,7 @@ fn one(
     let WordFound::Known(row) = words::word_of(word) else {
         return LineResult::Refused(Reason::UnknownWord, n + 1);
     };
-    let TermTaken::Term(term) = words::term_of(row, f) else {
+    let TermTaken::Term(term) = parsing::term_of(row, f) else {
         return LineResult::Refused(Reason::UnusedField, n + 1);
     };
     match make_term(terms, chains, rows, n, term) {

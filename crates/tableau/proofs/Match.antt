@@ -110,7 +110,7 @@ letter-bound (some m) x n σ σ′ f e =
 
 module _ (table : TermNo → Term) where
   -- what it means that the operator's pattern fits, field by field
-  pub record Fields (o : Operator) (k l m j : Pattern) (n : TermNo) (σ σ′ : Letters) : Type 0 where
+  pub record OperatorFits (o : Operator) (k l m j : Pattern) (n : TermNo) (σ σ′ : Letters) : Type 0 where
     pub arguments′ : Four TermNo
     pub σ₁ : Letters
     pub σ₂ : Letters
@@ -122,7 +122,7 @@ module _ (table : TermNo → Term) where
     pub fourth : ifArgument (arguments o .d) (fits table j (arguments′ .d) σ₃) (some σ₃) ≡ some σ′
 
   pub fields-inv : (o : Operator) (k l m j : Pattern) (n : TermNo) (σ σ′ : Letters) → fits table (operator o k l m j) n σ ≡ some σ′
-      → Fields o k l m j n σ σ′
+      → OperatorFits o k l m j n σ σ′
   unfolding fits
   fields-inv o k l m j n σ σ′ e =
       let i = then-inv (argumentsOf o (table n)) _ e in

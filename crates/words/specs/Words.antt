@@ -9,11 +9,11 @@ use Rattle.tableau.specs.Basics.{bytes, Named}
 use Rattle.tableau.specs.Words.{words, relations, ruleNames}
 use Rattle.tableau.specs.Fields.{wordFields, ruleUses}
 use Rattle.syntax.specs.Syntax.{maskOf}
-use Rattle.words.specs.declared.tables.WordRow.{WordRow}
-use Rattle.words.specs.declared.tables.RuleRow.{RuleRow}
-use Rattle.words.specs.declared.tables.WordFound.{WordFound}
-use Rattle.words.specs.declared.tables.RelationFound.{RelationFound}
-use Rattle.words.specs.declared.tables.RuleFound.{RuleFound}
+use Rattle.words.specs.declared.WordRow.{WordRow}
+use Rattle.words.specs.declared.RuleRow.{RuleRow}
+use Rattle.words.specs.declared.WordFound.{WordFound}
+use Rattle.words.specs.declared.RelationFound.{RelationFound}
+use Rattle.words.specs.declared.RuleFound.{RuleFound}
 use Rattle.lines.specs.Lines.{packWord}
 
 -- what the first entry stands for whose text packs to w

@@ -6,7 +6,7 @@ use lib.ListN.{length-set}
 use borrow.Author.Needs.{needs}
 use Rattle.tableau.specs.Reply.{replyLine, commaNumbers}
 use Rattle.tableau.specs.File.{LF}
-use Rattle.reply.proofs.Fields.{first-field}
+use Rattle.reply.proofs.NumberFields.{first-field}
 use Rattle.reply.proofs.Stores.{stored-behind}
 use Rattle.reply.proofs.text.write_line.Statement.{statement}
 use Rattle.reply.proofs.text.write_line.Tie as tie

@@ -11,7 +11,8 @@ use Rattle.tableau.specs.Terms.{maxTerms}
 use Rattle.tableau.specs.Reply.{zeroIfUnused}
 use Rattle.syntax.specs.Syntax.{sidesIn}
 use Rattle.words.specs.Words.{lookupPacked, RelationKnown}
-use Rattle.words.specs.Taken.{numbersOf, LiteralTakenAs}
+use Rattle.lines.specs.Lines.{numbersOf}
+use Rattle.parsing.specs.Taken.{LiteralTakenAs}
 use Rattle.terms.specs.Lines.{SmallCode}
 use Rattle.sections.specs.Sections.{Pushed}
 use Rattle.sections.proofs.AssumptionLines.{assumption-unknown, assumption-unused, assumption-refused, assumption-pushed}

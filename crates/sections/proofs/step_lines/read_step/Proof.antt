@@ -6,7 +6,7 @@ use Rattle.tableau.specs.Words.{ruleNames}
 use Rattle.lines.specs.declared.LineRead.{LineRead}
 use Rattle.lines.specs.Lines.{lineAt}
 use Rattle.words.specs.Words.{lookupPacked, RuleKnown, RuleFits}
-use Rattle.words.specs.Taken.{StepTakenAs}
+use Rattle.parsing.specs.Taken.{StepTakenAs}
 use Rattle.sections.proofs.StepLines.{bad, disordered-line, unknown-line, closed-line, unused-line}
 use borrow.Author.Needs.{needs}
 use Rattle.sections.proofs.step_lines.read_step.Statement.{statement}

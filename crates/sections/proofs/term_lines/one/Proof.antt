@@ -12,7 +12,8 @@ use Rattle.tableau.specs.Words.{words}
 use Rattle.tableau.specs.Reply.{zeroIfUnused}
 use Rattle.syntax.specs.Syntax.{wordIn, fieldsIn}
 use Rattle.words.specs.Words.{lookupPacked, WordKnown, WordFits}
-use Rattle.words.specs.Taken.{numbersOf, TermTakenAs}
+use Rattle.lines.specs.Lines.{numbersOf}
+use Rattle.parsing.specs.Taken.{TermTakenAs}
 use Rattle.packing.specs.Packing.{nameLimit}
 use Rattle.terms.specs.Lines.{MakesTerm}
 use Rattle.sections.proofs.TermLines.{term-unknown, term-unused, term-made, term-refused}

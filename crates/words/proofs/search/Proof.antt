@@ -6,8 +6,8 @@ use lib.ListN.{length, drop}
 use borrow.Author.Needs.{needs}
 use Rattle.words.specs.Words.{wordsOf, indexOf}
 use Rattle.words.proofs.TableLaws.{index-here, index-later, index-end}
-use Rattle.words.proofs.tables.search.Statement.{statement}
-use Rattle.words.proofs.tables.search.Tie as tie
+use Rattle.words.proofs.search.Statement.{statement}
+use Rattle.words.proofs.search.Tie as tie
 
 abbrev Inv-loop : tie.InvT-loop
 Inv-loop word words n₀ i₀ n i = (n + indexOf word (wordsOf (drop i words)) ≡ indexOf word (wordsOf words)) × (n ≤ i) × (i ≤ length words)

@@ -1,7 +1,7 @@
 use lib.Bits.{bitAnd}
 use borrow.Author.Tests.{eq-eqb, ne-eqb}
-use Rattle.words.proofs.taking.zero_if_unused.Statement.{statement}
-use Rattle.words.proofs.taking.zero_if_unused.Tie as tie
+use Rattle.parsing.proofs.zero_if_unused.Statement.{statement}
+use Rattle.parsing.proofs.zero_if_unused.Tie as tie
 
 pub zero-if-unused-spec : {M : Type 1} → statement M
 zero-if-unused-spec =

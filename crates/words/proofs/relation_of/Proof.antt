@@ -6,8 +6,8 @@ use Rattle.tableau.specs.Basics.{bytes}
 use Rattle.tableau.specs.Words.{relations}
 use Rattle.words.specs.Words.{wordsOf}
 use Rattle.words.proofs.TableLaws.{packedTexts, rowsOf, found, not-found}
-use Rattle.words.proofs.tables.relation_of.Statement.{statement}
-use Rattle.words.proofs.tables.relation_of.Tie as tie
+use Rattle.words.proofs.relation_of.Statement.{statement}
+use Rattle.words.proofs.relation_of.Tie as tie
 
 known : tie.Need-returns
 unfolding wordsOf packedTexts rowsOf relations bytes

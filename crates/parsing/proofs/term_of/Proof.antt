@@ -4,10 +4,10 @@ use borrow.Author.Needs.{needs}
 use borrow.Author.Tests.{not-true, not-false}
 use Rattle.tableau.specs.declared.Word.{Word}
 use Rattle.tableau.specs.Fields.{wordFields}
-use Rattle.words.specs.Taken.{numbersOf}
-use Rattle.words.proofs.Masks.{zeros}
-use Rattle.words.proofs.taking.term_of.Statement.{statement}
-use Rattle.words.proofs.taking.term_of.Tie as tie
+use Rattle.lines.specs.Lines.{numbersOf}
+use Rattle.parsing.proofs.Masks.{zeros}
+use Rattle.parsing.proofs.term_of.Statement.{statement}
+use Rattle.parsing.proofs.term_of.Tie as tie
 
 unused-field : tie.Need-returns
 unused-field c =

@@ -5,18 +5,13 @@ use Prim.Native.Nat.{ℕ}
 use Rattle.tableau.specs.declared.Word.{Word}
 use Rattle.tableau.specs.declared.Relation.{Relation}
 use Rattle.tableau.specs.declared.Rule.{Rule}
-use Rattle.tableau.specs.Basics.{Four, four, every}
+use Rattle.tableau.specs.Basics.{Four, every}
 use Rattle.tableau.specs.Fields.{wordFields, sides, ruleUses}
 use Rattle.tableau.specs.Reply.{zeroIfUnused}
 use Rattle.syntax.specs.Syntax.{wordIn, fieldsIn, sidesIn, stepFields, WellTaken}
-use Rattle.lines.specs.declared.Fields.{Fields}
-use Rattle.words.specs.declared.taking.TermTaken.{TermTaken}
-use Rattle.words.specs.declared.taking.LiteralTaken.{LiteralTaken}
-use Rattle.words.specs.declared.taking.StepTaken.{StepTaken}
-
--- fields 3 to 6 of a line that was read
-abbrev pub numbersOf : Fields → Four ℕ
-numbersOf f = four (f .a) (f .b) (f .c) (f .d)
+use Rattle.parsing.specs.declared.TermTaken.{TermTaken}
+use Rattle.parsing.specs.declared.LiteralTaken.{LiteralTaken}
+use Rattle.parsing.specs.declared.StepTaken.{StepTaken}
 
 abbrev pub TermTakenAs : Word → Four ℕ → TermTaken → Type 0
 TermTakenAs w k (TermTaken.Term e) = (every zeroIfUnused (wordFields w) k ≡ true) × (wordIn e ≡ w) × (fieldsIn e ≡ k)

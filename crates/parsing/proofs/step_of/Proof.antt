@@ -2,8 +2,8 @@
 use mathlib.Core.Path.{refl, sym, _∙_}
 use borrow.Author.Tests.{not-true, not-false}
 use Rattle.tableau.specs.Fields.{ruleUses}
-use Rattle.words.proofs.taking.step_of.Statement.{statement}
-use Rattle.words.proofs.taking.step_of.Tie as tie
+use Rattle.parsing.proofs.step_of.Statement.{statement}
+use Rattle.parsing.proofs.step_of.Tie as tie
 
 unused-field : tie.Need-returns
 unused-field c =

@@ -1,9 +1,9 @@
 -- The first field that fails its test decides; else the last field does.
 use mathlib.Core.Path.{_∙_, sym}
 use borrow.Author.Tests.{not-true, not-false}
-use Rattle.words.proofs.Masks.{tests}
-use Rattle.words.proofs.taking.unused_zero.Statement.{statement}
-use Rattle.words.proofs.taking.unused_zero.Tie as tie
+use Rattle.parsing.proofs.Masks.{tests}
+use Rattle.parsing.proofs.unused_zero.Statement.{statement}
+use Rattle.parsing.proofs.unused_zero.Tie as tie
 
 first : tie.Need-returns
 first c u e =

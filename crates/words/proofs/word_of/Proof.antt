@@ -7,11 +7,11 @@ use Rattle.tableau.specs.Basics.{bytes}
 use Rattle.tableau.specs.Fields.{arguments, wordFields}
 use Rattle.tableau.specs.Words.{words}
 use Rattle.syntax.specs.Syntax.{maskOf}
-use Rattle.words.specs.declared.tables.WordUses.{WordUses}
+use Rattle.words.specs.declared.WordUses.{WordUses}
 use Rattle.words.specs.Words.{wordsOf}
 use Rattle.words.proofs.TableLaws.{packedTexts, rowsOf, found, not-found}
-use Rattle.words.proofs.tables.word_of.Statement.{statement}
-use Rattle.words.proofs.tables.word_of.Tie as tie
+use Rattle.words.proofs.word_of.Statement.{statement}
+use Rattle.words.proofs.word_of.Tie as tie
 
 abbrev row : Word → WordUses
 row x = record { 0 = x; 1 = maskOf (wordFields x) }

@@ -7,11 +7,11 @@ use Rattle.tableau.specs.Basics.{bytes}
 use Rattle.tableau.specs.Fields.{ruleFields, ruleUses}
 use Rattle.tableau.specs.Words.{ruleNames}
 use Rattle.syntax.specs.Syntax.{maskOf}
-use Rattle.words.specs.declared.tables.RuleUses.{RuleUses}
+use Rattle.words.specs.declared.RuleUses.{RuleUses}
 use Rattle.words.specs.Words.{wordsOf}
 use Rattle.words.proofs.TableLaws.{packedTexts, rowsOf, found, not-found}
-use Rattle.words.proofs.tables.rule_of.Statement.{statement}
-use Rattle.words.proofs.tables.rule_of.Tie as tie
+use Rattle.words.proofs.rule_of.Statement.{statement}
+use Rattle.words.proofs.rule_of.Tie as tie
 
 abbrev row : Rule → RuleUses
 row x = record { 0 = x; 1 = maskOf (ruleUses x) }

@@ -2,10 +2,10 @@
 use mathlib.Core.Path.{refl, sym, _∙_}
 use borrow.Author.Tests.{not-true, not-false}
 use Rattle.tableau.specs.Fields.{sides}
-use Rattle.words.specs.Taken.{numbersOf}
-use Rattle.words.proofs.Masks.{two-sides, zeros}
-use Rattle.words.proofs.taking.literal_of.Statement.{statement}
-use Rattle.words.proofs.taking.literal_of.Tie as tie
+use Rattle.lines.specs.Lines.{numbersOf}
+use Rattle.parsing.proofs.Masks.{two-sides, zeros}
+use Rattle.parsing.proofs.literal_of.Statement.{statement}
+use Rattle.parsing.proofs.literal_of.Tie as tie
 
 unused-field : tie.Need-returns
 unused-field c =

@@ -7,11 +7,10 @@ ghost use Rattle.tableau.specs.Basics.{Four, every};
 ghost use Rattle.tableau.specs.Fields.{Use, ruleFields};
 ghost use Rattle.tableau.specs.Reply.{zeroIfUnused};
 ghost use Rattle.syntax.specs.Syntax.{maskOf, thirdIn, ThirdFits};
-ghost use Rattle.words.specs.Taken.{numbersOf, TermTakenAs, LiteralTakenAs, StepTakenAs};
+ghost use Rattle.lines.specs.Lines.{numbersOf};
 ghost use Rattle.words.specs.Words.{WordFits, RuleFits};
-use crate::tables::RuleRow;
-use crate::tables::WordRow;
-use lines::Fields;
+ghost use Rattle.parsing.specs.Taken.{TermTakenAs, LiteralTakenAs, StepTakenAs};
+use lines::LineFields;
 use syntax::Arguments;
 use syntax::Literal;
 use syntax::Mask;
@@ -25,6 +24,8 @@ use tableau::Rule;
 use tableau::Side;
 use tableau::TermNumber;
 use tableau::Word;
+use words::RuleRow;
+use words::WordRow;
 
 pub enum TermTaken {
     Term(Term),
@@ -51,7 +52,7 @@ fn zero_if_unused(used: u8, bit: u8, value: usize) -> bool
 }
 
 // Check 6 for any word, by the mask of its fields.
-fn unused_zero(used: Mask, f: Fields) -> bool
+fn unused_zero(used: Mask, f: LineFields) -> bool
     ensures { λ r. ⌜ ((u : Four Use) → used .0 ≡ maskOf u → r ≡ every zeroIfUnused u (numbersOf f)) ⌝ }
 {
     let mask = used.0;
@@ -68,7 +69,7 @@ fn unused_zero(used: Mask, f: Fields) -> bool
 }
 
 // A T line.
-pub fn term_of(row: WordRow, f: Fields) -> TermTaken
+pub fn term_of(row: WordRow, f: LineFields) -> TermTaken
     requires { ⌜ WordFits row ⌝ }
     ensures { λ r. ⌜ TermTakenAs (row .word) (numbersOf f) r ⌝ }
 {
@@ -92,7 +93,7 @@ pub fn term_of(row: WordRow, f: Fields) -> TermTaken
 }
 
 // An A line. Every relation has two sides.
-pub fn literal_of(relation: Relation, f: Fields) -> LiteralTaken
+pub fn literal_of(relation: Relation, f: LineFields) -> LiteralTaken
     ensures { λ r. ⌜ LiteralTakenAs relation (numbersOf f) r ⌝ }
 {
     if !unused_zero(Mask(Mask::P | Mask::Q), f) {
@@ -116,7 +117,7 @@ fn third_of(rule: Rule, t: usize) -> ThirdField
 }
 
 // An S line.
-pub fn step_of(row: RuleRow, f: Fields) -> StepTaken
+pub fn step_of(row: RuleRow, f: LineFields) -> StepTaken
     requires { ⌜ RuleFits row ⌝ }
     ensures { λ r. ⌜ StepTakenAs (row .rule) (numbersOf f) r ⌝ }
 {

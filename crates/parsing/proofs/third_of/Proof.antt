@@ -9,8 +9,8 @@ use Rattle.tableau.specs.Fields.{ruleFields}
 use Rattle.tableau.specs.Words.{ruleNames}
 use Rattle.tableau.proofs.Places.{rules, other-rule}
 use Rattle.syntax.proofs.Sides.{isSide, term-fits}
-use Rattle.words.proofs.taking.third_of.Statement.{statement}
-use Rattle.words.proofs.taking.third_of.Tie as tie
+use Rattle.parsing.proofs.third_of.Statement.{statement}
+use Rattle.parsing.proofs.third_of.Tie as tie
 
 side-of-rep : tie.Need-returns
 unfolding ruleFields
