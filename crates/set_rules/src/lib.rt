@@ -9,11 +9,36 @@ use tableau::Reason;
 use tableau::Relation;
 use tableau::Sort;
 use tableau::TermNumber;
+ghost use mathlib.Core.Path.{_≡_};
 ghost use mathlib.Core.Option.{none, some};
 ghost use Rattle.tableau.specs.declared.Rule.{Rule};
 ghost use Rattle.tableau.specs.Terms.{Table};
 ghost use Rattle.packing.specs.Packing.{Small, SmallLiteral, literalOf};
 ghost use Rattle.rules.specs.Answer.{Anywhere, HeldBy, Concludes, ConcludesFresh};
+ghost use Rattle.set_rules.specs.Regions.{areRegions, Moves};
+
+// Are both terms regions?
+fn are_regions(terms: &[u64; table::NUMBERS], m: TermNumber, n: TermNumber) -> bool
+    requires { ⌜ ((table : Table) × HeldBy (now terms) table) ⌝ }
+    requires { ⌜ Small (m .0) × Small (n .0) ⌝ }
+    ensures { λ r. ⌜ ((table : Table) → HeldBy (now (terms .entry)) table → r ≡ areRegions table (m .0) (n .0)) ⌝ }
+{
+    table::has_sort(terms, Sort::Region, m) && table::has_sort(terms, Sort::Region, n)
+}
+
+// u in m gives u in n.
+fn moves_member(q: LiteralView, m: TermNumber, n: TermNumber) -> Outcome
+    requires { ⌜ SmallLiteral q × Small (n .0) ⌝ }
+    ensures { λ r. ⌜ Moves (m .0) (n .0) (literalOf q) r ⌝ }
+{
+    let LiteralView::In(u, x) = q else {
+        return Outcome::Refused(Reason::NeedNotMet);
+    };
+    if m.0 != x.0 {
+        return Outcome::Refused(Reason::NeedNotMet);
+    }
+    outcome::adds_one(literal(Relation::In, u, n))
+}
 
 // r eq s; u in r gives u in s.
 pub fn eqr(p: LiteralView, q: LiteralView, terms: &[u64; table::NUMBERS]) -> Outcome
@@ -24,19 +49,10 @@ pub fn eqr(p: LiteralView, q: LiteralView, terms: &[u64; table::NUMBERS]) -> Out
     let LiteralView::Eq(r, s) = p else {
         return Outcome::Refused(Reason::NeedNotMet);
     };
-    let Sort::Region = table::sort_of(terms, r) else {
-        return Outcome::Refused(Reason::NeedNotMet);
-    };
-    let Sort::Region = table::sort_of(terms, s) else {
-        return Outcome::Refused(Reason::NeedNotMet);
-    };
-    let LiteralView::In(u, x) = q else {
-        return Outcome::Refused(Reason::NeedNotMet);
-    };
-    if x.0 != r.0 {
+    if !are_regions(terms, r, s) {
         return Outcome::Refused(Reason::NeedNotMet);
     }
-    outcome::adds_one(literal(Relation::In, u, s))
+    moves_member(q, r, s)
 }
 
 // r eq s; u in s gives u in r.
@@ -48,19 +64,10 @@ pub fn eql(p: LiteralView, q: LiteralView, terms: &[u64; table::NUMBERS]) -> Out
     let LiteralView::Eq(r, s) = p else {
         return Outcome::Refused(Reason::NeedNotMet);
     };
-    let Sort::Region = table::sort_of(terms, r) else {
-        return Outcome::Refused(Reason::NeedNotMet);
-    };
-    let Sort::Region = table::sort_of(terms, s) else {
-        return Outcome::Refused(Reason::NeedNotMet);
-    };
-    let LiteralView::In(u, x) = q else {
-        return Outcome::Refused(Reason::NeedNotMet);
-    };
-    if x.0 != s.0 {
+    if !are_regions(terms, r, s) {
         return Outcome::Refused(Reason::NeedNotMet);
     }
-    outcome::adds_one(literal(Relation::In, u, r))
+    moves_member(q, s, r)
 }
 
 // r ne s; w fresh gives w in r, w ni s ∥ w ni r, w in s.
@@ -72,12 +79,9 @@ pub fn ext(p: LiteralView, w: TermNumber, fresh: bool, terms: &[u64; table::NUMB
     let LiteralView::Ne(r, s) = p else {
         return Outcome::Refused(Reason::NeedNotMet);
     };
-    let Sort::Region = table::sort_of(terms, r) else {
+    if !are_regions(terms, r, s) {
         return Outcome::Refused(Reason::NeedNotMet);
-    };
-    let Sort::Region = table::sort_of(terms, s) else {
-        return Outcome::Refused(Reason::NeedNotMet);
-    };
+    }
     if !fresh {
         return Outcome::Refused(Reason::NotFresh);
     }
