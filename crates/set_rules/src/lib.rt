@@ -1,19 +1,54 @@
-// The rules of equal regions, of intersections, unions and differences, and `sep`. Each looks at the terms that its row names; where what the row needs isn't so,
-// the answer is refusal 12.
+// The rules of equal regions, of intersections, unions and differences, and `sep`. Each looks at the terms that its row names; where what the
+// row needs isn't so, the answer is refusal 12.
 use packing::LiteralView;
 use packing::TermView;
 use rules::outcome;
 use rules::outcome::Outcome;
 use rules::outcome::literal;
+use syntax::Literal;
 use tableau::Reason;
 use tableau::Relation;
 use tableau::Sort;
 use tableau::TermNumber;
+ghost use mathlib.Core.Path.{_≡_};
 ghost use mathlib.Core.Option.{none, some};
 ghost use Rattle.tableau.specs.declared.Rule.{Rule};
 ghost use Rattle.tableau.specs.Terms.{Table};
-ghost use Rattle.packing.specs.Packing.{Small, SmallLiteral, literalOf};
+ghost use Rattle.syntax.specs.Syntax.{literalIn};
+ghost use Rattle.packing.specs.Packing.{PackableLiteral, Small, SmallLiteral, literalOf};
 ghost use Rattle.rules.specs.Answer.{Anywhere, HeldBy, Concludes, ConcludesFresh};
+ghost use Rattle.set_rules.specs.Regions.{areRegions, AddsIf, Moves};
+
+// Adds l where the test holds.
+fn adds_if(holds: bool, l: Literal) -> Outcome
+    requires { ⌜ PackableLiteral (literalIn l) ⌝ }
+    ensures { λ r. ⌜ AddsIf holds (literalIn l) r ⌝ }
+{
+    if !holds {
+        return Outcome::Refused(Reason::NeedNotMet);
+    }
+    outcome::adds_one(l)
+}
+
+// Are both terms regions?
+fn are_regions(terms: &[u64; table::NUMBERS], m: TermNumber, n: TermNumber) -> bool
+    requires { ⌜ ((table : Table) × HeldBy (now terms) table) ⌝ }
+    requires { ⌜ Small (m .0) × Small (n .0) ⌝ }
+    ensures { λ r. ⌜ ((table : Table) → HeldBy (now (terms .entry)) table → r ≡ areRegions table (m .0) (n .0)) ⌝ }
+{
+    table::has_sort(terms, Sort::Region, m) && table::has_sort(terms, Sort::Region, n)
+}
+
+// Adds u in n where q is u in m.
+fn moves_member(q: LiteralView, m: TermNumber, n: TermNumber) -> Outcome
+    requires { ⌜ SmallLiteral q × Small (n .0) ⌝ }
+    ensures { λ r. ⌜ Moves (m .0) (n .0) q r ⌝ }
+{
+    let LiteralView::In(u, x) = q else {
+        return Outcome::Refused(Reason::NeedNotMet);
+    };
+    adds_if(m.0 == x.0, literal(Relation::In, u, n))
+}
 
 // r eq s; u in r gives u in s.
 pub fn eqr(p: LiteralView, q: LiteralView, terms: &[u64; table::NUMBERS]) -> Outcome
@@ -24,19 +59,10 @@ pub fn eqr(p: LiteralView, q: LiteralView, terms: &[u64; table::NUMBERS]) -> Out
     let LiteralView::Eq(r, s) = p else {
         return Outcome::Refused(Reason::NeedNotMet);
     };
-    let Sort::Region = table::sort_of(terms, r) else {
-        return Outcome::Refused(Reason::NeedNotMet);
-    };
-    let Sort::Region = table::sort_of(terms, s) else {
-        return Outcome::Refused(Reason::NeedNotMet);
-    };
-    let LiteralView::In(u, x) = q else {
-        return Outcome::Refused(Reason::NeedNotMet);
-    };
-    if x.0 != r.0 {
+    if !are_regions(terms, r, s) {
         return Outcome::Refused(Reason::NeedNotMet);
     }
-    outcome::adds_one(literal(Relation::In, u, s))
+    moves_member(q, r, s)
 }
 
 // r eq s; u in s gives u in r.
@@ -48,19 +74,10 @@ pub fn eql(p: LiteralView, q: LiteralView, terms: &[u64; table::NUMBERS]) -> Out
     let LiteralView::Eq(r, s) = p else {
         return Outcome::Refused(Reason::NeedNotMet);
     };
-    let Sort::Region = table::sort_of(terms, r) else {
-        return Outcome::Refused(Reason::NeedNotMet);
-    };
-    let Sort::Region = table::sort_of(terms, s) else {
-        return Outcome::Refused(Reason::NeedNotMet);
-    };
-    let LiteralView::In(u, x) = q else {
-        return Outcome::Refused(Reason::NeedNotMet);
-    };
-    if x.0 != s.0 {
+    if !are_regions(terms, r, s) {
         return Outcome::Refused(Reason::NeedNotMet);
     }
-    outcome::adds_one(literal(Relation::In, u, r))
+    moves_member(q, s, r)
 }
 
 // r ne s; w fresh gives w in r, w ni s ∥ w ni r, w in s.
@@ -72,12 +89,9 @@ pub fn ext(p: LiteralView, w: TermNumber, fresh: bool, terms: &[u64; table::NUMB
     let LiteralView::Ne(r, s) = p else {
         return Outcome::Refused(Reason::NeedNotMet);
     };
-    let Sort::Region = table::sort_of(terms, r) else {
+    if !are_regions(terms, r, s) {
         return Outcome::Refused(Reason::NeedNotMet);
-    };
-    let Sort::Region = table::sort_of(terms, s) else {
-        return Outcome::Refused(Reason::NeedNotMet);
-    };
+    }
     if !fresh {
         return Outcome::Refused(Reason::NotFresh);
     }
@@ -116,19 +130,13 @@ pub fn cpi(p: LiteralView, q: LiteralView, t: TermNumber, terms: &[u64; table::N
     let LiteralView::In(v, s) = q else {
         return Outcome::Refused(Reason::NeedNotMet);
     };
-    if u.0 != v.0 {
-        return Outcome::Refused(Reason::NeedNotMet);
-    }
     let TermView::Cap(a, b) = table::view(terms, t) else {
         return Outcome::Refused(Reason::NeedNotMet);
     };
-    if r.0 != a.0 {
-        return Outcome::Refused(Reason::NeedNotMet);
-    }
-    if s.0 != b.0 {
-        return Outcome::Refused(Reason::NeedNotMet);
-    }
-    outcome::adds_one(literal(Relation::In, u, t))
+    adds_if(
+        u.0 == v.0 && r.0 == a.0 && s.0 == b.0,
+        literal(Relation::In, u, t),
+    )
 }
 
 // u in cup(r,s) gives u in r ∥ u in s.
@@ -158,13 +166,7 @@ pub fn cui(p: LiteralView, t: TermNumber, terms: &[u64; table::NUMBERS]) -> Outc
     let TermView::Cup(r, s) = table::view(terms, t) else {
         return Outcome::Refused(Reason::NeedNotMet);
     };
-    if x.0 == r.0 {
-        return outcome::adds_one(literal(Relation::In, u, t));
-    }
-    if x.0 != s.0 {
-        return Outcome::Refused(Reason::NeedNotMet);
-    }
-    outcome::adds_one(literal(Relation::In, u, t))
+    adds_if(x.0 == r.0 || x.0 == s.0, literal(Relation::In, u, t))
 }
 
 // u in dif(r,s) gives u in r, u ni s.
@@ -194,19 +196,13 @@ pub fn dfi(p: LiteralView, q: LiteralView, t: TermNumber, terms: &[u64; table::N
     let LiteralView::Ni(v, s) = q else {
         return Outcome::Refused(Reason::NeedNotMet);
     };
-    if u.0 != v.0 {
-        return Outcome::Refused(Reason::NeedNotMet);
-    }
     let TermView::Dif(a, b) = table::view(terms, t) else {
         return Outcome::Refused(Reason::NeedNotMet);
     };
-    if r.0 != a.0 {
-        return Outcome::Refused(Reason::NeedNotMet);
-    }
-    if s.0 != b.0 {
-        return Outcome::Refused(Reason::NeedNotMet);
-    }
-    outcome::adds_one(literal(Relation::In, u, t))
+    adds_if(
+        u.0 == v.0 && r.0 == a.0 && s.0 == b.0,
+        literal(Relation::In, u, t),
+    )
 }
 
 // u in r; v ni r gives u ne v.
@@ -220,8 +216,5 @@ pub fn sep(p: LiteralView, q: LiteralView) -> Outcome
     let LiteralView::Ni(v, s) = q else {
         return Outcome::Refused(Reason::NeedNotMet);
     };
-    if r.0 != s.0 {
-        return Outcome::Refused(Reason::NeedNotMet);
-    }
-    outcome::adds_one(literal(Relation::Ne, u, v))
+    adds_if(r.0 == s.0, literal(Relation::Ne, u, v))
 }

@@ -1,10 +1,10 @@
 -- `cui` answers what its rows say.
-use mathlib.Core.Path.{refl, sym, _∙_}
 use borrow.Author.Tests.{eq-eqb, ne-eqb}
 use Rattle.tableau.specs.declared.Operator.{Operator}
 use Rattle.tableau.specs.declared.Relation.{Relation}
 use Rattle.tableau.specs.Terms.{at}
-use Rattle.rules.proofs.Laws.{by-sides, computing, is-cup, is-not, no-arguments}
+use Rattle.rules.proofs.Laws.{by-sides, computing, is-not, no-arguments}
+use Rattle.set_rules.proofs.Regions.{or-came, united}
 use Rattle.set_rules.proofs.cui.Statement.{statement}
 use Rattle.set_rules.proofs.cui.Tie as tie
 
@@ -26,65 +26,19 @@ returns-2 c =
       answers = λ table h fresh. rw (at-p .p .given .1, no-arguments Operator.Cup (at table t) (c .before .view .ensures table h .is) (c .match2 .keys2));
     }
 
--- x is r
-adds-one-requires : tie.Need-adds-one-requires
-adds-one-requires c κs =
-    let at-t = c .before .before .before .before .before in
-    let at-p = at-t .before .before .before .before in
+-- u in x, and t is cup(r,s)
+adds-if-requires : tie.Need-adds-if-requires
+adds-if-requires c κs =
+    let at-p = c .before .before .before .before .before .before .before in
     let g = at-p .before .before .pre .1 in
     rw (c .literal .ensures) ((rw (at-p .p .given .1) at (g .0)) .0, g .1)
 
 returns-3 : tie.Need-returns-3
-unfolding computing
 returns-3 c =
-    let at-t = c .before .before .before .before .before .before in
-    let at-p = at-t .before .before .before .before in
-    let t = at-p .before .before .args .t .0 in
-    let built = rw (c .before .literal .ensures) at (c .adds-one .ensures) in
-    record {
-      room = built .room;
-      answers = λ table h fresh.
-          let K = is-cup (at table t) _ _ (at-t .before .before .view .ensures table h .is ∙ at-t .r .given .1) in
-          rw (at-p .p .given .1, K .2, eq-eqb _ _ (c .before .before .if1 .taken)) (sym (built .adds));
-    }
-
--- x is neither r nor s
-returns-4 : tie.Need-returns-4
-unfolding computing
-returns-4 c =
-    let not-r = c .before .before .before in
-    let at-t = not-r .before .before .before .before in
-    let at-p = at-t .before .before .before .before in
-    let t = at-p .before .before .args .t .0 in
-    record {
-      room = tt;
-      answers = λ table h fresh.
-          let K = is-cup (at table t) _ _ (at-t .before .before .view .ensures table h .is ∙ at-t .r .given .1) in
-          rw (at-p .p .given .1, K .2, ne-eqb _ _ (not-r .if1 .left), ne-eqb _ _ (c .if2 .taken));
-    }
-
--- x is s, and not r
-adds-one-requires-2 : tie.Need-adds-one-requires-2
-adds-one-requires-2 c κs =
-    let at-t = c .before .before .before .before .before .before .before .before in
-    let at-p = at-t .before .before .before .before in
-    let g = at-p .before .before .pre .1 in
-    rw (c .literal2 .ensures) ((rw (at-p .p .given .1) at (g .0)) .0, g .1)
-
-returns-5 : tie.Need-returns-5
-unfolding computing
-returns-5 c =
-    let not-r = c .before .before .before .before .before in
-    let at-t = not-r .before .before .before .before in
-    let at-p = at-t .before .before .before .before in
-    let t = at-p .before .before .args .t .0 in
-    let built = rw (c .before .literal2 .ensures) at (c .adds-one2 .ensures) in
-    record {
-      room = built .room;
-      answers = λ table h fresh.
-          let K = is-cup (at table t) _ _ (at-t .before .before .view .ensures table h .is ∙ at-t .r .given .1) in
-          rw (at-p .p .given .1, K .2, ne-eqb _ _ (not-r .if1 .left), eq-eqb _ _ (c .before .before .if2 .left)) (sym (built .adds));
-    }
+    let test = c .before .before in
+    let at-t = test .before .before in
+    united (at-t .before .before .before .before .p .given .1) (at-t .r .given .1) (at-t .before .before .view .ensures)
+    (or-came (test .if1 .came) (λ k. eq-eqb _ _ (k .taken)) (λ k. ne-eqb _ _ (k .left))) (rw (c .before .literal .ensures) at (c .adds-if .ensures))
 
 pub cui-spec : {M : Type 1} → statement M
 cui-spec =
@@ -96,9 +50,5 @@ cui-spec =
     (λ c. c .match2 .keys1)
     returns-2
     (λ c κs. tt)
-    adds-one-requires
-    returns-3
-    returns-4
-    (λ c κs. tt)
-    adds-one-requires-2
-    returns-5)
+    adds-if-requires
+    returns-3)

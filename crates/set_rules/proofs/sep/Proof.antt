@@ -1,40 +1,25 @@
 -- `sep` answers what its row says.
-use mathlib.Core.Path.{refl, sym}
-use borrow.Author.Tests.{eq-eqb, ne-eqb}
+use mathlib.Core.Path.{refl}
 use Rattle.tableau.specs.declared.Relation.{Relation}
 use Rattle.rules.proofs.Laws.{computing, is-not}
 use Rattle.rules.proofs.Rows.{other-p, other-q}
+use Rattle.set_rules.proofs.Regions.{separated}
 use Rattle.set_rules.proofs.sep.Statement.{statement}
 use Rattle.set_rules.proofs.sep.Tie as tie
 
--- s is not r
-returns-3 : tie.Need-returns-3
-unfolding computing
-returns-3 c =
+-- u in r, v ni s
+adds-if-requires : tie.Need-adds-if-requires
+adds-if-requires c κs =
     let at-q = c .before .before .before .before in
-    record {
-      room = tt;
-      answers = λ table h fresh. rw (at-q .before .before .before .p .given .1, at-q .q .given .1, ne-eqb _ _ (c .if1 .taken));
-    }
-
--- u in r, v ni r
-adds-one-requires : tie.Need-adds-one-requires
-adds-one-requires c κs =
-    let at-q = c .before .before .before .before .before in
     let at-p = at-q .before .before .before in
     let h = rw (at-p .p .given .1, at-q .q .given .1) at (at-p .before .before .pre) in
     rw (c .literal .ensures) (h .0 .0, h .1 .0)
 
-returns-4 : tie.Need-returns-4
+returns-3 : tie.Need-returns-3
 unfolding computing
-returns-4 c =
-    let at-q = c .before .before .before .before .before .before in
-    let built = rw (c .before .literal .ensures) at (c .adds-one .ensures) in
-    record {
-      room = built .room;
-      answers = λ table h fresh.
-          rw (at-q .before .before .before .p .given .1, at-q .q .given .1, eq-eqb _ _ (c .before .before .if1 .left)) (sym (built .adds));
-    }
+returns-3 c =
+    let at-q = c .before .before .before .before .before in
+    separated (at-q .before .before .before .p .given .1) (at-q .q .given .1) (rw (c .before .literal .ensures) at (c .adds-if .ensures))
 
 pub sep-spec : {M : Type 1} → statement M
 unfolding computing
@@ -49,7 +34,6 @@ sep-spec =
     (λ c.
     let q = c .before .before .before .before .args .q in
     other-q q refl (c .before .before .p .given .1) (λ table. refl) (is-not Relation.Ni q (c .match2 .keys2)))
-    returns-3
     (λ c κs. tt)
-    adds-one-requires
-    returns-4)
+    adds-if-requires
+    returns-3)
