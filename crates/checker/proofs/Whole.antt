@@ -1,20 +1,19 @@
 -- The whole file: its length, its sections one behind the other, its reply and the build host's call.
-use mathlib.Core.Path.{_≡_, refl, sym, _∙_, ap, subst}
+use mathlib.Core.Path.{_≡_, refl, sym, _∙_, ap}
 use mathlib.Core.Bool.{Bool, true, false}
 use mathlib.Core.List.{List, [], _++_}
 use Prim.Native.Nat.{ℕ, _+_, _<_, _≤_}
 use native.Mathlib.Omega.{arith}
-use lib.Dec.{eqb, leb}
 use lib.ListN.{length, getD}
 use borrow.Author.Tests.{le-leb, lt-leb, eq-eqb, ne-eqb}
 use Rattle.tableau.specs.declared.Letter.{Letter}
 use Rattle.tableau.specs.declared.Reason.{Reason}
 use Rattle.tableau.specs.Basics.{bytes}
 use Rattle.tableau.specs.Claims.{BeginsWithYes, NoHeap, Demand3}
-use Rattle.tableau.specs.File.{LF, split, maxBytes}
+use Rattle.tableau.specs.File.{maxBytes}
 use Rattle.tableau.specs.Terms.{Table}
 use Rattle.tableau.specs.Tree.{passed, isOpen}
-use Rattle.tableau.specs.Reply.{start, refuse, Verdict, runLines, verdict, Reply, replyOf, reply, reasonNumber, sixNumbers, replyBytes}
+use Rattle.tableau.specs.Reply.{start, refuse, Verdict, verdict, Reply, replyOf, reply, reasonNumber, sixNumbers, replyBytes}
 use Rattle.tableau.specs.Reply.{commaNumbers, yesOrNo, replyLine, call, bufferLength}
 use Rattle.tableau.proofs.Counts.{number-in-range}
 use Rattle.tableau.proofs.Soundness.{demand3}

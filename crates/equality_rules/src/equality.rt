@@ -17,7 +17,7 @@ ghost use Rattle.tableau.specs.Terms.{Table};
 ghost use Rattle.packing.specs.Packing.{literalOf, Small, SmallLiteral};
 ghost use Rattle.rules.specs.Answer.{IsNot, Anywhere, HeldBy, Concludes};
 
-// any term t gives t eq t.
+// The rule `ref`: any term t gives t eq t.
 pub fn reflexive(t: TermNumber) -> Outcome
     requires { ⌜ Small (t .0) ⌝ }
     ensures { λ r. ⌜ Concludes Anywhere Rule.Ref none none (t .0) 0 r ⌝ }

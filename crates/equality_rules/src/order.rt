@@ -19,7 +19,7 @@ pub fn ler(t: TermNumber) -> Outcome
     outcome::adds_one(literal(Relation::Le, t, t))
 }
 
-// a le b; b le c gives a le c.
+// The rule `let`: a le b; b le c gives a le c.
 pub fn transitive(p: LiteralView, q: LiteralView) -> Outcome
     requires { ⌜ SmallLiteral p × SmallLiteral q ⌝ }
     ensures { λ r. ⌜ Concludes Anywhere Rule.Let (some (literalOf p)) (some (literalOf q)) 0 0 r ⌝ }

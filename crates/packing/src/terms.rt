@@ -9,7 +9,6 @@ use tableau::TermNumber;
 ghost use mathlib.Core.Path.{_≡_};
 ghost use mathlib.Core.Bool.{_&&_};
 ghost use Prim.Native.Nat.{_+_, _*_, _<_, _%_};
-ghost use lib.Dec.{eqb};
 ghost use Rattle.tableau.specs.Basics.{every};
 ghost use Rattle.tableau.specs.Terms.{variable, apply, sortOf, sameSort, sortIndex};
 ghost use Rattle.tableau.specs.Terms as specification;

@@ -42,10 +42,10 @@ pub enum StepTaken {
     UnusedField,
 }
 
-fn zero_if_unused(used: u8, bit: u8, value: usize) -> bool
-    ensures { λ r. ⌜ r ≡ (not (eqb (bitAnd used bit) 0) || eqb value 0) ⌝ }
+fn zero_if_unused(used: Mask, bit: u8, value: usize) -> bool
+    ensures { λ r. ⌜ r ≡ (not (eqb (bitAnd (used .0) bit) 0) || eqb value 0) ⌝ }
 {
-    if used & bit != 0 {
+    if used.0 & bit != 0 {
         return true;
     }
     value == 0
@@ -55,17 +55,16 @@ fn zero_if_unused(used: u8, bit: u8, value: usize) -> bool
 fn unused_zero(used: Mask, f: LineFields) -> bool
     ensures { λ r. ⌜ ((u : Four Use) → used .0 ≡ maskOf u → r ≡ every zeroIfUnused u (numbersOf f)) ⌝ }
 {
-    let mask = used.0;
-    if !zero_if_unused(mask, Mask::P, f.a) {
+    if !zero_if_unused(used, Mask::P, f.a) {
         return false;
     }
-    if !zero_if_unused(mask, Mask::Q, f.b) {
+    if !zero_if_unused(used, Mask::Q, f.b) {
         return false;
     }
-    if !zero_if_unused(mask, Mask::T, f.c) {
+    if !zero_if_unused(used, Mask::T, f.c) {
         return false;
     }
-    zero_if_unused(mask, Mask::W, f.d)
+    zero_if_unused(used, Mask::W, f.d)
 }
 
 // A T line.

@@ -8,7 +8,6 @@ use native.Mathlib.Nat.{pow-suc}
 use native.Mathlib.Numerals.{add-one}
 use native.Mathlib.Omega.{arith}
 use borrow.Author.Tests.{lt-ltb, le-ltb}
-use lib.Dec.{ltb}
 use Rattle.tableau.specs.Reply.{decimalFrom}
 
 abbrev tested : ℕ → ℕ → List ℕ → Bool → List ℕ

@@ -38,7 +38,7 @@ impl Reply {
     // The reply buffer of a build host: six numbers of four bytes.
     pub const BUFFER_BYTES: usize = 24;
 
-    // Room for the reply line: `yes`, six commas with a number of up to 20 digits each, LF.
+    // Room for the reply line, with some to spare: `yes`, six commas with a number of up to 20 digits each, LF.
     pub const LINE_BYTES: usize = 136;
 }
 

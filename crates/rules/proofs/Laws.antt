@@ -43,13 +43,6 @@ pub by-test : {A : Type 0} (b : Bool) → (b ≡ true → A) → (b ≡ false �
 by-test true f g = f refl
 by-test false f g = g refl
 
--- with the sides the other way round
-pub turned-eqb : {a b : ℕ} → b ≡ a → eqb a b ≡ true
-turned-eqb e = eq-eqb _ _ (sym e)
-
-pub turned-neb : {a b : ℕ} → (b ≡ a → ⊥) → eqb a b ≡ false
-turned-neb n = ne-eqb _ _ (λ e. n (sym e))
-
 -- a negated test of what a function answers
 pub test-fails : {r b : Bool} → r ≡ b → not r ≡ true → b ≡ false
 test-fails {r} e h = sym e ∙ not-true r h

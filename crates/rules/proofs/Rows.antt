@@ -1,20 +1,18 @@
 -- What the functions of rules with like rows answer, said once: a relation, an operator or a side of the row is left open.
 use mathlib.Core.Path.{_≡_, sym, _∙_}
-use mathlib.Core.Bool.{Bool, true, false}
+use mathlib.Core.Bool.{Bool, false}
 use mathlib.Core.List.{List, [], _∷_}
 use mathlib.Core.Option.{Option, none, some}
 use Prim.Native.Nat.{ℕ}
 use lib.Dec.{eqb}
-use borrow.Author.Tests.{eq-eqb, ne-eqb}
 use Rattle.tableau.specs.declared.Operator.{Operator}
 use Rattle.tableau.specs.declared.Reason.{Reason}
 use Rattle.tableau.specs.declared.Relation.{Relation}
 use Rattle.tableau.specs.declared.Rule.{Rule}
-use Rattle.tableau.specs.declared.Sort.{Sort}
 use Rattle.tableau.specs.declared.TermNumber.{TermNumber}
 use Rattle.tableau.specs.Basics.{four}
 use Rattle.tableau.specs.Fields.{arguments}
-use Rattle.tableau.specs.Terms.{Table, Term, Literal, literal, apply, at, sortOf, sameSort}
+use Rattle.tableau.specs.Terms.{Table, Term, Literal, literal, apply, at}
 use Rattle.tableau.specs.Rules.{Pattern, letter, operator, –, LiteralPattern, pattern, Need, p∶, q∶, t≐, isRegion, Row, _⟶_, _∈_, _≈_, only, ⟨_⟩, rows, rule, letterU, letterR, letterS}
 use Rattle.tableau.specs.Rules as row
 use Rattle.tableau.specs.Steps.{Letters, bind, given, fitsLiteral, madeAlternatives}
@@ -25,7 +23,7 @@ use Rattle.table.specs.declared.Found.{Found}
 use Rattle.table.specs.Held.{ViewAt, FoundAs}
 use Rattle.rules.specs.declared.outcome.Outcome.{Outcome}
 use Rattle.rules.specs.Answer.{IsNot, Builds, Concludes, ConcludesFresh}
-use Rattle.rules.proofs.Laws.{Arguments2, Others, by-sides, by-test, computing, found-at, found-nothing, no-arguments, same, turned-eqb, turned-neb}
+use Rattle.rules.proofs.Laws.{Arguments2, Others, by-sides, by-test, computing, found-at, found-nothing, no-arguments, same}
 
 -- a rule that asks for a fresh w answers so too, where the answer does not hang on it
 pub fresh-or-not : {A : Table → Type 0} {fresh : Bool} {x : Rule} {P Q : Option Literal} {t w : ℕ} {r : Outcome} → Concludes A x P Q t w r
@@ -93,39 +91,6 @@ carrying k l = p∶ (row.r ≈ row.s) ∷ isRegion row.r ∷ isRegion row.s ∷ 
 abbrev pub lettersOf : TermNumber → TermNumber → TermNumber → Letters
 lettersOf m n u = bind (bind (bind (given false 0 0) letterR (m .0)) letterS (n .0)) letterU (u .0)
 
--- whether term n is a region, in every table
-abbrev pub AreRegions : (Table → Type 0) → TermNumber → Bool → Type 0
-AreRegions A n b = (table : Table) → A table → sameSort Sort.Region (sortOf (at table (n .0))) ≡ b
-
-module _ {A : Table → Type 0} {x : Rule} {k l : ℕ} {p : LiteralView} {m n : TermNumber} (i : rule x ≡ rows (carrying k l)) (e : p ≡ LiteralView.Eq m n) where
-  pub left-other : {Q : Option Literal} → AreRegions A m false → Concludes A x (some (literalOf p)) Q 0 0 (Outcome.Refused Reason.NeedNotMet)
-  unfolding computing
-  left-other f = record { room = tt; answers = λ table h fresh. rw (i, e, f table h) }
-
-  module _ (f : AreRegions A m true) where
-    pub right-other : {Q : Option Literal} → AreRegions A n false → Concludes A x (some (literalOf p)) Q 0 0 (Outcome.Refused Reason.NeedNotMet)
-    unfolding computing
-    right-other g = record { room = tt; answers = λ table h fresh. rw (i, e, f table h, g table h) }
-
-    module _ (g : AreRegions A n true) where
-      pub not-member : (q : LiteralView) → IsNot Relation.In q
-          → Concludes A x (some (literalOf p)) (some (literalOf q)) 0 0 (Outcome.Refused Reason.NeedNotMet)
-      unfolding computing
-      not-member q o = record { room = tt; answers = λ table h fresh. rw (i, e, f table h, g table h, by-sides q, o) }
-
-      pub other-side : {q : LiteralView} {u z : TermNumber} {a : ℕ} → q ≡ LiteralView.In u z → lettersOf m n u k ≡ some a → (z .0 ≡ a → ⊥)
-          → Concludes A x (some (literalOf p)) (some (literalOf q)) 0 0 (Outcome.Refused Reason.NeedNotMet)
-      unfolding computing
-      other-side c on z = record { room = tt; answers = λ table h fresh. rw (i, e, c, f table h, g table h, on, turned-neb z) }
-
-      pub carried : {q : LiteralView} {u z : TermNumber} {a b : ℕ} {r : Outcome} → q ≡ LiteralView.In u z → lettersOf m n u k ≡ some a → z .0 ≡ a
-          → lettersOf m n u l ≡ some b → Builds r ((literal Relation.In (u .0) b ∷ []) ∷ []) → Concludes A x (some (literalOf p)) (some (literalOf q)) 0 0 r
-      unfolding computing
-      carried c on z off w = record {
-        room = w .room;
-        answers = λ table h fresh. rw (i, e, c, f table h, g table h, on, turned-eqb z, off) (sym (w .adds));
-      }
-
 -- A TERM OF TWO REGIONS: u in r, and u in or outside s, and t has the operator and r, s
 abbrev pub joining : Relation → Operator → List Row
 joining R o = p∶ (row.u ∈ row.r) ∷ q∶ (pattern R row.u row.s) ∷ t≐ (operator o row.r row.s – –) ∷ [] ⟶ only ⟨ row.u ∈ row.t ⟩
@@ -140,34 +105,6 @@ module _ {A : Table → Type 0} {x : Rule} {R : Relation} {o : Operator} {P Q : 
     answers = λ table h fresh.
         by-test (eqb m n) (λ i. rw (d, p, q, same R, i, no-arguments o (at table t) (g table h .is) w)) (λ i. rw (d, p, q, same R, i));
   }
-
-  pub other-member : (m ≡ n → ⊥) → Concludes A x (some P) (some Q) t 0 (Outcome.Refused Reason.NeedNotMet)
-  unfolding computing
-  other-member i = record { room = tt; answers = λ table h fresh. rw (d, p, q, same R, ne-eqb _ _ i) }
-
-  module _ {a b : TermNumber} {v y : TermView} (is : (e : Term) → viewOf e ≡ y → Arguments2 o e a b) (i : m ≡ n) (j : v ≡ y)
-      (g : (table : Table) → A table → ViewAt table t v) where
-    pub other-first : (k ≡ a .0 → ⊥) → Concludes A x (some P) (some Q) t 0 (Outcome.Refused Reason.NeedNotMet)
-    unfolding computing
-    other-first f = record {
-      room = tt;
-      answers = λ table h fresh. rw (d, p, q, same R, eq-eqb _ _ i, is (at table t) (g table h .is ∙ j) .2, two, ne-eqb _ _ f);
-    }
-
-    pub other-second : k ≡ a .0 → (l ≡ b .0 → ⊥) → Concludes A x (some P) (some Q) t 0 (Outcome.Refused Reason.NeedNotMet)
-    unfolding computing
-    other-second f f′ = record {
-      room = tt;
-      answers = λ table h fresh. rw (d, p, q, same R, eq-eqb _ _ i, is (at table t) (g table h .is ∙ j) .2, two, eq-eqb _ _ f, ne-eqb _ _ f′);
-    }
-
-    pub joined : {r : Outcome} → k ≡ a .0 → l ≡ b .0 → Builds r ((literal Relation.In m t ∷ []) ∷ []) → Concludes A x (some P) (some Q) t 0 r
-    unfolding computing
-    joined f f′ b = record {
-      room = b .room;
-      answers = λ table h fresh.
-          rw (d, p, q, same R, eq-eqb _ _ i, is (at table t) (g table h .is ∙ j) .2, two, eq-eqb _ _ f, eq-eqb _ _ f′) (sym (b .adds));
-    }
 
 -- A TERM WITHOUT ARGUMENTS that the row names, if it stands in the table
 abbrev pub naming : Relation → Operator → List Row

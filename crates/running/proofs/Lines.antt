@@ -1,9 +1,9 @@
 -- A line that was read, a badly shaped one and the end of the file, in the specification's run.
 use mathlib.Core.Path.{_≡_, refl, sym, _∙_, ap, subst}
-use mathlib.Core.Bool.{Bool, true, false, _&&_, true≢false}
+use mathlib.Core.Bool.{Bool, true, false, true≢false}
 use mathlib.Core.List.{List, [], _∷_}
 use mathlib.Core.Option.{Option, none, some}
-use Prim.Native.Nat.{ℕ, zero, suc, _+_, _*_, _-_, _^_, _<_, _≤_}
+use Prim.Native.Nat.{ℕ, suc, _+_, _*_, _-_, _^_, _<_, _≤_}
 use native.Mathlib.Omega.{arith}
 use native.Mathlib.Nat.{lt-of-lt-of-le, mul-le-mul-left, mul-assoc, pow-suc, pow-le-pow-right}
 use lib.Dec.{eqb, leb}
@@ -12,18 +12,18 @@ use lib.Seq.{drop-drop}
 use borrow.Author.Tests.{leb-true}
 use Rattle.tableau.specs.declared.Letter.{Letter}
 use Rattle.tableau.specs.declared.Reason.{Reason}
-use Rattle.tableau.specs.Basics.{then, guard, Four, four, lookup}
+use Rattle.tableau.specs.Basics.{lookup}
 use Rattle.tableau.specs.File.{LF, comma, inOrder, split, onFirst, Line, shape, sixFields, letters, isWord, isDigit, digits, number, maxDigits}
-use Rattle.tableau.specs.Tree.{Checked, refused, passed, _>>=_, _>>_, require, requireSome}
+use Rattle.tableau.specs.Tree.{refused, passed, _>>=_, _>>_}
 use Rattle.tableau.specs.Words.{Command, some-of, make, assume, infer, commandOf}
-use Rattle.tableau.specs.Reply.{State, requireOpen, runOpen, runRead, runLine, Verdict, refuse, atEnd, runLines}
+use Rattle.tableau.specs.Reply.{State, requireOpen, runOpen, runRead, runLine, refuse, atEnd, runLines}
 use Rattle.tableau.proofs.Bools.{both-true, then-inv, guard-inv, none≢some}
 use Rattle.lines.specs.declared.LineFields.{LineFields}
 use Rattle.lines.specs.declared.LineRead.{LineRead}
 use Rattle.lines.specs.Lines.{packWord, lineRead, firstLine, lineAt}
 use Rattle.lines.specs.Lines.{numbersOf}
 use Rattle.words.proofs.PackedWords.{words-packed, relations-packed, rules-packed}
-use Rattle.lines.proofs.Remaining.{pieces, split-same, split-other}
+use Rattle.lines.proofs.Remaining.{pieces}
 use Rattle.running.specs.Running.{verdictFrom, packedCommand, runFields, LineHere, NoLine}
 
 -- THE CUT AT LF: behind the first piece and its LF stand the others.

@@ -22,7 +22,7 @@ use Rattle.tableau.proofs.Places.{rules, placeOf, placesBut, other-rule}
 use Rattle.syntax.specs.declared.ThirdField as declared
 use Rattle.syntax.specs.declared.Step.{Step}
 use Rattle.syntax.specs.Syntax.{ThirdFits, WellTaken, thirdIn, stepFields}
-use Rattle.syntax.proofs.Masks.{isUsed, has, bits-of}
+use Rattle.syntax.proofs.Masks.{isUsed, bits-of}
 use Rattle.packing.specs.Packing.{Small}
 use Rattle.steps.specs.Checks.{isPlace}
 use Rattle.steps.specs.Infers.{ThirdGiven, TermGiven, Given}

@@ -18,7 +18,7 @@ ghost use Rattle.syntax.specs.declared.ThirdField.{ThirdField as Third};
 ghost use Rattle.packing.specs.Packing.{SmallLiteral};
 ghost use Rattle.steps.specs.Infers.{Given, Infers};
 
-// The rules whose t is no side.
+// The rules whose t is no side; `rep` does not come here, and is refused.
 fn by_rule(
     rule: Rule,
     p: LiteralView,

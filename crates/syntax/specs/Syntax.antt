@@ -3,7 +3,6 @@ use mathlib.Core.Path.{_≡_}
 use mathlib.Core.Bool.{true}
 use Prim.Native.Nat.{ℕ, _+_}
 use Rattle.tableau.specs.declared.Word.{Word}
-use Rattle.tableau.specs.declared.Rule.{Rule}
 use Rattle.tableau.specs.Basics.{Four, four, every}
 use Rattle.tableau.specs.Fields.{Use, unused, place, name, side, term, of, ThirdField, ruleFields, ruleUses}
 use Rattle.tableau.specs.Terms as specification

@@ -1,22 +1,15 @@
 -- What the arrays tell of the table that they hold.
 use mathlib.Core.Path.{_≡_, refl, sym, _∙_, ap}
-use mathlib.Core.List.{List, [], _∷_}
+use mathlib.Core.List.{List}
 use mathlib.Core.Option.{Option, none, some}
-use Prim.Native.Nat.{ℕ, zero, suc, _%_, _<_, _≤_}
+use Prim.Native.Nat.{ℕ, _<_, _≤_}
 use native.Mathlib.Omega.{arith}
-use lib.ListN.{length, getD, List·getD-eq-default}
-use Rattle.tableau.specs.declared.Sort.{Sort}
-use Rattle.tableau.specs.Terms.{TermNo, Table, Term, at, numberOf, sortOf, sortIndex}
-use Rattle.packing.specs.Packing.{packTerm, unpackTerm, Packs}
+use lib.ListN.{length, getD}
+use Rattle.tableau.specs.Terms.{TermNo, Table, Term, at, numberOf}
+use Rattle.packing.specs.Packing.{packTerm, Packs}
 use Rattle.table.specs.Held.{Entries, Searchable, foundOf, SmallFound}
-use Rattle.table.specs.declared.Found.{Found}
-use Rattle.packing.proofs.PackingLaws.{unpack-pack, pack-injective}
-use Rattle.table.proofs.NumberLaws.{Standing, found-in}
-use Rattle.table.proofs.ChainLaws.{Seeking}
-
--- an entry is its term
-pub entry-term : (table : Table) (terms : List ℕ) → Entries table terms → (t : TermNo) → unpackTerm (getD terms t 0) ≡ at table t
-entry-term table terms E t = ap unpackTerm (E .packed t) ∙ unpack-pack (at table t) (E .packable t)
+use Rattle.packing.proofs.PackingLaws.{pack-injective}
+use Rattle.table.proofs.NumberLaws.{found-in}
 
 -- what a search ends with
 module _ (table : Table) (terms chains : List ℕ) (S : Searchable table terms chains) (p : ℕ) (e : Term) (P : Packs e p) where

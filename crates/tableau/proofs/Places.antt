@@ -3,14 +3,14 @@
 use mathlib.Core.Path.{_≡_, refl, sym, _∙_, ap}
 use mathlib.Core.Bool.{Bool, true, false, not, _&&_, _||_, cond, true≢false}
 use mathlib.Core.List.{List, [], _∷_, map}
-use mathlib.Core.Logic.{_⊎_, inl, inr}
+use mathlib.Core.Logic.{inl, inr}
 use Prim.Native.Nat.{ℕ}
 use lib.Dec.{eqb}
 use lib.ListN.{getD}
 use types.Run.{OneOf}
 use borrow.Author.Tests.{eqb-true, eqb-false, ne-eqb, not-true}
 use denote.Struct.Field.{Field}
-use denote.Enum.Declared.{Choice, Record, Declared, declared, tagOf, rowss, intoss}
+use denote.Enum.Declared.{Choice, Record, declared, tagOf, rowss, intoss}
 use denote.Enum.Enum.{tag}
 use Rattle.tableau.specs.declared.Rule.{Rule}
 use Rattle.tableau.specs.Words.{ruleNames}

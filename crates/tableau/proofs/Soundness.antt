@@ -5,7 +5,7 @@ use mathlib.Core.List.{List, [], _∷_, _++_, append-assoc, append-nil}
 use mathlib.Core.Option.{Option, none, some}
 use Prim.Native.Nat.{ℕ, suc, _≤_}
 use native.Mathlib.Omega.{arith}
-use lib.Dec.{leb, ltb}
+use lib.Dec.{leb}
 use lib.ListN.{length}
 use borrow.Author.Tests.{leb-true, not-true}
 use Rattle.tableau.specs.declared.Letter.{Letter}
@@ -13,7 +13,7 @@ use Rattle.tableau.specs.declared.Word.{Word}
 use Rattle.tableau.specs.declared.Rule.{Rule}
 use Rattle.tableau.specs.Basics.{Four, every, isSome, lookup}
 use Rattle.tableau.specs.File.{rank, inOrder, shape}
-use Rattle.tableau.specs.Words.{words, relations, ruleNames, Command, make, assume, infer, commandOf}
+use Rattle.tableau.specs.Words.{ruleNames, Command, make, assume, infer, commandOf}
 use Rattle.tableau.specs.Fields.{Argument, unused, of, argumentUse, arguments, wordFields}
 use Rattle.tableau.specs.Terms.{Table, Literal, literal, at, result, sortOf, written}
 use Rattle.tableau.specs.Meaning.{FiniteHeap, Values, AllTrue}

@@ -10,7 +10,7 @@ use native.Mathlib.Omega.{arith}
 use lib.Dec.{eqb}
 use borrow.Author.Tests.{eqb-true}
 use Rattle.tableau.specs.declared.Sort.{Sort}
-use Rattle.tableau.specs.Meaning.{_and_, Below, same, widen, any, FiniteHeap, Region, Ref, Value, reference, region, heap, field, class, isRef, isClass, asRef, asRegion, asField, asClass}
+use Rattle.tableau.specs.Meaning.{Below, same, widen, any, FiniteHeap, Region, Ref, Value, reference, region, heap, field, class, isRef, isClass, asRef, asRegion, asField, asClass}
 use Rattle.tableau.proofs.Bools.{or-e, or-i1, or-i2, dec, clash, eqb-same}
 
 -- the sort of a value

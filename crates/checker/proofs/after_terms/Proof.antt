@@ -15,11 +15,6 @@ use Rattle.checker.proofs.Whole.{tree-begins}
 use borrow.Author.Needs.{needs}
 use Rattle.checker.proofs.after_terms.Statement.{statement}
 use Rattle.checker.proofs.after_terms.Tie as tie
-use Rattle.checker.proofs.after_terms.Reads as reads
-use Rattle.checker.proofs.after_terms.Lts as lts
-use Rattle.sections.proofs.assumption_lines.run.Reads as assumption-lines-run-reads
-use Rattle.sections.proofs.step_lines.run.Reads as step-lines-run-reads
-use Rattle.tree.proofs.Tree.empty.Reads as empty-reads
 
 -- the A lines have ended
 assumed : (c : tie.After-known-told2) (table : Table) → (let g = c .before .before .before .before .before .before .before in Entries table (g .args .terms .now) → length table ≡ g .args .n

@@ -1,5 +1,5 @@
 -- `check` meets its contract: check 1, then the T lines, then the others.
-use mathlib.Core.Path.{_≡_, refl, sym, _∙_, subst}
+use mathlib.Core.Path.{sym, _∙_, subst}
 use native.Mathlib.Omega.{arith}
 use Rattle.terms.proofs.GrowthLaws.{held-empty}
 use Rattle.terms.specs.Arrays.{arrays}
@@ -9,10 +9,6 @@ use Rattle.checker.proofs.Whole.{too-long, short-enough}
 use borrow.Author.Needs.{needs}
 use Rattle.checker.proofs.check.Statement.{statement}
 use Rattle.checker.proofs.check.Tie as tie
-use Rattle.checker.proofs.check.Reads as reads
-use Rattle.checker.proofs.check.Lts as lts
-use Rattle.checker.proofs.after_terms.Reads as after-terms-reads
-use Rattle.sections.proofs.term_lines.run.Reads as run-reads
 
 -- the T lines have ended
 made : (c : tie.After-known-told2)

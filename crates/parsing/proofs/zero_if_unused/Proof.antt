@@ -1,3 +1,4 @@
+-- A bit that is set asks nothing; else the value decides.
 use lib.Bits.{bitAnd}
 use borrow.Author.Tests.{eq-eqb, ne-eqb}
 use Rattle.parsing.proofs.zero_if_unused.Statement.{statement}
@@ -7,5 +8,5 @@ pub zero-if-unused-spec : {M : Type 1} → statement M
 zero-if-unused-spec =
     tie.close
     (tie.spec
-    (λ c. rw (ne-eqb (bitAnd (c .before .args .used) (c .before .args .bit)) 0 (c .if1 .taken)))
-    (λ c. rw (eq-eqb (bitAnd (c .before .args .used) (c .before .args .bit)) 0 (c .if1 .left))))
+    (λ c. rw (ne-eqb (bitAnd (c .before .before .args .used .0) (c .before .before .args .bit)) 0 (c .if1 .taken)))
+    (λ c. rw (eq-eqb (bitAnd (c .before .before .args .used .0) (c .before .before .args .bit)) 0 (c .if1 .left))))

@@ -2,7 +2,6 @@
 use mathlib.Core.Path.{sym, ap}
 use native.Mathlib.Omega.{arith}
 use Rattle.tableau.specs.Terms.{relationIndex}
-use borrow.Author.Needs.{needs}
 use Rattle.packing.proofs.literals.relation_index.Statement.{statement}
 use Rattle.packing.proofs.literals.relation_index.Tie as tie
 

@@ -6,7 +6,6 @@ use Rattle.tableau.specs.declared.Operator.{Operator}
 use Rattle.tableau.specs.declared.Word.{Word}
 use Rattle.tableau.specs.Terms.{result, operatorIndex, sortIndex}
 use Rattle.packing.specs.Packing.{wordCode, wordSort, wordBits}
-use borrow.Author.Needs.{needs}
 use Rattle.packing.proofs.terms.operator_bits.Statement.{statement}
 use Rattle.packing.proofs.terms.operator_bits.Tie as tie
 

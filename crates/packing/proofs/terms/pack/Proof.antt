@@ -1,5 +1,4 @@
 -- Each arm knows the term.
-use borrow.Author.Needs.{needs}
 use Rattle.packing.proofs.terms.pack.Statement.{statement}
 use Rattle.packing.proofs.terms.pack.Tie as tie
 

@@ -2,7 +2,6 @@
 use mathlib.Core.Path.{sym, ap}
 use native.Mathlib.Omega.{arith}
 use Rattle.tableau.specs.Terms.{sortIndex}
-use borrow.Author.Needs.{needs}
 use Rattle.packing.proofs.terms.sort_index.Statement.{statement}
 use Rattle.packing.proofs.terms.sort_index.Tie as tie
 

@@ -1,6 +1,5 @@
 -- Check 11 speaks of p and q, where the rule uses them.
-use mathlib.Core.Path.{_≡_, sym, _∙_}
-use mathlib.Core.Bool.{false}
+use mathlib.Core.Path.{sym, _∙_}
 use Rattle.steps.proofs.CheckLaws.{eleven, place-there, unset-p, unset-q}
 use Rattle.tableau.specs.Fields.{ruleFields}
 use Rattle.syntax.specs.Syntax.{stepFields}

@@ -1,5 +1,5 @@
 -- Check 9 speaks of t and w; `rep`, whose t is a side, asks for no sort.
-use mathlib.Core.Path.{_≡_, sym, _∙_, subst}
+use mathlib.Core.Path.{sym, _∙_, subst}
 use Rattle.tableau.specs.Fields.{ruleFields}
 use Rattle.syntax.specs.Syntax.{stepFields, thirdIn, ThirdFits}
 use Rattle.syntax.specs.declared.ThirdField as declared

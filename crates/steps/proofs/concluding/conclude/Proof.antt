@@ -1,5 +1,5 @@
 -- A side is that of `rep`; else t is a term.
-use mathlib.Core.Path.{_≡_, sym, ap, subst}
+use mathlib.Core.Path.{_≡_, sym, subst}
 use Rattle.tableau.specs.Fields.{ruleFields}
 use denote.Ref.{now}
 use Rattle.rules.specs.declared.outcome.Outcome.{Outcome}

@@ -1,6 +1,6 @@
 -- Check 11, then the rule on what it is given.
 use mathlib.Core.Path.{_≡_, sym, _∙_}
-use mathlib.Core.Bool.{Bool, true}
+use mathlib.Core.Bool.{true}
 use mathlib.Core.List.{List}
 use Prim.Native.Nat.{_≤_}
 use denote.Ref.{now}
@@ -8,14 +8,13 @@ use borrow.Author.Tests.{not-true, not-false}
 use Rattle.tableau.specs.Basics.{every}
 use Rattle.tableau.specs.Fields.{ruleFields, ruleUses}
 use Rattle.tableau.specs.Terms.{Literal}
-use Rattle.tableau.specs.Tree.{onBranch, literalAt, alternatives}
+use Rattle.tableau.specs.Tree.{onBranch, alternatives}
 use Rattle.tableau.specs.Reply.{zeroIfUnused}
 use Rattle.tableau.proofs.Bools.{every-true}
 use Rattle.syntax.specs.Syntax.{stepFields}
 use Rattle.steps.specs.Reading.{branchOf}
 use Rattle.steps.proofs.Laws.{branch-length, place-within, place-read}
 use Rattle.steps.proofs.CheckLaws.{given}
-use borrow.Author.Needs.{needs}
 use Rattle.steps.proofs.inferring.added.Statement.{statement}
 use Rattle.steps.proofs.inferring.added.Tie as tie
 

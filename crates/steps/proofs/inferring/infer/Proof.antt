@@ -1,12 +1,10 @@
 -- Each return knows the checks that held and the one that failed.
 use mathlib.Core.Path.{_≡_, sym, _∙_}
-use mathlib.Core.Bool.{true}
 use lib.ListN.{length}
 use borrow.Author.Tests.{not-true, not-false}
 use Rattle.tableau.specs.Terms.{Table}
 use Rattle.tableau.specs.Reply.{stepLine}
 use Rattle.steps.specs.Infers.{TermsNamed}
-use borrow.Author.Needs.{needs}
 use Rattle.steps.proofs.inferring.infer.Statement.{statement}
 use Rattle.steps.proofs.inferring.infer.Tie as tie
 
