@@ -25,7 +25,7 @@ use Rattle.syntax.specs.Syntax.{ThirdFits, WellTaken, thirdIn, stepFields}
 use Rattle.syntax.proofs.Masks.{isUsed, bits-of}
 use Rattle.packing.specs.Packing.{Small}
 use Rattle.steps.specs.Checks.{isPlace}
-use Rattle.steps.specs.Infers.{ThirdGiven, TermGiven, Given}
+use Rattle.conclusions.specs.Infers.{ThirdGiven, TermGiven, Given}
 
 -- CHECKS 8 AND 9 speak of t and w alone
 module _ (table : Table) where

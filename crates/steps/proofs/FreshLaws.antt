@@ -21,7 +21,7 @@ use Rattle.tableau.specs.Tree.{Checked, _>>=_, _>>_, require, requireSome, answ
 use Rattle.tableau.specs.Reply.{isTerm, termOrName}
 use Rattle.tableau.proofs.Bools.{both-true, both-false, every-true}
 use Rattle.tableau.proofs.Places.{rules, placeOf, placesBut, every-rule, other-rule}
-use Rattle.steps.specs.Infers.{anyFresh, freshKind, asksFresh}
+use Rattle.steps.specs.Freshness.{anyFresh, freshKind, asksFresh}
 
 -- FRESHNESS: a conclusion that does not ask for it
 abbrev Unasked : Option Conclusion → Type 0

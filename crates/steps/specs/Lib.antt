@@ -1,3 +1,3 @@
 pub mod Reading
 pub mod Checks
-pub mod Infers
+pub mod Freshness

@@ -1,7 +1,7 @@
 // An S line that was taken apart, as far as the alternatives that it adds.
 use crate::checks;
-use crate::concluding::conclude;
 use crate::reading::literal;
+use conclusions::conclude;
 use freshness::is_fresh;
 use rules::outcome::Outcome;
 use syntax::Step;
@@ -20,7 +20,7 @@ ghost use Rattle.mentions.specs.Mentions.{MentionRows};
 ghost use Rattle.tree.specs.State.{IsBranch};
 ghost use Rattle.rules.specs.Answer.{Room, answerOf};
 ghost use Rattle.steps.specs.Reading.{branchOf};
-ghost use Rattle.steps.specs.Infers.{Freshness, asksFresh, TermsNamed};
+ghost use Rattle.steps.specs.Freshness.{Freshness, asksFresh, TermsNamed};
 
 fn asks_fresh(rule: Rule) -> bool
     ensures { λ r. ⌜ r ≡ asksFresh rule ⌝ }

@@ -3,9 +3,9 @@ use mathlib.Core.Path.{sym, _∙_, subst}
 use Rattle.tableau.specs.Fields.{ruleFields}
 use Rattle.syntax.specs.Syntax.{stepFields, thirdIn, ThirdFits}
 use Rattle.syntax.specs.declared.ThirdField as declared
-use Rattle.steps.specs.Infers.{ThirdGiven}
+use Rattle.conclusions.specs.Infers.{ThirdGiven}
 use Rattle.steps.proofs.CheckLaws.{nine, given, third-small, fourth-small}
-use Rattle.steps.proofs.Laws.{is-rep}
+use Rattle.conclusions.proofs.Laws.{is-rep}
 use borrow.Author.Needs.{needs}
 use Rattle.steps.proofs.checks.sorts_fit.Statement.{statement}
 use Rattle.steps.proofs.checks.sorts_fit.Tie as tie

@@ -3,7 +3,7 @@ use mathlib.Core.Path.{sym, ap}
 use Rattle.tableau.specs.Words.{ruleNames}
 use Rattle.tableau.specs.Rules.{rule}
 use Rattle.tableau.proofs.Places.{rules}
-use Rattle.steps.specs.Infers.{anyFresh, asksFresh}
+use Rattle.steps.specs.Freshness.{anyFresh, asksFresh}
 use Rattle.steps.proofs.FreshLaws.{others-unasked}
 use borrow.Author.Needs.{needs}
 use Rattle.steps.proofs.inferring.asks_fresh.Statement.{statement}

@@ -4,7 +4,7 @@ use lib.ListN.{length}
 use borrow.Author.Tests.{not-true, not-false}
 use Rattle.tableau.specs.Terms.{Table}
 use Rattle.tableau.specs.Reply.{stepLine}
-use Rattle.steps.specs.Infers.{TermsNamed}
+use Rattle.steps.specs.Freshness.{TermsNamed}
 use Rattle.steps.proofs.inferring.infer.Statement.{statement}
 use Rattle.steps.proofs.inferring.infer.Tie as tie
 

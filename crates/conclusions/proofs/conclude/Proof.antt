@@ -5,11 +5,11 @@ use denote.Ref.{now}
 use Rattle.rules.specs.declared.outcome.Outcome.{Outcome}
 use Rattle.syntax.specs.declared.ThirdField as declared
 use Rattle.syntax.specs.Syntax.{ThirdFits, thirdIn}
-use Rattle.steps.specs.Infers.{Given, Infers}
-use Rattle.steps.proofs.Laws.{infers, is-rep}
+use Rattle.conclusions.specs.Infers.{Given, Infers}
+use Rattle.conclusions.proofs.Laws.{infers, is-rep}
 use borrow.Author.Needs.{needs}
-use Rattle.steps.proofs.concluding.conclude.Statement.{statement}
-use Rattle.steps.proofs.concluding.conclude.Tie as tie
+use Rattle.conclusions.proofs.conclude.Statement.{statement}
+use Rattle.conclusions.proofs.conclude.Tie as tie
 
 -- the outcome, where field t is known
 abbrev Answers : tie.Start → declared.ThirdField → Outcome → Type 0

@@ -1,19 +1,13 @@
 -- What a rule is given, and what it answers: checks 12 to 14.
 use mathlib.Core.Path.{_≡_}
-use mathlib.Core.Bool.{Bool, true, false, _||_}
-use mathlib.Core.List.{List, [], _∷_}
+use mathlib.Core.Bool.{Bool}
+use mathlib.Core.List.{List}
 use mathlib.Core.Option.{Option, none, some}
 use Prim.Native.Nat.{ℕ}
 use Rattle.tableau.specs.declared.Rule.{Rule}
-use Rattle.tableau.specs.Fields.{PlaceField, ThirdField, TermField, unused, place, side, term, of, ruleFields, ruleUses}
+use Rattle.tableau.specs.Fields.{PlaceField, ThirdField, TermField, unused, place, side, term, of, ruleFields}
 use Rattle.tableau.specs.Terms.{Table, Literal}
-use Rattle.tableau.specs.Rules.{Row, Kind, rows, congruence, replacement, rule}
-use Rattle.tableau.specs.Steps.{isFresh}
 use Rattle.tableau.specs.Tree.{answer}
-use Rattle.tableau.specs.Reply.{termOrName}
-use Rattle.tableau.specs.Basics.{every}
-use Rattle.syntax.specs.declared.Step.{Step}
-use Rattle.syntax.specs.Syntax.{stepFields}
 use Rattle.packing.specs.declared.LiteralView.{LiteralView}
 use Rattle.packing.specs.Packing.{literalOf, Small}
 use Rattle.table.specs.Held.{Searchable}
@@ -46,24 +40,3 @@ pub record Infers (x : Rule) (P Q : LiteralView) (t w : ℕ) (fresh : Bool) (ter
   pub room : Room r
   pub answers : (table : Table) → Searchable table terms chains
       → answer table fresh (atPlace (ruleFields x .p) P) (atPlace (ruleFields x .q) Q) t w x ≡ answerOf r
-
--- check 8 has passed
-abbrev pub TermsNamed : Table → Step → Type 0
-TermsNamed table s = every (termOrName table) (ruleUses (s .rule)) (stepFields s) ≡ true
-
--- THE RULES THAT ASK FOR A FRESH w: those with a row that does
-unfoldable pub anyFresh : List Row → Bool
-anyFresh [] = false
-anyFresh (R ∷ Rs) = R .fresh || anyFresh Rs
-
-abbrev pub freshKind : Kind → Bool
-freshKind (rows Rs) = anyFresh Rs
-freshKind congruence = false
-freshKind replacement = false
-
-abbrev pub asksFresh : Rule → Bool
-asksFresh x = freshKind (rule x)
-
--- the flag says of rule x what the freshness of w would
-abbrev pub Freshness : Table → List Literal → Rule → ℕ → Bool → Type 0
-Freshness table B x w r = (P Q : Option Literal) (t : ℕ) → answer table r P Q t w x ≡ answer table (isFresh table B w) P Q t w x

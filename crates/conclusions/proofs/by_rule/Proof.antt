@@ -4,11 +4,11 @@ use denote.Ref.{now}
 use Rattle.tableau.specs.declared.Rule.{Rule}
 use Rattle.tableau.specs.Fields.{ruleFields}
 use Rattle.rules.specs.declared.outcome.Outcome.{Outcome}
-use Rattle.steps.specs.Infers.{Given, Infers}
-use Rattle.steps.proofs.Laws.{given-as, infers, infers-fresh, not-rep}
+use Rattle.conclusions.specs.Infers.{Given, Infers}
+use Rattle.conclusions.proofs.Laws.{given-as, infers, infers-fresh, not-rep}
 use borrow.Author.Needs.{needs}
-use Rattle.steps.proofs.concluding.by_rule.Statement.{statement}
-use Rattle.steps.proofs.concluding.by_rule.Tie as tie
+use Rattle.conclusions.proofs.by_rule.Statement.{statement}
+use Rattle.conclusions.proofs.by_rule.Tie as tie
 
 -- what the rule is given, where the rule is known
 abbrev given : (s : tie.Start) (x : Rule) → s .args .rule ≡ x → Given x (s .args .t .0) (s .args .w .0)

@@ -16,7 +16,7 @@ ghost use Rattle.table.specs.Held.{Searchable};
 ghost use Rattle.syntax.specs.Syntax.{ThirdFits, thirdIn};
 ghost use Rattle.syntax.specs.declared.ThirdField.{ThirdField as Third};
 ghost use Rattle.packing.specs.Packing.{SmallLiteral};
-ghost use Rattle.steps.specs.Infers.{Given, Infers};
+ghost use Rattle.conclusions.specs.Infers.{Given, Infers};
 
 // The rules whose t is no side; `rep` does not come here, and is refused.
 fn by_rule(
