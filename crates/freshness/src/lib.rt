@@ -1,7 +1,7 @@
 // The freshness test: does a literal on the branch mention w?
 use packing::TermView;
-use packing::literals::left_of;
-use packing::literals::right_of;
+use packing::literals::packed_left;
+use packing::literals::packed_right;
 use tableau::Sort;
 use tableau::TermNumber;
 use tree::Tree;
@@ -35,8 +35,8 @@ fn in_literal(mentions: &[u64; mentions::WORDS], n: usize, literal: u32, w: Term
     ensures { λ r. ⌜ ((table : Table) → MentionRows table (now (mentions .entry)) → length table ≡ n
         → r ≡ mentionedIn (at table) (w .0) (unpackLiteral literal)) ⌝ }
 {
-    let left = left_of(literal);
-    let right = right_of(literal);
+    let left = packed_left(literal);
+    let right = packed_right(literal);
     in_term(mentions, n, left, w) || in_term(mentions, n, right, w)
 }
 

@@ -52,13 +52,13 @@ pub fn view(packed: u32) -> LiteralView
 }
 
 // The sides of a packed literal.
-pub fn left_of(packed: u32) -> TermNumber
+pub fn packed_left(packed: u32) -> TermNumber
     ensures { λ r. ⌜ (r .0 ≡ leftIn (unpackLiteral packed)) × Small (r .0) ⌝ }
 {
     TermNumber((packed / SIDE % SIDE) as usize)
 }
 
-pub fn right_of(packed: u32) -> TermNumber
+pub fn packed_right(packed: u32) -> TermNumber
     ensures { λ r. ⌜ (r .0 ≡ rightIn (unpackLiteral packed)) × Small (r .0) ⌝ }
 {
     TermNumber((packed % SIDE) as usize)

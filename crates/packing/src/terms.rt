@@ -15,7 +15,7 @@ ghost use Rattle.tableau.specs.Terms as specification;
 ghost use Rattle.tableau.specs.Steps as rule;
 ghost use Rattle.tableau.specs.declared.Word.{Word};
 ghost use Rattle.syntax.specs.Syntax.{argumentsIn, termIn};
-ghost use Rattle.packing.specs.Packing.{packTerm, unpackTerm, unpackFields, wordBits, nameLimit, Packable, Packs, Small};
+ghost use Rattle.packing.specs.Packing.{packTerm, unpackTerm, unpackFields, wordBits, nameLimit, Packable, Packs};
 ghost use Rattle.packing.specs.Packing.{viewOf, takesArguments};
 
 // The low bits, with the word and the sort, are below LOW; above them a field is one of FIELD numbers. The fourth field is the lowest.
@@ -28,14 +28,6 @@ const THIRD: u64 = 262144;
 const SECOND: u64 = 268435456;
 
 const FIRST: u64 = 274877906944;
-
-// Four fields above the low bits.
-fn pack_fields(low: u64, a: usize, b: usize, c: usize, d: usize) -> u64
-    requires { ⌜ (low < 256) × (a < nameLimit) × Small b × Small c × Small d ⌝ }
-    ensures { λ r. ⌜ r ≡ (((a * 1024 + b) * 1024 + c) * 1024 + d) * 256 + low ⌝ }
-{
-    (((a as u64 * FIELD + b as u64) * FIELD + c as u64) * FIELD + d as u64) * LOW + low
-}
 
 fn sort_index(sort: Sort) -> u64
     ensures { λ r. ⌜ (r ≡ sortIndex sort) × (r < 5) ⌝ }
@@ -73,14 +65,15 @@ fn pack_variable(sort: Sort, name: Name) -> u64
     requires { ⌜ name .0 < nameLimit ⌝ }
     ensures { λ r. ⌜ r ≡ packTerm (variable sort (name .0)) ⌝ }
 {
-    pack_fields(96 + 9 * sort_index(sort), name.0, 0, 0, 0)
+    name.0 as u64 * FIRST + (96 + 9 * sort_index(sort))
 }
 
 fn pack_operation(operator: Operator, k: Arguments) -> u64
     requires { ⌜ Packable (apply operator (argumentsIn k)) ⌝ }
     ensures { λ r. ⌜ r ≡ packTerm (apply operator (argumentsIn k)) ⌝ }
 {
-    pack_fields(operator_bits(operator), k.a.0, k.b.0, k.c.0, k.d.0)
+    let low = operator_bits(operator);
+    (((k.a.0 as u64 * FIELD + k.b.0 as u64) * FIELD + k.c.0 as u64) * FIELD + k.d.0 as u64) * LOW + low
 }
 
 pub fn pack(term: Term) -> u64

@@ -12,7 +12,7 @@ returns c table R e =
     let a = s .before .before .args in
     let l = unpackLiteral (a .literal) in
     let M = mentions (at table) (a .w .0) in
-    by-first (M (leftIn l)) (M (rightIn l)) (c .if1 .taken) (c .before .in-term .ensures table R e ∙ ap M (s .before .left-of .ensures .0))
+    by-first (M (leftIn l)) (M (rightIn l)) (c .if1 .taken) (c .before .in-term .ensures table R e ∙ ap M (s .before .packed-left .ensures .0))
     ∙ sym (in-sides (at table) (a .w .0) l)
 
 returns-2 : tie.Need-returns-2
@@ -22,8 +22,8 @@ returns-2 c table R e =
     let l = unpackLiteral (a .literal) in
     let M = mentions (at table) (a .w .0) in
     by-second (M (leftIn l)) (M (rightIn l)) (c .before .if1 .left)
-    (c .before .before .in-term .ensures table R e ∙ ap M (s .before .left-of .ensures .0))
-    (c .in-term2 .ensures table R e ∙ ap M (s .right-of .ensures .0))
+    (c .before .before .in-term .ensures table R e ∙ ap M (s .before .packed-left .ensures .0))
+    (c .in-term2 .ensures table R e ∙ ap M (s .packed-right .ensures .0))
     ∙ sym (in-sides (at table) (a .w .0) l)
 
 pub in-literal-spec : {M : Type 1} → statement M
