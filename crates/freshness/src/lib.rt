@@ -18,31 +18,31 @@ ghost use Rattle.table.specs.Held.{Entries};
 ghost use Rattle.mentions.specs.Mentions.{MentionRows};
 
 // Does w stand in the term? A number that no term has stands for no term with w in it.
-fn in_term(mentions: &[u64; mentions::WORDS], n: usize, term: TermNumber, w: TermNumber) -> bool
+fn in_term(rows: &[u64; mentions::WORDS], n: usize, term: TermNumber, w: TermNumber) -> bool
     requires { ⌜ (0 < w .0) × (w .0 ≤ n) × (n ≤ maxTerms) ⌝ }
-    ensures { λ r. ⌜ ((table : Table) → MentionRows table (now (mentions .entry)) → length table ≡ n
+    ensures { λ r. ⌜ ((table : Table) → MentionRows table (now (rows .entry)) → length table ≡ n
         → r ≡ specification.mentions (at table) (w .0) (term .0)) ⌝ }
 {
     if n < term.0 {
         return false;
     }
-    mentions::mentions(mentions, term, w)
+    mentions::mentions(rows, term, w)
 }
 
 // Does the packed literal mention w?
-fn in_literal(mentions: &[u64; mentions::WORDS], n: usize, literal: u32, w: TermNumber) -> bool
+fn in_literal(rows: &[u64; mentions::WORDS], n: usize, literal: u32, w: TermNumber) -> bool
     requires { ⌜ (0 < w .0) × (w .0 ≤ n) × (n ≤ maxTerms) ⌝ }
-    ensures { λ r. ⌜ ((table : Table) → MentionRows table (now (mentions .entry)) → length table ≡ n
+    ensures { λ r. ⌜ ((table : Table) → MentionRows table (now (rows .entry)) → length table ≡ n
         → r ≡ mentionedIn (at table) (w .0) (unpackLiteral literal)) ⌝ }
 {
     let left = packed_left(literal);
     let right = packed_right(literal);
-    in_term(mentions, n, left, w) || in_term(mentions, n, right, w)
+    in_term(rows, n, left, w) || in_term(rows, n, right, w)
 }
 
 // Does a literal among the first len mention w?
 fn on_branch(
-    mentions: &[u64; mentions::WORDS],
+    rows: &[u64; mentions::WORDS],
     n: usize,
     branch: &[u32; Tree::PLACES],
     len: usize,
@@ -50,12 +50,12 @@ fn on_branch(
 ) -> bool
     requires { ⌜ (0 < w .0) × (w .0 ≤ n) × (n ≤ maxTerms) ⌝ }
     requires { ⌜ (len ≤ maxPlaces) × (length (now branch) ≡ maxPlaces) ⌝ }
-    ensures { λ r. ⌜ ((table : Table) → MentionRows table (now (mentions .entry)) → length table ≡ n
+    ensures { λ r. ⌜ ((table : Table) → MentionRows table (now (rows .entry)) → length table ≡ n
         → r ≡ mentioned (at table) (w .0) (map unpackLiteral (take len (now (branch .entry))))) ⌝ }
 {
     let mut i = 0;
     while i < len {
-        if in_literal(mentions, n, branch[i], w) {
+        if in_literal(rows, n, branch[i], w) {
             return true;
         }
         i += 1;
@@ -66,7 +66,7 @@ fn on_branch(
 // Is the term w fresh: an `rfv` that no literal on the branch mentions?
 pub fn is_fresh(
     terms: &[u64; table::NUMBERS],
-    mentions: &[u64; mentions::WORDS],
+    rows: &[u64; mentions::WORDS],
     n: usize,
     branch: &[u32; Tree::PLACES],
     len: usize,
@@ -75,7 +75,7 @@ pub fn is_fresh(
     requires { ⌜ ((table : Table) × Entries table (now terms)) ⌝ }
     requires { ⌜ (0 < w .0) × (w .0 ≤ n) × (n ≤ maxTerms) ⌝ }
     requires { ⌜ (len ≤ maxPlaces) × (length (now branch) ≡ maxPlaces) ⌝ }
-    ensures { λ r. ⌜ ((table : Table) → Entries table (now (terms .entry)) → MentionRows table (now (mentions .entry)) → length table ≡ n
+    ensures { λ r. ⌜ ((table : Table) → Entries table (now (terms .entry)) → MentionRows table (now (rows .entry)) → length table ≡ n
         → r ≡ isFresh table (map unpackLiteral (take len (now (branch .entry)))) (w .0)) ⌝ }
 {
     let TermView::Variable(sort, _) = table::view(terms, w) else {
@@ -84,5 +84,5 @@ pub fn is_fresh(
     let Sort::Reference = sort else {
         return false;
     };
-    !on_branch(mentions, n, branch, len, w)
+    !on_branch(rows, n, branch, len, w)
 }

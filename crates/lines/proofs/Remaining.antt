@@ -15,7 +15,7 @@ use Rattle.tableau.specs.Basics.{then, guard, lookup}
 use Rattle.tableau.specs.File.{LF, comma, onFirst, split, letters, isWord, number, Line, sixFields, shape}
 use Rattle.lines.specs.declared.LineRead.{LineRead}
 use Rattle.lines.specs.declared.Reading.{Reading}
-use Rattle.lines.specs.declared.Step.{Step}
+use Rattle.lines.specs.declared.ByteStep.{ByteStep}
 use Rattle.lines.specs.Lines.{packWord, lineRead, firstLine, lineAt}
 use Rattle.lines.specs.Remains.{thenRead, field, fourNumbers, numbers, packedWord, whole, afterLetter, fieldsFrom, lineFrom}
 use Rattle.lines.specs.Remains.{afterStep, Sound, Reads, Begins}
@@ -48,7 +48,7 @@ pieces c (x ∷ l) = cut (eqb x c) (split c l) (pieces c l)
 
 -- A byte of the file, by what it does to the line that is being read.
 module _ (s : Reading) (x : ℕ) where
-  goes-on : (s′ : Reading) → (x ≡ LF → ⊥) → ((n : ℕ) (l : List ℕ) → lineFrom s n (x ∷ l) ≡ lineFrom s′ n l) → Sound s′ → Reads s x (Step.More s′)
+  goes-on : (s′ : Reading) → (x ≡ LF → ⊥) → ((n : ℕ) (l : List ℕ) → lineFrom s n (x ∷ l) ≡ lineFrom s′ n l) → Sound s′ → Reads s x (ByteStep.More s′)
   goes-on s′ h e k = record { remains = λ at rest. rw (split-other LF x rest h) (cut at (split LF rest)); sound = k }
     where
       cut : (at : ℕ) (ls : List (List ℕ)) → firstLine (lineFrom s) at (onFirst x ls) ≡ firstLine (lineFrom s′) (at + 1) ls
@@ -64,7 +64,7 @@ module _ (s : Reading) (x : ℕ) where
 
   bad : (x ≡ LF → (n : ℕ) → lineFrom s n [] ≡ LineRead.BadShape)
       → ((x ≡ LF → ⊥) → (n : ℕ) (l : List ℕ) → lineFrom s n (x ∷ l) ≡ LineRead.BadShape)
-      → Reads s x Step.Bad
+      → Reads s x ByteStep.Bad
   bad here there = record { remains = λ at rest. which at rest (eqb x LF) refl; sound = tt }
     where
       cut : (h : x ≡ LF → ⊥) (at : ℕ) (ls : List (List ℕ)) → firstLine (lineFrom s) at (onFirst x ls) ≡ LineRead.BadShape
@@ -83,13 +83,13 @@ pub record Stands {A : Type 0} (s : Reading) (f : List ℕ → Option A) (k : �
 module _ {A : Type 0} {s : Reading} {f : List ℕ → Option A} {k : ℕ → A → List (List ℕ) → LineRead} (field′ : Stands s f k) (x : ℕ) where
   -- the field goes on with x
   pub inside : {s′ : Reading} {f′ : List ℕ → Option A} → Stands s′ f′ k → (x ≡ LF → ⊥) → (x ≡ comma → ⊥) → ((p : List ℕ) → f (x ∷ p) ≡ f′ p)
-      → Sound s′ → Reads s x (Step.More s′)
+      → Sound s′ → Reads s x (ByteStep.More s′)
   unfolding lineFrom
   inside {s′} q h₁ h₂ e = goes-on s x s′ h₁ (λ n l. let w = pieces comma l in rw (split-other comma x l h₂, field′ .is, q .is, w .2, e))
 
   -- x is the comma after the field, and the next field begins
   pub at-comma : (s′ : Reading) (y : A) → x ≡ comma → f [] ≡ some y
-      → ((n : ℕ) (p : List ℕ) (ps : List (List ℕ)) → k n y (p ∷ ps) ≡ fieldsFrom s′ n (p ∷ ps)) → Sound s′ → Reads s x (Step.More s′)
+      → ((n : ℕ) (p : List ℕ) (ps : List (List ℕ)) → k n y (p ∷ ps) ≡ fieldsFrom s′ n (p ∷ ps)) → Sound s′ → Reads s x (ByteStep.More s′)
   unfolding lineFrom
   at-comma s′ y e h q =
       goes-on s x s′ (λ z. omega (arith, e, z))
@@ -101,13 +101,13 @@ module _ {A : Type 0} {s : Reading} {f : List ℕ → Option A} {k : ℕ → A �
 
   -- x is the LF after the last field
   pub at-end : x ≡ LF → ((n : ℕ) → thenRead (f []) (λ y. k n y []) ≡ fourNumbers (s .letter) (s .word) n (s .a ∷ s .b ∷ s .c ∷ s .value ∷ []))
-      → Reads s x Step.End
+      → Reads s x ByteStep.End
   at-end e h = record { remains = λ at rest. ends s x _ e at rest (ended (at + 1) ∙ h (at + 1)); sound = tt }
 
   -- no line goes on with x
   pub not-here : (x ≡ LF → (n : ℕ) → thenRead (f []) (λ y. k n y []) ≡ LineRead.BadShape)
       → (x ≡ comma → (n : ℕ) (p : List ℕ) (ps : List (List ℕ)) → thenRead (f []) (λ y. k n y (p ∷ ps)) ≡ LineRead.BadShape)
-      → ((p : List ℕ) → f (x ∷ p) ≡ none) → Reads s x Step.Bad
+      → ((p : List ℕ) → f (x ∷ p) ≡ none) → Reads s x ByteStep.Bad
   unfolding lineFrom
   not-here here next′ there = bad s x (λ e n. ended n ∙ here e n) (λ h n l. which n l (eqb x comma) refl)
     where
@@ -188,7 +188,7 @@ at-start file at s begun = go (split LF (drop at file))
     go (l ∷ []) = refl
     go (l ∷ m ∷ ls) = begun .remains (at + length l + 1) l
 
-pub turn : (file : List ℕ) (i : ℕ) (s : Reading) (r r′ : Step) → i < length file → Reads s (getD file i 0) r → r ≡ r′
+pub turn : (file : List ℕ) (i : ℕ) (s : Reading) (r r′ : ByteStep) → i < length file → Reads s (getD file i 0) r → r ≡ r′
     → afterStep s r′ (i + 1) (split LF (drop (i + 1) file)) ≡ firstLine (lineFrom s) i (split LF (drop i file))
 turn file i s r r′ h reads e =
     let q : drop (i + 1) file ≡ drop (suc i) file = ap (λ (n : ℕ). drop n file) (add-one i) in

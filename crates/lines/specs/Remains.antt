@@ -11,7 +11,7 @@ use Rattle.tableau.specs.Basics.{guard, lookup}
 use Rattle.tableau.specs.File.{LF, comma, split, letters, isWord, allSmall, maxDigits, digits, number, shape}
 use Rattle.lines.specs.declared.LineRead.{LineRead}
 use Rattle.lines.specs.declared.Reading.{Reading}
-use Rattle.lines.specs.declared.Step.{Step}
+use Rattle.lines.specs.declared.ByteStep.{ByteStep}
 use Rattle.lines.specs.declared.LetterFound.{LetterFound}
 use Rattle.lines.specs.Lines.{packWord, lineRead, firstLine}
 
@@ -80,23 +80,23 @@ unfoldable pub lineFrom : Reading → ℕ → List ℕ → LineRead
 lineFrom s n l = fieldsFrom s n (split comma l)
 
 -- what remains after a step from s
-abbrev pub afterStep : Reading → Step → ℕ → List (List ℕ) → LineRead
-afterStep s (Step.More r) at ls = firstLine (lineFrom r) at ls
-afterStep s Step.End at ls = fourNumbers (s .letter) (s .word) at (s .a ∷ s .b ∷ s .c ∷ s .value ∷ [])
-afterStep s Step.Bad at ls = LineRead.BadShape
+abbrev pub afterStep : Reading → ByteStep → ℕ → List (List ℕ) → LineRead
+afterStep s (ByteStep.More r) at ls = firstLine (lineFrom r) at ls
+afterStep s ByteStep.End at ls = fourNumbers (s .letter) (s .word) at (s .a ∷ s .b ∷ s .c ∷ s .value ∷ [])
+afterStep s ByteStep.Bad at ls = LineRead.BadShape
 
 -- The value of a field has no more bytes than are read of it; and where a number is 0, its count says that no digit follows.
 pub record Sound (s : Reading) : Type 0 where
   pub small : s .value < 256 ^ s .count
   pub zero-ends : s .left < 4 → s .value ≡ 0 → 0 < s .count → maxDigits ≤ s .count
 
-abbrev pub SoundAfter : Step → Type 0
-SoundAfter (Step.More r) = Sound r
-SoundAfter Step.End = Unit {0}
-SoundAfter Step.Bad = Unit {0}
+abbrev pub SoundAfter : ByteStep → Type 0
+SoundAfter (ByteStep.More r) = Sound r
+SoundAfter ByteStep.End = Unit {0}
+SoundAfter ByteStep.Bad = Unit {0}
 
 -- A step over the byte x: for every rest of the file, what s, x and the rest come to is what the step's answer and the rest come to.
-pub record Reads (s : Reading) (x : ℕ) (r : Step) : Type 0 where
+pub record Reads (s : Reading) (x : ℕ) (r : ByteStep) : Type 0 where
   pub remains : (at : ℕ) (rest : List ℕ) → firstLine (lineFrom s) at (split LF (x ∷ rest)) ≡ afterStep s r (at + 1) (split LF rest)
   pub sound : SoundAfter r
 

@@ -48,7 +48,7 @@ struct Reading {
 }
 
 // What a byte leads to: the line goes on, it ends here with the fields that were read, or it is not shaped as a line.
-enum Step {
+enum ByteStep {
     More(Reading),
     End,
     Bad,
@@ -98,7 +98,7 @@ impl Reading {
     }
 
     // One byte more of the line.
-    fn step(self, x: u8) -> Step
+    fn step(self, x: u8) -> ByteStep
         requires { ⌜ Sound self ⌝ }
         ensures { λ r. ⌜ Reads self x r ⌝ }
     {
@@ -118,15 +118,15 @@ impl Reading {
         self.in_letter(x)
     }
 
-    fn in_letter(mut self, x: u8) -> Step
+    fn in_letter(mut self, x: u8) -> ByteStep
         requires { ⌜ 4 < self .left ⌝ }
         ensures { λ r. ⌜ Reads self x r ⌝ }
     {
         if self.count == 0 {
             let LetterFound::Known(letter) = letter_of(x) else {
-                return Step::Bad;
+                return ByteStep::Bad;
             };
-            return Step::More(Reading {
+            return ByteStep::More(Reading {
                 left: 5,
                 count: 1,
                 value: 0,
@@ -141,40 +141,40 @@ impl Reading {
             self.left = 4;
             self.count = 0;
             self.value = 0;
-            return Step::More(self);
+            return ByteStep::More(self);
         }
-        Step::Bad
+        ByteStep::Bad
     }
 
-    fn in_word(mut self, x: u8) -> Step
+    fn in_word(mut self, x: u8) -> ByteStep
         requires { ⌜ (self .left ≡ 4) × (97 ≤ x) × Sound self ⌝ }
         ensures { λ r. ⌜ Reads self x r ⌝ }
     {
         let count = self.count;
         let value = self.value;
         if b'z' < x {
-            return Step::Bad;
+            return ByteStep::Bad;
         }
         if count == 0 {
             self.count = 1;
             self.value = wide(x);
-            return Step::More(self);
+            return ByteStep::More(self);
         }
         if count == 1 {
             self.count = 2;
             self.value = value + 256 * wide(x);
-            return Step::More(self);
+            return ByteStep::More(self);
         }
         if count == 2 {
             self.count = 3;
             self.value = value + 65536 * wide(x);
-            return Step::More(self);
+            return ByteStep::More(self);
         }
-        Step::Bad
+        ByteStep::Bad
     }
 
     // A byte below the small letters ends the word.
-    fn end_word(mut self, x: u8) -> Step
+    fn end_word(mut self, x: u8) -> ByteStep
         requires { ⌜ (self .left ≡ 4) × (x < 97) ⌝ }
         ensures { λ r. ⌜ Reads self x r ⌝ }
     {
@@ -184,47 +184,47 @@ impl Reading {
                 self.word = self.value;
                 self.count = 0;
                 self.value = 0;
-                return Step::More(self);
+                return ByteStep::More(self);
             }
         }
-        Step::Bad
+        ByteStep::Bad
     }
 
-    fn in_number(mut self, x: u8) -> Step
+    fn in_number(mut self, x: u8) -> ByteStep
         requires { ⌜ (self .left < 4) × (48 ≤ x) × Sound self ⌝ }
         ensures { λ r. ⌜ Reads self x r ⌝ }
     {
         let count = self.count;
         if b'9' < x {
-            return Step::Bad;
+            return ByteStep::Bad;
         }
         if MAX_DIGITS <= count {
-            return Step::Bad;
+            return ByteStep::Bad;
         }
         let value = 10 * self.value + (wide(x) - 48);
         self.value = value;
         if value == 0 {
             self.count = MAX_DIGITS;
-            return Step::More(self);
+            return ByteStep::More(self);
         }
         self.count = count + 1;
-        Step::More(self)
+        ByteStep::More(self)
     }
 
     // A byte below the digits ends the number.
-    fn end_number(mut self, x: u8) -> Step
+    fn end_number(mut self, x: u8) -> ByteStep
         requires { ⌜ (self .left < 4) × (x < 48) ⌝ }
         ensures { λ r. ⌜ Reads self x r ⌝ }
     {
         let left = self.left;
         if self.count == 0 {
-            return Step::Bad;
+            return ByteStep::Bad;
         }
         if left == 0 {
             if x == LF {
-                return Step::End;
+                return ByteStep::End;
             }
-            return Step::Bad;
+            return ByteStep::Bad;
         }
         if x == b',' {
             self.left = left - 1;
@@ -233,9 +233,9 @@ impl Reading {
             self.c = self.value;
             self.count = 0;
             self.value = 0;
-            return Step::More(self);
+            return ByteStep::More(self);
         }
-        Step::Bad
+        ByteStep::Bad
     }
 }
 
@@ -249,10 +249,10 @@ pub fn read_line(file: &[u8], cursor: Cursor) -> LineRead
         let step = state.step(file[i]);
         i += 1;
         match step {
-            Step::More(next) => {
+            ByteStep::More(next) => {
                 state = next;
             }
-            Step::End => {
+            ByteStep::End => {
                 let letter = state.letter;
                 return LineRead::Line(LineFields {
                     letter: letter,
@@ -264,7 +264,7 @@ pub fn read_line(file: &[u8], cursor: Cursor) -> LineRead
                     next: Cursor { at: i },
                 });
             }
-            Step::Bad => {
+            ByteStep::Bad => {
                 return LineRead::BadShape;
             }
         }

@@ -73,7 +73,8 @@ fn pack_operation(operator: Operator, k: Arguments) -> u64
     ensures { λ r. ⌜ r ≡ packTerm (apply operator (argumentsIn k)) ⌝ }
 {
     let low = operator_bits(operator);
-    (((k.a.0 as u64 * FIELD + k.b.0 as u64) * FIELD + k.c.0 as u64) * FIELD + k.d.0 as u64) * LOW + low
+    (((k.a.0 as u64 * FIELD + k.b.0 as u64) * FIELD + k.c.0 as u64) * FIELD + k.d.0 as u64) * LOW
+        + low
 }
 
 pub fn pack(term: Term) -> u64

@@ -43,7 +43,7 @@ pub record Added (old new : Arrays) (n p : ℕ) (e : specification.Term) : Type 
   pub packed : p ≡ packTerm e
   pub terms : new .terms ≡ set (old .terms) (n + 1) p
   pub chains : new .chains ≡ set (set (old .chains) (hashes + (n + 1)) (getD (old .chains) (hashOf p) 0)) (hashOf p) (n + 1)
-  pub noted : Noted (old .mentions) (new .mentions) (n + 1) (argumentsOf e)
+  pub noted : Noted (old .rows) (new .rows) (n + 1) (argumentsOf e)
 
 pub held-grown : (table : Table) (term : Term) (old new : Arrays) (n p : ℕ) → Held table old n → Passed table term
     → Added old new n p (termIn term) → Held (table ++ (termIn term ∷ [])) new (n + 1)
@@ -60,7 +60,7 @@ held-grown table term old new n p H P A =
           (searchable-grown table e (old .terms) (old .chains) (H .searchable) (P .room) (P .packable) (P .new));
       mentioned = rows-grown table (table ++ (e ∷ [])) term
           (record { count = length-grown table e; old = at-old table e; last = at-last table e; wellFormed = H .wellFormed; grownWellFormed = wf })
-          (old .mentions) (new .mentions) (H .mentioned) (P .arguments) (rw q at (A .noted));
+          (old .rows) (new .rows) (H .mentioned) (P .arguments) (rw q at (A .noted));
     }
 
 pub held-empty : Held [] (arrays (replicate {A = ℕ} 1024 0) (replicate {A = ℕ} 1568 0) (replicate {A = ℕ} 6010 0)) 0

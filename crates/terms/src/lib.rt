@@ -47,15 +47,15 @@ pub fn is_term(n: usize, t: TermNumber) -> bool
 pub fn make_term(
     terms: &mut [u64; table::NUMBERS],
     chains: &mut [u16; table::LINKS],
-    mentions: &mut [u64; mentions::WORDS],
+    rows: &mut [u64; mentions::WORDS],
     n: usize,
     term: Term,
 ) -> Making
-    requires { ⌜ ((table : Table) × Held table (arrays (now terms) (now chains) (now mentions)) n) ⌝ }
+    requires { ⌜ ((table : Table) × Held table (arrays (now terms) (now chains) (now rows)) n) ⌝ }
     requires { ⌜ (every zeroIfUnused (wordFields (wordIn term)) (fieldsIn term) ≡ true) × (fieldsIn term .a < nameLimit) ⌝ }
-    ensures { λ r. ⌜ ((table : Table) → Held table (arrays (now (terms .entry)) (now (chains .entry)) (now (mentions .entry))) n
-        → MakesTerm table term (arrays (now (terms .entry)) (now (chains .entry)) (now (mentions .entry)))
-        (arrays (now (terms .exit)) (now (chains .exit)) (now (mentions .exit))) n r) ⌝ }
+    ensures { λ r. ⌜ ((table : Table) → Held table (arrays (now (terms .entry)) (now (chains .entry)) (now (rows .entry))) n
+        → MakesTerm table term (arrays (now (terms .entry)) (now (chains .entry)) (now (rows .entry)))
+        (arrays (now (terms .exit)) (now (chains .exit)) (now (rows .exit))) n r) ⌝ }
 {
     if table::TERMS <= n {
         return Making::Refused(Reason::TooManyTerms);
@@ -72,7 +72,7 @@ pub fn make_term(
     }
     let number = TermNumber(n + 1);
     table::add(terms, chains, number, packed);
-    mentions::note(mentions, number, term);
+    mentions::note(rows, number, term);
     Making::Made
 }
 

@@ -26,7 +26,7 @@ use Rattle.terms.proofs.make_term.Statement.{statement}
 use Rattle.terms.proofs.make_term.Tie as tie
 
 abbrev HeldBefore : tie.Start → Table → Type 0
-HeldBefore s table = Held table (arrays (now (s .args .terms)) (now (s .args .chains)) (now (s .args .mentions))) (s .args .n)
+HeldBefore s table = Held table (arrays (now (s .args .terms)) (now (s .args .chains)) (now (s .args .rows))) (s .args .n)
 
 -- the places before those where check 8, check 9 and the search are done
 abbrev start : tie.Else2 → tie.Start
