@@ -1,5 +1,5 @@
-// The rules of equal regions, of intersections, unions and differences, and `sep`. Each looks at the terms that its row names; where what the
-// row needs isn't so, the answer is refusal 12.
+// The rules of equal regions, of intersections, unions and differences, and `sep`. Each looks at the terms that its row names; where
+// what the row needs isn't so, the answer is refusal 12.
 use packing::LiteralView;
 use packing::TermView;
 use rules::outcome;
