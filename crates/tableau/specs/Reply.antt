@@ -158,7 +158,8 @@ runOpen σ τ (infer x) n = do
   status′ ← grown τ ks
   passed (record { table = σ .table; status = status′; letter = Letter.S; counts = counted (σ .counts) (infer x) })
 
--- "Checks on a line run in the order of the numbers below": 2 to 5, a line for each, then those above. The word stands for a command, if it is known.
+-- "Checks on a line run in the order of the numbers below": 3 to 5, a line for each, then those above. The command is what the word stands
+-- for, if it is known.
 abbrev pub runCommand : State → Letter → Option Command → Four ℕ → Checked State
 runCommand σ l command n = do
   require (inOrder (σ .letter) l) Reason.LetterOrder
@@ -166,6 +167,7 @@ runCommand σ l command n = do
   τ ← requireOpen (σ .status)
   runOpen σ τ c n
 
+-- check 2, then the others
 unfoldable pub runRead : State → Option Line → Checked State
 runRead σ read = do
   l ← requireSome read Reason.BadShape
