@@ -15,7 +15,7 @@ use Rattle.tableau.specs.Basics.{guard, bytes, sameBytes, Named, lookup}
 use Rattle.tableau.specs.File.{letters, isSmall, allSmall, isDigit, maxDigits, digits, number}
 use Rattle.lines.specs.Lines.{packWord}
 use Rattle.lines.specs.declared.LetterFound.{LetterFound}
-use Rattle.lines.specs.Remains.{letterFound, packedWord, letterFrom, wordFrom, numberFrom, whole}
+use Rattle.lines.specs.Remains.{letterFound, packedWord, letterFrom, wordFrom, digitsFrom, whole}
 
 no-value : {A : Type 0} (b : Bool) → guard {A = A} b none ≡ none
 no-value true = refl
@@ -122,11 +122,11 @@ lone x (b ∷ p) e = rw (e, eqb·suc-zero (length p), leb·suc-zero (length p), 
 
 module _ (count value x : ℕ) where
   pub digit-more : count < maxDigits → 48 ≤ x → x ≤ 57 → (count ≡ 0 → value ≡ 0) → (10 * value + (x - 48) ≡ 0 → ⊥)
-      → (p : List ℕ) → numberFrom count value (x ∷ p) ≡ numberFrom (count + 1) (10 * value + (x - 48)) p
+      → (p : List ℕ) → digitsFrom count value (x ∷ p) ≡ digitsFrom (count + 1) (10 * value + (x - 48)) p
   unfolding number digits
   digit-more h lo hi none-yet more p = which (eqb count 0) refl
     where
-      which : (b : Bool) → eqb count 0 ≡ b → numberFrom count value (x ∷ p) ≡ numberFrom (count + 1) (10 * value + (x - 48)) p
+      which : (b : Bool) → eqb count 0 ≡ b → digitsFrom count value (x ∷ p) ≡ digitsFrom (count + 1) (10 * value + (x - 48)) p
       which true e =
           let z = eqb-true count 0 e in
           let v = none-yet z in
@@ -137,14 +137,14 @@ module _ (count value x : ℕ) where
           let n : eqb (count + 1) 0 ≡ false = ne-eqb (count + 1) 0 (λ z. omega arith) in
           rw (e, n, q, leb·suc-suc (length p) (maxDigits - (count + 1)), le-leb 48 x lo, le-leb x 57 hi)
 
-  pub digit-zero : count ≡ 0 → x ≡ 48 → (p : List ℕ) → numberFrom count value (x ∷ p) ≡ numberFrom maxDigits 0 p
+  pub digit-zero : count ≡ 0 → x ≡ 48 → (p : List ℕ) → digitsFrom count value (x ∷ p) ≡ digitsFrom maxDigits 0 p
   unfolding number digits
   digit-zero e₁ e₂ p = rw (e₁, lone x p e₂, e₂)
 
-  pub digit-long : maxDigits ≤ count → (p : List ℕ) → numberFrom count value (x ∷ p) ≡ none
+  pub digit-long : maxDigits ≤ count → (p : List ℕ) → digitsFrom count value (x ∷ p) ≡ none
   digit-long h p = rw (ne-eqb count 0 (λ e. omega arith), lt-leb (suc (length p)) (maxDigits - count) (omega arith))
 
-  pub digit-other : isDigit x ≡ false → (p : List ℕ) → numberFrom count value (x ∷ p) ≡ none
+  pub digit-other : isDigit x ≡ false → (p : List ℕ) → digitsFrom count value (x ∷ p) ≡ none
   unfolding number digits
   digit-other h p = which (eqb count 0)
     where
@@ -152,11 +152,11 @@ module _ (count value x : ℕ) where
       which true = rw h (no-value (leb (suc (length p)) maxDigits && (not (eqb x 48) || eqb (length p) 0)))
       which false = rw h (no-value (leb (suc (length p)) (maxDigits - count)))
 
-  pub number-empty : count ≡ 0 → numberFrom count value [] ≡ none
+  pub number-empty : count ≡ 0 → digitsFrom count value [] ≡ none
   unfolding number
   number-empty e = rw e
 
-  pub number-whole : (count ≡ 0 → ⊥) → numberFrom count value [] ≡ some value
+  pub number-whole : (count ≡ 0 → ⊥) → digitsFrom count value [] ≡ some value
   unfolding digits
   number-whole h = rw (ne-eqb count 0 h, le-leb 0 (maxDigits - count) (omega arith))
 

@@ -14,7 +14,7 @@ use Rattle.tableau.specs.Basics.{lookup, sameBytes, bytes}
 use Rattle.tableau.specs.File.{LF, comma, letters, isSmall, maxDigits, number}
 use Rattle.lines.specs.declared.Reading.{Reading}
 use Rattle.lines.specs.declared.ByteStep.{ByteStep}
-use Rattle.lines.specs.Remains.{numbers, letterFrom, wordFrom, numberFrom, afterLetter, afterNumber, Sound, Reads}
+use Rattle.lines.specs.Remains.{numbers, letterFrom, wordFrom, digitsFrom, afterLetter, afterNumber, Sound, Reads}
 use Rattle.lines.proofs.Remaining.{Stands, inside, at-comma, at-end, not-here, never, too-few, too-many}
 use Rattle.lines.proofs.FieldBytes.{letter-first, letter-unknown, letter-empty, letter-whole, letter-more, word-start, word-more}
 use Rattle.lines.proofs.FieldBytes.{word-long, word-other, word-short, word-whole}
@@ -95,7 +95,7 @@ module _ (s : Reading) (x : ℕ) (h : s .left ≡ 4) where
       (word-other (s .count) (s .value) x other)
 
 -- A number.
-in-number : (s : Reading) → s .left < 4 → Stands s (numberFrom (s .count) (s .value)) (afterNumber s)
+in-number : (s : Reading) → s .left < 4 → Stands s (digitsFrom (s .count) (s .value)) (afterNumber s)
 in-number s h = record { is = λ n ps. rw (lt-ltb (s .left) 4 h) }
 
 pub value-fits : (s : Reading) → Sound s → s .count < maxDigits → s .value < 256 ^ maxDigits
@@ -127,7 +127,7 @@ module _ (s : Reading) (x : ℕ) (h : s .left < 4) where
       not-here (in-number s h) x (λ q. absurd (omega arith)) (λ q. absurd (omega arith))
       (digit-other (s .count) (s .value) x (rw (lt-leb x 57 hi) (and-false (leb 48 x))))
 
-  no-digit : x < 48 → (p : List ℕ) → numberFrom (s .count) (s .value) (x ∷ p) ≡ none
+  no-digit : x < 48 → (p : List ℕ) → digitsFrom (s .count) (s .value) (x ∷ p) ≡ none
   no-digit lo = digit-other (s .count) (s .value) x (rw (lt-leb 48 x lo))
 
   pub step-no-number : x < 48 → s .count ≡ 0 → Reads s x ByteStep.Bad
@@ -158,5 +158,5 @@ module _ (s : Reading) (x : ℕ) (h : s .left < 4) where
   pub step-number-bad : x < 48 → (s .count ≡ 0 → ⊥) → (s .left ≡ 0 → ⊥) → (x ≡ 44 → ⊥) → Reads s x ByteStep.Bad
   step-number-bad lo z l e =
       not-here (in-number s h) x
-      (λ q n. never (numberFrom (s .count) (s .value) []) _ (λ y. too-few (s .letter) (s .word) n (s .left) (s .a) (s .b) (s .c) y l))
+      (λ q n. never (digitsFrom (s .count) (s .value) []) _ (λ y. too-few (s .letter) (s .word) n (s .left) (s .a) (s .b) (s .c) y l))
       (λ q. absurd (e q)) (no-digit lo)

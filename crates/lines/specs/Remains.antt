@@ -53,8 +53,8 @@ letterFrom count l p = cond (eqb count 0) (lookup letters p) (guard (eqb (length
 abbrev pub wordFrom : ℕ → ℕ → List ℕ → Option ℕ
 wordFrom count value p = guard ((leb 2 (count + length p) && leb (length p) (3 - count)) && allSmall p) (some (value + 256 ^ count * packWord p))
 
-abbrev pub numberFrom : ℕ → ℕ → List ℕ → Option ℕ
-numberFrom count value p = cond (eqb count 0) (number p) (guard (leb (length p) (maxDigits - count)) (digits p value))
+abbrev pub digitsFrom : ℕ → ℕ → List ℕ → Option ℕ
+digitsFrom count value p = cond (eqb count 0) (number p) (guard (leb (length p) (maxDigits - count)) (digits p value))
 
 -- the numbers that are read whole, where some commas are left
 abbrev pub whole : ℕ → ℕ → ℕ → ℕ → List ℕ
@@ -72,7 +72,7 @@ afterNumber s n x = numbers (s .letter) (s .word) n (whole (s .left) (s .a) (s .
 
 abbrev pub fieldsFrom : Reading → ℕ → List (List ℕ) → LineRead
 fieldsFrom s n ps =
-    cond (ltb (s .left) 4) (field (numberFrom (s .count) (s .value)) (afterNumber s n) ps)
+    cond (ltb (s .left) 4) (field (digitsFrom (s .count) (s .value)) (afterNumber s n) ps)
     (cond (eqb (s .left) 4) (field (wordFrom (s .count) (s .value)) (λ w. numbers (s .letter) w n []) ps)
     (field (letterFrom (s .count) (s .letter)) (afterLetter n) ps))
 

@@ -22,7 +22,7 @@ use Rattle.tableau.proofs.TableGrowth.{at-zero}
 use Rattle.syntax.specs.declared.Arguments.{Arguments}
 use Rattle.syntax.specs.declared.Term.{Term}
 use Rattle.syntax.specs.Syntax.{argumentsIn, wordIn, fieldsIn, termIn}
-use Rattle.mentions.specs.Mentions.{row, words, bitAt, isMentioned, joinedBit, argumentsOf, Below, MentionRows, Noted}
+use Rattle.mentions.specs.Mentions.{row, rowsLength, bitAt, isMentioned, joinedBit, termArguments, AllBelow, MentionRows, Noted}
 use Rattle.mentions.proofs.BitLaws.{bit-zero}
 use Rattle.mentions.proofs.MentionLaws.{mentions-same, mentions-zero, mentions-variable, mentions-apply}
 
@@ -61,7 +61,7 @@ argument-below : (n : ℕ) (k : Argument) (x : ℕ) → IsArgument n k x → x <
 argument-below n unused x h = omega arith
 argument-below n (of s) x h = omega arith
 
-pub arguments-below : (table : Table) (term : Term) → ArgumentsMade table term → Below (suc (length table)) (argumentsOf (termIn term))
+pub arguments-below : (table : Table) (term : Term) → ArgumentsMade table term → AllBelow (suc (length table)) (termArguments (termIn term))
 arguments-below table (Term.Variable s m) A = (omega arith, omega arith, omega arith, omega arith)
 arguments-below table (Term.Apply o k) A =
     let n = length table in
@@ -96,7 +96,7 @@ module _ (table grown : Table) (e : specification.Term) (G : Grown table grown e
   t = suc (length table)
 
   variable-row : (s : Sort) (m : ℕ) → e ≡ variable s m
-      → (eqb t w || joinedBit rows (argumentsOf (variable s m)) (w / 64) (w % 64)) ≡ mentions (at grown) w t
+      → (eqb t w || joinedBit rows (termArguments (variable s m)) (w / 64) (w % 64)) ≡ mentions (at grown) w t
   variable-row s m q =
       (λ i. eqb t w || (zero-row i || (zero-row i || (zero-row i || zero-row i)))) ∙ or-false (eqb t w)
       ∙ sym (mentions-variable (at grown) (G .grownWellFormed) w t s m (G .last ∙ q))
@@ -110,13 +110,13 @@ module _ (table grown : Table) (e : specification.Term) (G : Grown table grown e
 
 own-row : (table grown : Table) (term : Term) → Grown table grown (termIn term) → (rows : List ℕ) → MentionRows table rows
     → ArgumentsMade table term → (w : TermNo) → 0 < w → w < 640
-    → (eqb (suc (length table)) w || joinedBit rows (argumentsOf (termIn term)) (w / 64) (w % 64)) ≡ mentions (at grown) w (suc (length table))
+    → (eqb (suc (length table)) w || joinedBit rows (termArguments (termIn term)) (w / 64) (w % 64)) ≡ mentions (at grown) w (suc (length table))
 own-row table grown (Term.Variable s m) G rows R A w l h = variable-row table grown _ G rows R w l h s (m .0) refl
 own-row table grown (Term.Apply o k) G rows R A w l h =
     operation-row table grown _ G rows R w l h o (argumentsIn k) (are-arguments table o k A) refl
 
 pub rows-grown : (table grown : Table) (term : Term) → Grown table grown (termIn term) → (rows new : List ℕ) → MentionRows table rows
-    → ArgumentsMade table term → Noted rows new (suc (length table)) (argumentsOf (termIn term)) → MentionRows grown new
+    → ArgumentsMade table term → Noted rows new (suc (length table)) (termArguments (termIn term)) → MentionRows grown new
 rows-grown table grown term G rows new R A N = record {
   size = N .size ∙ R .size;
   told = λ t w l first most. ⊎-elim
@@ -126,7 +126,7 @@ rows-grown table grown term G rows new R A N = record {
 }
 
 -- THE EMPTY TABLE, over the array's length, so that no array is computed
-pub rows-empty : (n : ℕ) → n ≡ words → MentionRows [] (replicate {A = ℕ} n 0)
+pub rows-empty : (n : ℕ) → n ≡ rowsLength → MentionRows [] (replicate {A = ℕ} n 0)
 rows-empty n q = record {
   size = length-replicate {A = ℕ} n 0 ∙ q;
   told = λ t w l first most.

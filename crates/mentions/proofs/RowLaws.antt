@@ -12,7 +12,7 @@ use lib.ListN.{length, getD, set, length-set}
 use lib.Seq.{getD-set-same, getD-set-other}
 use Rattle.tableau.specs.Basics.{Four}
 use Rattle.tableau.specs.Terms.{TermNo}
-use Rattle.mentions.specs.Mentions.{row, bitAt, rowBit, joinedBit, Below, Noted}
+use Rattle.mentions.specs.Mentions.{row, bitAt, rowBit, joinedBit, AllBelow, Noted}
 use Rattle.mentions.proofs.BitLaws.{bit-or}
 
 -- the words of the arguments' rows, joined
@@ -30,7 +30,7 @@ pub record Filled (old : List ℕ) (t : TermNo) (k : Four TermNo) (new : List �
   pub below : (j : ℕ) → j < t * row → getD new j 0 ≡ getD old j 0
   pub words : (j q : ℕ) → j < i → q < 64 → rowBit new t j q ≡ (eqb t (j * 64 + q) || joinedBit old k j q)
 
-module _ (old : List ℕ) (t : TermNo) (k : Four TermNo) (b : Below t k) (room : t * row + row ≤ length old) where
+module _ (old : List ℕ) (t : TermNo) (k : Four TermNo) (b : AllBelow t k) (room : t * row + row ≤ length old) where
   pub filled-none : Filled old t k old 0
   filled-none = record { most = omega arith; size = refl; below = λ j l. refl; words = λ j q l. absurd (omega arith) }
 

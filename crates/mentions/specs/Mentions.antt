@@ -12,8 +12,8 @@ use Rattle.tableau.specs.Terms.{TermNo, Table, Term, variable, apply, at, menti
 abbrev pub row : ℕ
 row = 10
 
-abbrev pub words : ℕ
-words = 6010
+abbrev pub rowsLength : ℕ
+rowsLength = 6010
 
 abbrev pub bitAt : ℕ → ℕ → Bool
 bitAt x q = eqb (x / 2 ^ q % 2) 1
@@ -28,16 +28,16 @@ isMentioned rows t w = rowBit rows t (w / 64) (w % 64)
 
 -- the rows of a table's terms
 pub record MentionRows (table : Table) (rows : List ℕ) : Type 0 where
-  pub size : length rows ≡ words
+  pub size : length rows ≡ rowsLength
   pub told : (t w : TermNo) → t ≤ length table → 0 < w → w < 640 → isMentioned rows t w ≡ mentions (at table) w t
 
 -- THE ARGUMENTS of a term, 0 for none; a variable's name is none
-abbrev pub argumentsOf : Term → Four TermNo
-argumentsOf (variable s n) = four 0 0 0 0
-argumentsOf (apply o k) = k
+abbrev pub termArguments : Term → Four TermNo
+termArguments (variable s n) = four 0 0 0 0
+termArguments (apply o k) = k
 
-abbrev pub Below : TermNo → Four TermNo → Type 0
-Below t k = (k .a < t) × (k .b < t) × (k .c < t) × (k .d < t)
+abbrev pub AllBelow : TermNo → Four TermNo → Type 0
+AllBelow t k = (k .a < t) × (k .b < t) × (k .c < t) × (k .d < t)
 
 -- the same bit in the row of any argument
 abbrev pub joinedBit : List ℕ → Four TermNo → ℕ → ℕ → Bool

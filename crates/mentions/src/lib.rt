@@ -9,7 +9,7 @@ ghost use lib.Dec.{eqb};
 ghost use lib.ListN.{length, getD};
 ghost use Rattle.tableau.specs.Terms.{Table, at, mentions, maxTerms};
 ghost use Rattle.syntax.specs.Syntax.{argumentsIn, termIn};
-ghost use Rattle.mentions.specs.Mentions.{row, words, bitAt, joinedBit, argumentsOf, Below, MentionRows, Noted};
+ghost use Rattle.mentions.specs.Mentions.{row, rowsLength, bitAt, joinedBit, termArguments, AllBelow, MentionRows, Noted};
 
 // The words of a row: a bit for each of the numbers up to 600.
 pub const ROW: usize = 10;
@@ -49,7 +49,7 @@ fn own_word(term: TermNumber, i: usize) -> u64
 
 // Word i of the rows of the arguments together.
 fn joined_word(rows: &[u64; WORDS], k: Arguments, i: usize) -> u64
-    requires { ⌜ Below (maxTerms + 1) (argumentsIn k) × (i < row) ⌝ }
+    requires { ⌜ AllBelow (maxTerms + 1) (argumentsIn k) × (i < row) ⌝ }
     ensures { λ r. ⌜ ((q : ℕ) → bitAt r q ≡ joinedBit (now (rows .entry)) (argumentsIn k) i q) ⌝ }
 {
     word_at(rows, k.a, i)
@@ -58,7 +58,7 @@ fn joined_word(rows: &[u64; WORDS], k: Arguments, i: usize) -> u64
 
 // Fills the row of a new term: itself, and what stands in its arguments.
 fn fill(rows: &mut [u64; WORDS], term: TermNumber, k: Arguments)
-    requires { ⌜ (term .0 ≤ maxTerms) × Below (term .0) (argumentsIn k) × (length (now rows) ≡ words) ⌝ }
+    requires { ⌜ (term .0 ≤ maxTerms) × AllBelow (term .0) (argumentsIn k) × (length (now rows) ≡ rowsLength) ⌝ }
     ensures { λ _. ⌜ Noted (now (rows .entry)) (now (rows .exit)) (term .0) (argumentsIn k) ⌝ }
 {
     let t = term.0;
@@ -72,8 +72,8 @@ fn fill(rows: &mut [u64; WORDS], term: TermNumber, k: Arguments)
 
 // Notes what stands in the new term t: itself, and what stands in its arguments. A name is no argument.
 pub fn note(rows: &mut [u64; WORDS], t: TermNumber, term: Term)
-    requires { ⌜ (t .0 ≤ maxTerms) × Below (t .0) (argumentsOf (termIn term)) × (length (now rows) ≡ words) ⌝ }
-    ensures { λ _. ⌜ Noted (now (rows .entry)) (now (rows .exit)) (t .0) (argumentsOf (termIn term)) ⌝ }
+    requires { ⌜ (t .0 ≤ maxTerms) × AllBelow (t .0) (termArguments (termIn term)) × (length (now rows) ≡ rowsLength) ⌝ }
+    ensures { λ _. ⌜ Noted (now (rows .entry)) (now (rows .exit)) (t .0) (termArguments (termIn term)) ⌝ }
 {
     match term {
         Term::Variable(_, _) => {

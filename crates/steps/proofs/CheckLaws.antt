@@ -124,8 +124,8 @@ module _ (table : Table) (few : length table ≤ maxTerms) where
   fourth-given term n z h = made-small table n few h
   fourth-given (of s) n z h = made-small table n few h
 
-  pub given : (s : Step) → WellTaken s → every (termOrName table) (ruleUses (s .rule)) (stepFields s) ≡ true → Given (s .rule) (thirdIn (s .t)) (s .w .0)
-  given s W e =
+  pub step-given : (s : Step) → WellTaken s → every (termOrName table) (ruleUses (s .rule)) (stepFields s) ≡ true → Given (s .rule) (thirdIn (s .t)) (s .w .0)
+  step-given s W e =
       let z = every-true zeroIfUnused (ruleUses (s .rule)) (stepFields s) (W .unusedZero) in
       let h = every-true (termOrName table) (ruleUses (s .rule)) (stepFields s) e in
       record {

@@ -15,7 +15,7 @@ ghost use Rattle.tableau.specs.Reply.{termOrName, ofSort};
 ghost use Rattle.syntax.specs.Syntax.{wordIn, fieldsIn, termIn, argumentsIn};
 ghost use Rattle.packing.specs.Packing.{Packable, Small, termLimit};
 ghost use Rattle.table.specs.Held.{Entries};
-ghost use Rattle.mentions.specs.Mentions.{Below};
+ghost use Rattle.mentions.specs.Mentions.{AllBelow};
 ghost use Rattle.terms.specs.Lines.{argumentIn, rowIn};
 
 // What an operator takes at a place: nothing, or a term of a sort.
@@ -97,7 +97,7 @@ fn all_made(n: usize, row: ArgumentRow, k: Arguments) -> bool
 
 fn all_have_sorts(terms: &[u64; table::NUMBERS], row: ArgumentRow, k: Arguments) -> bool
     requires { ⌜ ((table : Table) × Entries table (now terms)) ⌝ }
-    requires { ⌜ Below termLimit (argumentsIn k) ⌝ }
+    requires { ⌜ AllBelow termLimit (argumentsIn k) ⌝ }
     ensures { λ r. ⌜ ((table : Table) → Entries table (now (terms .entry))
         → r ≡ every (ofSort table) (mapFour argumentUse (rowIn row)) (argumentsIn k)) ⌝ }
 {

@@ -16,8 +16,8 @@ abbrev Answers : tie.Start → declared.ThirdField → Outcome → Type 0
 Answers s k r = Infers (s .args .rule) (s .args .p) (s .args .q) (thirdIn k) (s .args .w .0) (s .args .fresh) (now (s .args .terms)) (now (s .args .chains)) r
 
 -- what is given there
-abbrev given : (s : tie.Start) (k : declared.ThirdField) → s .args .third ≡ k → Given (s .args .rule) (thirdIn k) (s .args .w .0)
-given s k e = subst (λ (f : declared.ThirdField). Given (s .args .rule) (thirdIn f) (s .args .w .0)) e (s .pre .1 .2)
+abbrev rule-given : (s : tie.Start) (k : declared.ThirdField) → s .args .third ≡ k → Given (s .args .rule) (thirdIn k) (s .args .w .0)
+rule-given s k e = subst (λ (f : declared.ThirdField). Given (s .args .rule) (thirdIn f) (s .args .w .0)) e (s .pre .1 .2)
 
 fits : (s : tie.Start) (k : declared.ThirdField) → s .args .third ≡ k → ThirdFits (ruleFields (s .args .rule) .t) k
 fits s k e = subst (ThirdFits (ruleFields (s .args .rule) .t)) e (s .pre .1 .3)
@@ -25,7 +25,7 @@ fits s k e = subst (ThirdFits (ruleFields (s .args .rule) .t)) e (s .pre .1 .3)
 by-rule-requires : tie.Need-by-rule-requires
 by-rule-requires c κs =
     let s = c .before .before .before in
-    (s .pre .0, (s .pre .1 .0, s .pre .1 .1, given s _ (c .before .third2 .given .1), fits s _ (c .before .third2 .given .1)))
+    (s .pre .0, (s .pre .1 .0, s .pre .1 .1, rule-given s _ (c .before .third2 .given .1), fits s _ (c .before .third2 .given .1)))
 
 -- rep
 returns : tie.Need-returns
@@ -34,7 +34,7 @@ returns c =
     let s = c .before .before .before .before in
     let e = c .before .before .third .given .1 in
     subst (λ (k : declared.ThirdField). Answers s k (c .rep .result)) (sym e)
-    (infers (is-rep (s .args .rule) _ (fits s _ e)) (given s _ e) (λ table S. tt) (c .rep .ensures))
+    (infers (is-rep (s .args .rule) _ (fits s _ e)) (rule-given s _ e) (λ table S. tt) (c .rep .ensures))
 
 returns-2 : tie.Need-returns-2
 returns-2 c =

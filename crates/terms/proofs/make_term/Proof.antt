@@ -58,20 +58,20 @@ nine : (c : tie.Else3) (table : Table) → HeldBefore (start (eighth c)) table
     → every (ofSort table) (wordFields (wordIn (start (eighth c) .args .term))) (fieldsIn (start (eighth c) .args .term)) ≡ true
 nine c table H = sym (c .before .have-sorts .ensures table (H .searchable .entries)) ∙ not-false _ (c .if3 .left)
 
-abbrev given : tie.After-search → Term
-given c = start (eighth (ninth c)) .args .term
+abbrev line-term : tie.After-search → Term
+line-term c = start (eighth (ninth c)) .args .term
 
 found : (c : tie.After-search) (table : Table) → HeldBefore (start (eighth (ninth c))) table
-    → foundOf (numberOf table (termIn (given c))) ≡ c .search .result
+    → foundOf (numberOf table (termIn (line-term c))) ≡ c .search .result
 found c table H = sym (c .search .ensures table (H .searchable) _
     (record { is = c .before .before .before .pack .ensures; packable = packable (eighth (ninth c)) table H }))
 
 -- so check 10 decides
-line : (c : tie.After-search) (table : Table) → HeldBefore (start (eighth (ninth c))) table → {ten : Bool} → isNew table (termIn (given c)) ≡ ten
-    → termLine table (wordIn (given c)) (fieldsIn (given c)) ≡ termChecks true true true true ten (table ++ (termIn (given c) ∷ []))
+line : (c : tie.After-search) (table : Table) → HeldBefore (start (eighth (ninth c))) table → {ten : Bool} → isNew table (termIn (line-term c)) ≡ ten
+    → termLine table (wordIn (line-term c)) (fieldsIn (line-term c)) ≡ termChecks true true true true ten (table ++ (termIn (line-term c) ∷ []))
 line c table H ten =
     let e = eighth (ninth c) in
-    term-line table (given c) (start e .pre .1 .0) (seven (e .before .before) table H) (eight e table H .made) (nine (ninth c) table H) ten
+    term-line table (line-term c) (start e .pre .1 .0) (seven (e .before .before) table H) (eight e table H .made) (nine (ninth c) table H) ten
 
 returns : tie.Need-returns
 returns c = λ table H.
@@ -110,7 +110,7 @@ search-requires c κs = let p = start (eighth (c .before .before .before)) .pre 
 returns-4 : tie.Need-returns-4
 returns-4 c = λ table H.
     let d = c .before .before in record {
-      reply = sym (ap makingOf (line d table H (found-old (numberOf table (termIn (given d))) _ (found d table H ∙ c .enum-told .given .1))));
+      reply = sym (ap makingOf (line d table H (found-old (numberOf table (termIn (line-term d))) _ (found d table H ∙ c .enum-told .given .1))));
       after = refl;
     }
 
@@ -131,9 +131,9 @@ returns-5 c = λ table H.
     let n = ninth d in
     let e = eighth n in
     let s = start e in
-    let new = found-new (numberOf table (termIn (given d))) (found d table H ∙ c .before .before .before .before .before .enum-told2 .given .1) in record {
+    let new = found-new (numberOf table (termIn (line-term d))) (found d table H ∙ c .before .before .before .before .before .enum-told2 .given .1) in record {
       reply = sym (ap makingOf (line d table H (ap (λ (o : Option TermNo). not (isSome o)) new)));
-      after = held-grown table (given d) _ _ _ _ H
+      after = held-grown table (line-term d) _ _ _ _ H
           (record {
             room = let q : length table ≡ s .args .n = H .count in omega (arith, e .before .before);
             arguments = eight e table H;

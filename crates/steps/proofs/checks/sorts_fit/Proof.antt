@@ -4,7 +4,7 @@ use Rattle.tableau.specs.Fields.{ruleFields}
 use Rattle.syntax.specs.Syntax.{stepFields, thirdIn, ThirdFits}
 use Rattle.syntax.specs.declared.ThirdField as declared
 use Rattle.conclusions.specs.Infers.{ThirdGiven}
-use Rattle.steps.proofs.CheckLaws.{nine, given, third-small, fourth-small}
+use Rattle.steps.proofs.CheckLaws.{nine, step-given, third-small, fourth-small}
 use Rattle.conclusions.proofs.Laws.{is-rep}
 use borrow.Author.Needs.{needs}
 use Rattle.steps.proofs.checks.sorts_fit.Statement.{statement}
@@ -22,7 +22,7 @@ has-sorts-requires c κs =
     let s = c .before .before .before .before in
     let x = s .args .step .rule in
     let p = s .pre .0 in
-    let g = given (p .0) (p .1 .few) (s .args .step) (s .pre .1) (p .2) in
+    let g = step-given (p .0) (p .1 .few) (s .args .step) (s .pre .1) (p .2) in
     let e = c .before .third .given .1 in
     let t = third-small (ruleFields x .t) _ (subst (ThirdFits (ruleFields x .t)) e (s .pre .1 .third))
     (subst (λ (k : declared.ThirdField). ThirdGiven (ruleFields x .t) (thirdIn k)) e (g .third)) in

@@ -14,7 +14,7 @@ use Rattle.tableau.proofs.Bools.{every-true}
 use Rattle.syntax.specs.Syntax.{stepFields}
 use Rattle.steps.specs.Reading.{branchOf}
 use Rattle.steps.proofs.Laws.{branch-length, place-within, place-read}
-use Rattle.steps.proofs.CheckLaws.{given}
+use Rattle.steps.proofs.CheckLaws.{step-given}
 use Rattle.steps.proofs.inferring.added.Statement.{statement}
 use Rattle.steps.proofs.inferring.added.Tie as tie
 
@@ -64,7 +64,7 @@ conclude-requires c κs =
     let s = l .before .before .before .before .before .before in
     let p = s .pre .0 in
     let W = s .pre .1 .1 in
-    ((p .0, p .1 .searchable), (l .before .literal .ensures .small, l .literal2 .ensures .small, given (p .0) (p .1 .searchable .entries .few) (s .args .step) W (p .2), W .third))
+    ((p .0, p .1 .searchable), (l .before .literal .ensures .small, l .literal2 .ensures .small, step-given (p .0) (p .1 .searchable .entries .few) (s .args .step) W (p .2), W .third))
 
 returns-2 : tie.Need-returns-2
 unfolding alternatives
