@@ -1,29 +1,21 @@
--- The whole file: its length, its sections one behind the other, its reply and the build host's call.
+-- The whole file: its length, its reply and the build host's call.
 use mathlib.Core.Path.{_≡_, refl, sym, _∙_, ap}
 use mathlib.Core.Bool.{Bool, true, false}
-use mathlib.Core.List.{List, [], _++_}
+use mathlib.Core.List.{List, _++_}
 use Prim.Native.Nat.{ℕ, _+_, _<_, _≤_}
 use native.Mathlib.Omega.{arith}
 use lib.ListN.{length, getD}
 use borrow.Author.Tests.{le-leb, lt-leb, eq-eqb, ne-eqb}
-use Rattle.tableau.specs.declared.Letter.{Letter}
 use Rattle.tableau.specs.declared.Reason.{Reason}
 use Rattle.tableau.specs.Basics.{bytes}
 use Rattle.tableau.specs.Claims.{BeginsWithYes, NoHeap, Demand3}
 use Rattle.tableau.specs.File.{maxBytes}
-use Rattle.tableau.specs.Terms.{Table}
-use Rattle.tableau.specs.Tree.{passed, isOpen}
+use Rattle.tableau.specs.Tree.{passed}
 use Rattle.tableau.specs.Reply.{start, refuse, Verdict, verdict, Reply, replyOf, reply, reasonNumber, sixNumbers, replyBytes}
 use Rattle.tableau.specs.Reply.{commaNumbers, yesOrNo, replyLine, call, bufferLength}
 use Rattle.tableau.proofs.Counts.{number-in-range}
 use Rattle.tableau.proofs.Soundness.{demand3}
-use Rattle.packing.specs.Packing.{unpackLiteral}
-use Rattle.tree.specs.declared.Tree.{Tree}
-use Rattle.tree.specs.State.{IsBranch, stackOf, treeOf}
-use Rattle.steps.specs.Reading.{branchOf}
-use Rattle.steps.proofs.Laws.{branch-length}
 use Rattle.running.specs.Running.{verdictFrom}
-use Rattle.sections.specs.Sections.{stateOf, withLiterals}
 
 -- CHECK 1
 pub too-long : (file : List ℕ) → maxBytes < length file → refuse Reason.TooLong 0 ≡ verdict file
@@ -33,12 +25,6 @@ too-long file h = rw (lt-leb (length file) maxBytes h, verdict)
 pub short-enough : (file : List ℕ) → length file ≤ maxBytes → verdictFrom file 0 0 (passed start) ≡ verdict file
 unfolding verdict
 short-enough file h = rw (le-leb (length file) maxBytes h, verdict)
-
--- the tree after the A lines: their literals, and nothing that waits
-pub tree-begins : (table : Table) (l : Letter) (t : Tree) (m : ℕ) → IsBranch (t .branch) m → t .len ≡ m → stackOf unpackLiteral (t .waiting) (t .count) ≡ []
-    → stateOf table (isOpen (treeOf unpackLiteral t)) l m 0 0 ≡ withLiterals table (branchOf (t .branch) m) l
-tree-begins table l t m W e w =
-    λ i. stateOf table (isOpen (record { branch = branchOf (t .branch) (e i); waiting = w i })) l (sym (branch-length (t .branch) m W) i) 0 0
 
 -- THE REPLY
 pub replied : (file : List ℕ) (v : Verdict) {r : Reply} → v ≡ verdict file → r ≡ replyOf v → r ≡ reply file

@@ -3,7 +3,7 @@ use packing::LiteralView;
 use packing::literals::left;
 use packing::literals::relation;
 use packing::literals::right;
-use packing::terms::congruent;
+use packing::term_codes::congruent;
 use rules::outcome;
 use rules::outcome::Outcome;
 use rules::outcome::literal;

@@ -1,6 +1,6 @@
 -- When a term or a branch mentions w.
 use mathlib.Core.Path.{_≡_, refl, sym, _∙_, ap}
-use mathlib.Core.Bool.{Bool, true, false, _||_, or-false, or-true, or-assoc}
+use mathlib.Core.Bool.{true, false, _||_, or-false, or-assoc}
 use mathlib.Core.List.{List, [], _∷_, map}
 use Prim.Native.Nat.{ℕ, zero, suc, _<_, _≤_}
 use native.Mathlib.Omega.{arith}
@@ -8,13 +8,27 @@ use lib.ListN.{length, take, getD}
 use borrow.Author.Tests.{ne-eqb}
 use Rattle.tableau.specs.Fields.{arguments}
 use Rattle.tableau.specs.Terms.{TermNo, Table, Term, Literal, literal, at, layer, toDepth, fold, mentions, mentionedIn, mentioned}
-use Rattle.tableau.proofs.TableGrowth.{at-beyond}
+use Rattle.tableau.specs.Steps.{isRfv}
+use Rattle.tableau.proofs.Bools.{clash}
+use Rattle.tableau.proofs.TableGrowth.{at-zero, at-beyond}
 use Rattle.packing.specs.Packing.{leftIn, rightIn}
+use Rattle.mentions.proofs.MentionLaws.{mentions-zero}
+use Rattle.freshness.specs.Prefixes.{SideRow}
 
 -- a number that no term has stands for no term with w in it
-pub not-beyond : (table : Table) (w t : TermNo) → w ≤ length table → length table < t → mentions (at table) w t ≡ false
+not-beyond : (table : Table) (w t : TermNo) → w ≤ length table → length table < t → mentions (at table) w t ≡ false
 unfolding mentions fold toDepth layer arguments
 not-beyond table w t h k = rw (at-beyond table t k, ne-eqb t w (λ e. omega arith))
+
+-- the row of a literal's side: that of 0 for a number past the table
+pub side-beyond : (n t : ℕ) → n < t → SideRow n t 0
+side-beyond n t h = record {
+  made = omega arith;
+  same = λ table w e first l. mentions-zero (at table) (at-zero table) w first ∙ sym (not-beyond table w t (omega arith) (omega arith));
+}
+
+pub side-own : (n t : ℕ) → t ≤ n → SideRow n t t
+side-own n t h = record { made = h; same = λ table w e first l. refl }
 
 -- a literal mentions what its sides do
 pub in-sides : (table : TermNo → Term) (w : TermNo) (l : Literal)
@@ -30,19 +44,7 @@ mentioned-one-more f table w (x ∷ b) zero h = or-false (mentionedIn table w (f
 mentioned-one-more f table w (x ∷ b) (suc i) h =
     ap (λ r. mentionedIn table w (f x) || r) (mentioned-one-more f table w b i (omega arith)) ∙ sym (or-assoc (mentionedIn table w (f x)) _ _)
 
--- what a part of the branch mentions, the branch does
-pub mentioned-part : (f : ℕ → Literal) (table : TermNo → Term) (w : TermNo) (b : List ℕ) (i n : ℕ) → i < n → i < length b
-    → mentionedIn table w (f (getD b i 0)) ≡ true → mentioned table w (map f (take n b)) ≡ true
-unfolding mentioned
-mentioned-part f table w [] i n h k e = absurd (omega arith)
-mentioned-part f table w (x ∷ b) i zero h k e = absurd (omega arith)
-mentioned-part f table w (x ∷ b) zero (suc n) h k e = rw e
-mentioned-part f table w (x ∷ b) (suc i) (suc n) h k e =
-    ap (λ r. mentionedIn table w (f x) || r) (mentioned-part f table w b i n (omega arith) (omega arith) e) ∙ or-true (mentionedIn table w (f x))
-
--- a test of two parts, the second asked only if the first fails
-pub by-first : (a b : Bool) {r : Bool} → r ≡ true → r ≡ a → r ≡ (a || b)
-by-first a b {r} k e = k ∙ ap (λ x. x || b) (sym k ∙ e)
-
-pub by-second : (a b : Bool) {r s : Bool} → r ≡ false → r ≡ a → s ≡ b → s ≡ (a || b)
-by-second a b {r} {s} k e h = h ∙ ap (λ x. x || b) (sym k ∙ e)
+-- no term has the number 0
+pub rfv-first : (table : Table) (w : TermNo) → isRfv (at table w) ≡ true → 0 < w
+rfv-first table zero e = clash e (ap isRfv (at-zero table))
+rfv-first table (suc w) e = omega arith

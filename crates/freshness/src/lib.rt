@@ -1,4 +1,7 @@
-// The freshness test: does a literal on the branch mention w?
+// The freshness test: does a literal on the branch mention w? Row i of an array that the caller lends, ROW words from i * ROW on, has a
+// bit for each term, set where one of the first i literals mentions it, so that a test reads one bit. Rows are filled when they are
+// asked for; the caller keeps the number of those that still hold.
+use mentions::ROW;
 use packing::TermView;
 use packing::literals::packed_left;
 use packing::literals::packed_right;
@@ -6,83 +9,97 @@ use tableau::Sort;
 use tableau::TermNumber;
 use tree::Tree;
 ghost use mathlib.Core.Path.{_≡_};
-ghost use mathlib.Core.List.{map};
-ghost use Prim.Native.Nat.{_<_, _≤_};
+ghost use mathlib.Core.List.{List, map};
+ghost use Prim.Native.Nat.{ℕ, _+_, _<_, _≤_};
 ghost use lib.ListN.{length, take};
-ghost use Rattle.tableau.specs.Terms.{Table, at, mentionedIn, mentioned, maxTerms};
-ghost use Rattle.tableau.specs.Terms as specification;
+ghost use Rattle.tableau.specs.Terms.{Table, maxTerms};
 ghost use Rattle.tableau.specs.Tree.{maxPlaces};
 ghost use Rattle.tableau.specs.Steps.{isFresh};
 ghost use Rattle.packing.specs.Packing.{unpackLiteral};
 ghost use Rattle.table.specs.Held.{Entries};
-ghost use Rattle.mentions.specs.Mentions.{MentionRows};
+ghost use Rattle.mentions.specs.Mentions.{row, MentionRows, Filled};
+ghost use Rattle.freshness.specs.Prefixes.{prefixLength, PrefixRows, SideRow, nextBits};
 
-// Does w stand in the term? A number that no term has stands for no term with w in it.
-fn in_term(rows: &[u64; mentions::WORDS], n: usize, term: TermNumber, w: TermNumber) -> bool
-    requires { ⌜ (0 < w .0) × (w .0 ≤ n) × (n ≤ maxTerms) ⌝ }
-    ensures { λ r. ⌜ ((table : Table) → MentionRows table (now (rows .entry)) → length table ≡ n
-        → r ≡ specification.mentions (at table) (w .0) (term .0)) ⌝ }
+// A row for each length of the branch, 0 to 1000; no literals mention no term.
+pub const PREFIX_WORDS: usize = 10010;
+
+// The number whose row says what a literal's side mentions: 0, which mentions nothing, for a number that no term has.
+fn side_row(n: usize, side: TermNumber) -> usize
+    ensures { λ r. ⌜ SideRow n (side .0) r ⌝ }
 {
-    if n < term.0 {
-        return false;
+    let t = side.0;
+    if n < t {
+        return 0;
     }
-    mentions::mentions(rows, term, w)
+    t
 }
 
-// Does the packed literal mention w?
-fn in_literal(rows: &[u64; mentions::WORDS], n: usize, literal: u32, w: TermNumber) -> bool
-    requires { ⌜ (0 < w .0) × (w .0 ≤ n) × (n ≤ maxTerms) ⌝ }
-    ensures { λ r. ⌜ ((table : Table) → MentionRows table (now (rows .entry)) → length table ≡ n
-        → r ≡ mentionedIn (at table) (w .0) (unpackLiteral literal)) ⌝ }
+// Fills the row behind row i: what row i has, and what the two sides mention.
+fn fill(
+    prefix: &mut [u64; PREFIX_WORDS],
+    rows: &[u64; mentions::WORDS],
+    i: usize,
+    left: usize,
+    right: usize,
+)
+    requires { ⌜ (i < maxPlaces) × (left ≤ maxTerms) × (right ≤ maxTerms) ⌝ }
+    ensures { λ _. ⌜ (length (now (prefix .entry)) ≡ prefixLength
+        → Filled (now (prefix .entry)) (now (prefix .exit)) (i + 1) (nextBits (now (prefix .entry)) (now (rows .entry)) i left right) row) ⌝ }
 {
-    let left = packed_left(literal);
-    let right = packed_right(literal);
-    in_term(rows, n, left, w) || in_term(rows, n, right, w)
+    let mut k = 0;
+    while k < ROW {
+        let word = prefix[i * ROW + k] | (rows[left * ROW + k] | rows[right * ROW + k]);
+        prefix[(i + 1) * ROW + k] = word;
+        k += 1;
+    }
 }
 
-// Does a literal among the first len mention w?
-fn on_branch(
+// Fills the rows of the lengths past `noted`, up to len.
+pub fn note(
+    prefix: &mut [u64; PREFIX_WORDS],
     rows: &[u64; mentions::WORDS],
     n: usize,
     branch: &[u32; Tree::PLACES],
+    noted: usize,
     len: usize,
-    w: TermNumber,
-) -> bool
-    requires { ⌜ (0 < w .0) × (w .0 ≤ n) × (n ≤ maxTerms) ⌝ }
-    requires { ⌜ (len ≤ maxPlaces) × (length (now branch) ≡ maxPlaces) ⌝ }
-    ensures { λ r. ⌜ ((table : Table) → MentionRows table (now (rows .entry)) → length table ≡ n
-        → r ≡ mentioned (at table) (w .0) (map unpackLiteral (take len (now (branch .entry))))) ⌝ }
+)
+    requires { ⌜ n ≤ maxTerms ⌝ }
+    requires { ⌜ (noted ≤ len) × (len ≤ maxPlaces) × (length (now branch) ≡ maxPlaces) ⌝ }
+    ensures { λ _. ⌜ ((table : Table) → MentionRows table (now (rows .entry)) → length table ≡ n
+        → PrefixRows table (now (branch .entry)) (now (prefix .entry)) noted → PrefixRows table (now (branch .entry)) (now (prefix .exit)) len) ⌝ }
 {
-    let mut i = 0;
+    let mut i = noted;
     while i < len {
-        if in_literal(rows, n, branch[i], w) {
-            return true;
-        }
+        let literal = branch[i];
+        let left = side_row(n, packed_left(literal));
+        let right = side_row(n, packed_right(literal));
+        fill(prefix, rows, i, left, right);
         i += 1;
     }
-    false
 }
 
-// Is the term w fresh: an `rfv` that no literal on the branch mentions?
+// Is the term w fresh: an `rfv` that none of the first len literals mentions? A number that no term has is not.
 pub fn is_fresh(
     terms: &[u64; table::NUMBERS],
-    rows: &[u64; mentions::WORDS],
+    prefix: &[u64; PREFIX_WORDS],
     n: usize,
-    branch: &[u32; Tree::PLACES],
     len: usize,
     w: TermNumber,
 ) -> bool
     requires { ⌜ ((table : Table) × Entries table (now terms)) ⌝ }
-    requires { ⌜ (0 < w .0) × (w .0 ≤ n) × (n ≤ maxTerms) ⌝ }
-    requires { ⌜ (len ≤ maxPlaces) × (length (now branch) ≡ maxPlaces) ⌝ }
-    ensures { λ r. ⌜ ((table : Table) → Entries table (now (terms .entry)) → MentionRows table (now (rows .entry)) → length table ≡ n
-        → r ≡ isFresh table (map unpackLiteral (take len (now (branch .entry)))) (w .0)) ⌝ }
+    requires { ⌜ (n ≤ maxTerms) × (len ≤ maxPlaces) ⌝ }
+    ensures { λ r. ⌜ ((table : Table) (codes : List ℕ) → Entries table (now (terms .entry)) → length table ≡ n
+        → PrefixRows table codes (now (prefix .entry)) len → r ≡ isFresh table (map unpackLiteral (take len codes)) (w .0)) ⌝ }
 {
+    let v = w.0;
+    if n < v {
+        return false;
+    }
     let TermView::Variable(sort, _) = table::view(terms, w) else {
         return false;
     };
     let Sort::Reference = sort else {
         return false;
     };
-    !on_branch(rows, n, branch, len, w)
+    (prefix[len * ROW + v / 64] >> (v % 64)) % 2 != 1
 }

@@ -1,1 +1,2 @@
 pub mod Growth
+pub mod Progress

@@ -1,3 +1,3 @@
 pub mod Remaining
 pub mod FieldBytes
-pub mod Steps
+pub mod LineShape

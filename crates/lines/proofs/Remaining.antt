@@ -1,34 +1,30 @@
--- Laws of what remains of a line: a byte inside a field, a comma, the LF; and that nothing read is the whole line.
-use mathlib.Core.Bool.{Bool, true, false}
+-- Laws of a text that is cut at a byte: a piece, a field and a line, by its first byte; and a line, by its first field.
+use mathlib.Core.Bool.{Bool, true, false, cond}
+use mathlib.Core.Logic.{_⊎_, ⊎-elim}
 use mathlib.Core.List.{List, [], _∷_, _++_}
 use mathlib.Core.Option.{Option, none, some}
-use mathlib.Core.Path.{_≡_, refl, sym, ap, _∙_}
+use mathlib.Core.Path.{_≡_, refl, sym, _∙_}
 use Prim.Native.Nat.{ℕ, zero, suc, _+_, _≤_, _<_}
 use native.Mathlib.Numerals.{add-one}
 use native.Mathlib.Omega.{arith}
-use lib.Dec.{eqb}
+use lib.Dec.{eqb, ltb, lit<}
 use lib.ListN.{length, drop, getD, drop-of-length-le}
 use lib.Seq.{drop-cons}
-use borrow.Author.Tests.{eq-eqb, ne-eqb, eqb-true, eqb-false}
-use Rattle.tableau.specs.declared.Letter.{Letter}
-use Rattle.tableau.specs.Basics.{then, guard, lookup}
-use Rattle.tableau.specs.File.{LF, comma, onFirst, split, letters, isWord, number, Line, sixFields, shape}
+use borrow.Author.Tests.{eq-eqb, ne-eqb, eqb-true, eqb-false, ltb-true, ltb-false}
+use Rattle.tableau.specs.File.{LF, comma, onFirst, split}
 use Rattle.lines.specs.declared.LineRead.{LineRead}
-use Rattle.lines.specs.declared.Reading.{Reading}
-use Rattle.lines.specs.declared.ByteStep.{ByteStep}
-use Rattle.lines.specs.Lines.{packWord, lineRead, firstLine, lineAt}
-use Rattle.lines.specs.Remains.{thenRead, field, fourNumbers, numbers, packedWord, whole, afterLetter, fieldsFrom, lineFrom}
-use Rattle.lines.specs.Remains.{afterStep, Sound, Reads, Begins}
+use Rattle.lines.specs.Lines.{firstPiece}
+use Rattle.lines.specs.Fields.{thenRead, pieceAt, fieldAt}
 
 -- A text cut at c, by its first byte.
-pub split-same : (c x : ℕ) (l : List ℕ) → x ≡ c → split c (x ∷ l) ≡ [] ∷ split c l
+split-same : (c x : ℕ) (l : List ℕ) → x ≡ c → split c (x ∷ l) ≡ [] ∷ split c l
 unfolding split
 split-same c x l e = cut (eqb x c) (eq-eqb x c e)
   where
     cut : (b : Bool) → b ≡ true → elim b [ true ↦ [] ∷ split c l | false ↦ onFirst x (split c l) ] ≡ [] ∷ split c l
     cut b e = rw e
 
-pub split-other : (c x : ℕ) (l : List ℕ) → (x ≡ c → ⊥) → split c (x ∷ l) ≡ onFirst x (split c l)
+split-other : (c x : ℕ) (l : List ℕ) → (x ≡ c → ⊥) → split c (x ∷ l) ≡ onFirst x (split c l)
 unfolding split
 split-other c x l h = cut (eqb x c) (ne-eqb x c h)
   where
@@ -46,154 +42,154 @@ pieces c (x ∷ l) = cut (eqb x c) (split c l) (pieces c l)
     cut true ls h = ([], ls, refl)
     cut false ls h = (x ∷ h .0, h .1, rw (h .2))
 
--- A byte of the file, by what it does to the line that is being read.
-module _ (s : Reading) (x : ℕ) where
-  goes-on : (s′ : Reading) → (x ≡ LF → ⊥) → ((n : ℕ) (l : List ℕ) → lineFrom s n (x ∷ l) ≡ lineFrom s′ n l) → Sound s′ → Reads s x (ByteStep.More s′)
-  goes-on s′ h e k = record { remains = λ at rest. rw (split-other LF x rest h) (cut at (split LF rest)); sound = k }
+-- A piece that begins at i: there is no byte, its end is there, or it goes on.
+module _ {R : Type 0} (bad : R) (end : ℕ) (file : List ℕ) (i : ℕ) where
+  pub no-byte : (read : ℕ → List ℕ → R) → length file ≤ i → pieceAt bad read end file i ≡ bad
+  unfolding pieceAt split
+  no-byte read h = rw (drop-of-length-le file h)
+
+  mapped : {S : Type 0} (h : R → S) (read : ℕ → List ℕ → R) (read′ : ℕ → List ℕ → S) → ((n : ℕ) (p : List ℕ) → h (read n p) ≡ read′ n p)
+      → h (pieceAt bad read end file i) ≡ pieceAt (h bad) read′ end file i
+  unfolding pieceAt
+  mapped h read read′ e = go (split end (drop i file))
     where
-      cut : (at : ℕ) (ls : List (List ℕ)) → firstLine (lineFrom s) at (onFirst x ls) ≡ firstLine (lineFrom s′) (at + 1) ls
-      cut at [] = refl
-      cut at (l ∷ []) = refl
-      cut at (l ∷ m ∷ ls) = let q : at + suc (length l) + 1 ≡ at + 1 + length l + 1 = omega arith in rw q (e (at + 1 + length l + 1) l)
+      go : (ps : List (List ℕ)) → h (firstPiece bad read i ps) ≡ firstPiece (h bad) read′ i ps
+      go [] = refl
+      go (p ∷ []) = refl
+      go (p ∷ q ∷ ps) = e _ p
 
-  ends : (r : LineRead) → x ≡ LF → (at : ℕ) (rest : List ℕ) → lineFrom s (at + 1) [] ≡ r → firstLine (lineFrom s) at (split LF (x ∷ rest)) ≡ r
-  ends r e at rest h =
-      let q : at + 0 + 1 ≡ at + 1 = omega arith in
-      let k = pieces LF rest in
-      rw (split-same LF x rest e, k .2, q) h
+  pub never : (read : ℕ → List ℕ → R) → ((n : ℕ) (p : List ℕ) → read n p ≡ bad) → pieceAt bad read end file i ≡ bad
+  never read h = sym (mapped (λ r. bad) read read (λ n p. sym (h n p)))
 
-  bad : (x ≡ LF → (n : ℕ) → lineFrom s n [] ≡ LineRead.BadShape)
-      → ((x ≡ LF → ⊥) → (n : ℕ) (l : List ℕ) → lineFrom s n (x ∷ l) ≡ LineRead.BadShape)
-      → Reads s x ByteStep.Bad
-  bad here there = record { remains = λ at rest. which at rest (eqb x LF) refl; sound = tt }
-    where
-      cut : (h : x ≡ LF → ⊥) (at : ℕ) (ls : List (List ℕ)) → firstLine (lineFrom s) at (onFirst x ls) ≡ LineRead.BadShape
-      cut h at [] = refl
-      cut h at (l ∷ []) = refl
-      cut h at (l ∷ m ∷ ls) = there h _ l
+  module _ (h : i < length file) where
+    here : drop i file ≡ getD file i 0 ∷ drop (i + 1) file
+    here = rw add-one (drop-cons file i 0 h)
 
-      which : (at : ℕ) (rest : List ℕ) (b : Bool) → eqb x LF ≡ b → firstLine (lineFrom s) at (split LF (x ∷ rest)) ≡ LineRead.BadShape
-      which at rest true e = ends LineRead.BadShape (eqb-true x LF e) at rest (here (eqb-true x LF e) (at + 1))
-      which at rest false e = rw (split-other LF x rest (eqb-false x LF e)) (cut (eqb-false x LF e) at (split LF rest))
+    pub ends : (read : ℕ → List ℕ → R) → getD file i 0 ≡ end → pieceAt bad read end file i ≡ read (i + 1) []
+    unfolding pieceAt
+    ends read e =
+        let k = pieces end (drop (i + 1) file) in
+        let q : i + 0 + 1 ≡ i + 1 = omega arith in
+        rw (here, split-same end (getD file i 0) (drop (i + 1) file) e, k .2, q)
 
--- The field that is being read, f by its other bytes, and what follows it, k.
-pub record Stands {A : Type 0} (s : Reading) (f : List ℕ → Option A) (k : ℕ → A → List (List ℕ) → LineRead) : Type 0 where
-  pub is : (n : ℕ) (ps : List (List ℕ)) → fieldsFrom s n ps ≡ field f (k n) ps
+    pub goes-on : (read read′ : ℕ → List ℕ → R) → (getD file i 0 ≡ end → ⊥) → ((n : ℕ) (p : List ℕ) → read n (getD file i 0 ∷ p) ≡ read′ n p)
+        → pieceAt bad read end file i ≡ pieceAt bad read′ end file (i + 1)
+    unfolding pieceAt
+    goes-on read read′ g e = rw (here, split-other end (getD file i 0) (drop (i + 1) file) g) (cut (split end (drop (i + 1) file)))
+      where
+        cut : (ps : List (List ℕ)) → firstPiece bad read i (onFirst (getD file i 0) ps) ≡ firstPiece bad read′ (i + 1) ps
+        cut [] = refl
+        cut (p ∷ []) = refl
+        cut (p ∷ q ∷ ps) = let w : i + suc (length p) + 1 ≡ i + 1 + length p + 1 = omega arith in rw w (e (i + 1 + length p + 1) p)
 
-module _ {A : Type 0} {s : Reading} {f : List ℕ → Option A} {k : ℕ → A → List (List ℕ) → LineRead} (field′ : Stands s f k) (x : ℕ) where
-  -- the field goes on with x
-  pub inside : {s′ : Reading} {f′ : List ℕ → Option A} → Stands s′ f′ k → (x ≡ LF → ⊥) → (x ≡ comma → ⊥) → ((p : List ℕ) → f (x ∷ p) ≡ f′ p)
-      → Sound s′ → Reads s x (ByteStep.More s′)
-  unfolding lineFrom
-  inside {s′} q h₁ h₂ e = goes-on s x s′ h₁ (λ n l. let w = pieces comma l in rw (split-other comma x l h₂, field′ .is, q .is, w .2, e))
+-- The same of a field.
+module _ {A R : Type 0} (bad : R) (read : A → ℕ → R) (f : List ℕ → Option A) (end : ℕ) (file : List ℕ) (i : ℕ) where
+  pub field-none : length file ≤ i → bad ≡ fieldAt bad read f end file i
+  unfolding fieldAt
+  field-none h = sym (no-byte bad end file i _ h)
 
-  -- x is the comma after the field, and the next field begins
-  pub at-comma : (s′ : Reading) (y : A) → x ≡ comma → f [] ≡ some y
-      → ((n : ℕ) (p : List ℕ) (ps : List (List ℕ)) → k n y (p ∷ ps) ≡ fieldsFrom s′ n (p ∷ ps)) → Sound s′ → Reads s x (ByteStep.More s′)
-  unfolding lineFrom
-  at-comma s′ y e h q =
-      goes-on s x s′ (λ z. omega (arith, e, z))
-      (λ n l. let w = pieces comma l in rw (split-same comma x l e, field′ .is, h, w .2) (q n (w .0) (w .1)))
+  module _ (h : i < length file) (x : ℕ) (is : getD file i 0 ≡ x) where
+    pub field-ends : (y : A) → x ≡ end → f [] ≡ some y → read y (i + 1) ≡ fieldAt bad read f end file i
+    unfolding fieldAt
+    field-ends y e q = sym (ends bad end file i h _ (is ∙ e) ∙ rw q)
 
-  ended : (n : ℕ) → lineFrom s n [] ≡ thenRead (f []) (λ y. k n y [])
-  unfolding lineFrom split
-  ended n = field′ .is n ([] ∷ [])
+    pub field-goes-on : (g : List ℕ → Option A) → (x ≡ end → ⊥) → ((p : List ℕ) → f (x ∷ p) ≡ g p)
+        → fieldAt bad read g end file (i + 1) ≡ fieldAt bad read f end file i
+    unfolding fieldAt
+    field-goes-on g e q = sym (goes-on bad end file i h _ _ (rw is e) (λ n p. rw (is, q p)))
 
-  -- x is the LF after the last field
-  pub at-end : x ≡ LF → ((n : ℕ) → thenRead (f []) (λ y. k n y []) ≡ fourNumbers (s .letter) (s .word) n (s .a ∷ s .b ∷ s .c ∷ s .value ∷ []))
-      → Reads s x ByteStep.End
-  at-end e h = record { remains = λ at rest. ends s x _ e at rest (ended (at + 1) ∙ h (at + 1)); sound = tt }
+    pub field-stops : (x ≡ end → f [] ≡ none) → ((p : List ℕ) → f (x ∷ p) ≡ none) → bad ≡ fieldAt bad read f end file i
+    unfolding fieldAt
+    field-stops short other = which (eqb x end) refl
+      where
+        which : (b : Bool) → eqb x end ≡ b → bad ≡ fieldAt bad read f end file i
+        which true e = let e′ = eqb-true x end e in sym (ends bad end file i h _ (is ∙ e′) ∙ rw (short e′))
+        which false e =
+            sym (goes-on bad end file i h _ (λ n p. bad) (rw is (eqb-false x end e)) (λ n p. rw (is, other p)) ∙ never bad end file (i + 1) _ (λ n p. refl))
 
-  -- no line goes on with x
-  pub not-here : (x ≡ LF → (n : ℕ) → thenRead (f []) (λ y. k n y []) ≡ LineRead.BadShape)
-      → (x ≡ comma → (n : ℕ) (p : List ℕ) (ps : List (List ℕ)) → thenRead (f []) (λ y. k n y (p ∷ ps)) ≡ LineRead.BadShape)
-      → ((p : List ℕ) → f (x ∷ p) ≡ none) → Reads s x ByteStep.Bad
-  unfolding lineFrom
-  not-here here next′ there = bad s x (λ e n. ended n ∙ here e n) (λ h n l. which n l (eqb x comma) refl)
-    where
-      which : (n : ℕ) (l : List ℕ) (b : Bool) → eqb x comma ≡ b → lineFrom s n (x ∷ l) ≡ LineRead.BadShape
-      which n l true e =
-          let w = pieces comma l in
-          let c = eqb-true x comma e in
-          rw (split-same comma x l c, field′ .is, w .2) (next′ c n (w .0) (w .1))
-      which n l false e =
-          let w = pieces comma l in
-          let c = eqb-false x comma e in
-          rw (split-other comma x l c, field′ .is, w .2, there (w .0))
-
--- A value that is missing, and one that leads nowhere.
-pub never : {A : Type 0} (m : Option A) (k : A → LineRead) → ((y : A) → k y ≡ LineRead.BadShape) → thenRead m k ≡ LineRead.BadShape
-never none k h = refl
-never (some y) k h = h y
-
--- more than four numbers
-pub too-many : (l : Letter) (w n a b c d e : ℕ) (ns : List ℕ) (ps : List (List ℕ)) → numbers l w n (a ∷ b ∷ c ∷ d ∷ e ∷ ns) ps ≡ LineRead.BadShape
-unfolding numbers
-too-many l w n a b c d e ns [] = refl
-too-many l w n a b c d e ns (p ∷ ps) = never (number p) _ (λ x. too-many l w n a b c d e (ns ++ (x ∷ [])) ps)
-
--- a comma is still due
-pub too-few : (l : Letter) (w n k a b c y : ℕ) → (k ≡ 0 → ⊥) → numbers l w n (whole k a b c ++ (y ∷ [])) [] ≡ LineRead.BadShape
-unfolding numbers
-too-few l w n zero a b c y h = absurd (h refl)
-too-few l w n (suc zero) a b c y h = refl
-too-few l w n (suc (suc zero)) a b c y h = refl
-too-few l w n (suc (suc (suc k))) a b c y h = refl
-
--- A line's shape, read field by field.
-read-then : {A : Type 0} (n : ℕ) (m : Option A) (k : A → Option Line) (j : A → LineRead) → ((x : A) → lineRead n (k x) ≡ j x)
-    → lineRead n (then m k) ≡ thenRead m j
-read-then n none k j h = refl
-read-then n (some x) k j h = h x
-
-read-word : (n : ℕ) (p : List ℕ) (m : Option Line) (j : ℕ → LineRead) → lineRead n m ≡ j (packWord p)
-    → lineRead n (guard (isWord p) m) ≡ thenRead (packedWord p) j
-read-word n p m j h = go (isWord p)
+-- A field that goes on in another way.
+pub carried : {A R S : Type 0} (bad : R) (read : A → ℕ → R) (h : R → S) (j : A → ℕ → S) (f : List ℕ → Option A) (end : ℕ) (file : List ℕ) (i : ℕ)
+    → ((y : A) (n : ℕ) → h (read y n) ≡ j y n) → h (fieldAt bad read f end file i) ≡ fieldAt (h bad) j f end file i
+unfolding fieldAt
+carried {A = A} bad read h j f end file i e = mapped bad end file i h _ _ (λ n p. value n (f p))
   where
-    go : (b : Bool) → lineRead n (guard b m) ≡ thenRead (guard b (some (packWord p))) j
-    go true = h
-    go false = refl
+    value : (n : ℕ) (m : Option A) → h (thenRead bad m (λ y. read y n)) ≡ thenRead (h bad) m (λ y. j y n)
+    value n none = refl
+    value n (some y) = e y n
 
-pub whole-line : (n : ℕ) (ps : List (List ℕ)) → field (lookup letters) (afterLetter n) ps ≡ lineRead n (sixFields ps)
-unfolding sixFields numbers
-whole-line n [] = refl
-whole-line n (k ∷ []) = never (lookup letters k) _ (λ l. refl)
-whole-line n (k ∷ w ∷ []) = never (lookup letters k) _ (λ l. never (packedWord w) _ (λ v. refl))
-whole-line n (k ∷ w ∷ a ∷ []) = never (lookup letters k) _ (λ l. never (packedWord w) _ (λ v. never (number a) _ (λ a′. refl)))
-whole-line n (k ∷ w ∷ a ∷ b ∷ []) =
-    never (lookup letters k) _ (λ l. never (packedWord w) _ (λ v. never (number a) _ (λ a′. never (number b) _ (λ b′. refl))))
-whole-line n (k ∷ w ∷ a ∷ b ∷ c ∷ []) =
-    never (lookup letters k) _
-    (λ l. never (packedWord w) _ (λ v. never (number a) _ (λ a′. never (number b) _ (λ b′. never (number c) _ (λ c′. refl)))))
-whole-line n (k ∷ w ∷ a ∷ b ∷ c ∷ d ∷ []) =
-    sym
-    (read-then n (lookup letters k) _ _
-    (λ l. read-word n w _ _
-    (read-then n (number a) _ _
-    (λ a′. read-then n (number b) _ _ (λ b′. read-then n (number c) _ _ (λ c′. read-then n (number d) _ _ (λ d′. refl)))))))
-whole-line n (k ∷ w ∷ a ∷ b ∷ c ∷ d ∷ e ∷ ps) =
-    never (lookup letters k) _
-    (λ l. never (packedWord w) _
-    (λ v. never (number a) _
-    (λ a′. never (number b) _
-    (λ b′. never (number c) _ (λ c′. never (number d) _ (λ d′. never (number e) _ (λ e′. too-many l v n a′ b′ c′ d′ e′ [] ps)))))))
+-- A field of a line, and what follows it.
+abbrev pub field : {A : Type 0} → (List ℕ → Option A) → (A → List (List ℕ) → LineRead) → List (List ℕ) → LineRead
+field f k [] = LineRead.BadShape
+field f k (p ∷ ps) = thenRead LineRead.BadShape (f p) (λ x. k x ps)
 
--- The loop over the file's bytes: its start, one turn, and its end.
-pub at-start : (file : List ℕ) (at : ℕ) (s : Reading) → Begins s → firstLine (lineFrom s) at (split LF (drop at file)) ≡ lineAt file at
-unfolding lineAt
-at-start file at s begun = go (split LF (drop at file))
-  where
-    go : (ls : List (List ℕ)) → firstLine (lineFrom s) at ls ≡ firstLine (λ n l. lineRead n (shape l)) at ls
-    go [] = refl
-    go (l ∷ []) = refl
-    go (l ∷ m ∷ ls) = begun .remains (at + length l + 1) l
+-- what a line comes to from a position on, by its fields and the position after it
+abbrev pub fieldsAt : (ℕ → List (List ℕ) → LineRead) → List ℕ → ℕ → LineRead
+fieldsAt k file at = pieceAt LineRead.BadShape (λ n l. k n (split comma l)) LF file at
 
-pub turn : (file : List ℕ) (i : ℕ) (s : Reading) (r r′ : ByteStep) → i < length file → Reads s (getD file i 0) r → r ≡ r′
-    → afterStep s r′ (i + 1) (split LF (drop (i + 1) file)) ≡ firstLine (lineFrom s) i (split LF (drop i file))
-turn file i s r r′ h reads e =
-    let q : drop (i + 1) file ≡ drop (suc i) file = ap (λ (n : ℕ). drop n file) (add-one i) in
-    rw (← e, q, drop-cons file i 0 h) (sym (reads .remains i (drop (suc i) file)))
+-- the bytes that end fields are no part of one
+abbrev pub Plain : {A : Type 0} → (List ℕ → Option A) → Type 0
+Plain f = (p : List ℕ) (x : ℕ) (q : List ℕ) → x < 48 → f (p ++ (x ∷ q)) ≡ none
 
-pub no-line : (file : List ℕ) (i : ℕ) (s : Reading) → length file ≤ i → firstLine (lineFrom s) i (split LF (drop i file)) ≡ LineRead.BadShape
-unfolding split
-no-line file i s h = rw (drop-of-length-le file h)
+-- a value that leads nowhere
+pub nowhere : {A : Type 0} (m : Option A) (k : A → LineRead) → ((y : A) → k y ≡ LineRead.BadShape) → thenRead LineRead.BadShape m k ≡ LineRead.BadShape
+nowhere none k h = refl
+nowhere (some y) k h = h y
+
+module _ {A : Type 0} (x : ℕ) (f : List ℕ → Option A) (k : A → List (List ℕ) → LineRead) (l : List ℕ) where
+  comma-first : x ≡ comma → field f k (split comma (x ∷ l)) ≡ thenRead LineRead.BadShape (f []) (λ y. k y (split comma l))
+  comma-first e = rw (split-same comma x l e)
+
+  other-first : (x ≡ comma → ⊥) → field f k (split comma (x ∷ l)) ≡ field (λ p. f (x ∷ p)) k (split comma l)
+  other-first h = let w = pieces comma l in rw (split-other comma x l h, w .2)
+
+-- A field at the head of what is left of a line, which the byte end ends. k is what follows it, by the position after the line; and j is the same,
+-- by the position after the field.
+module _ {A : Type 0} (k : ℕ → A → List (List ℕ) → LineRead) (j : A → ℕ → LineRead) (file : List ℕ) (end : ℕ) where
+  abbrev pub AtEnd : ℕ → Option A → ℕ → LineRead
+  AtEnd x m i = cond (eqb x end) (thenRead LineRead.BadShape m (λ y. j y i)) LineRead.BadShape
+
+  at-end : (f : List ℕ → Option A) (i x : ℕ) → Plain f → i < length file → getD file i 0 ≡ x → x < 48
+      → AtEnd x (f []) (i + 1) ≡ fieldAt LineRead.BadShape j f end file i
+  unfolding fieldAt
+  at-end f i x plain here is low = which (eqb x end) refl
+    where
+      which : (b : Bool) → eqb x end ≡ b
+          → cond b (thenRead LineRead.BadShape (f []) (λ y. j y (i + 1))) LineRead.BadShape ≡ fieldAt LineRead.BadShape j f end file i
+      which true e = sym (ends LineRead.BadShape end file i here _ (is ∙ eqb-true x end e))
+      which false e = field-stops LineRead.BadShape j f end file i here x is (λ z. absurd (eqb-false x end e z)) (λ p. plain [] x p low)
+
+  module _ (one-of : (end ≡ comma) ⊎ (end ≡ LF))
+      (at-comma : (m : Option A) (i : ℕ) → pieceAt LineRead.BadShape (λ n l. thenRead LineRead.BadShape m (λ y. k n y (split comma l))) LF file i ≡ AtEnd comma m i)
+      (at-LF : (m : Option A) (i : ℕ) → thenRead LineRead.BadShape m (λ y. k i y []) ≡ AtEnd LF m i) where
+    -- left bounds the bytes from i on
+    pub the-field : (left : ℕ) (f : List ℕ → Option A) (i : ℕ) → Plain f → length file ≤ i + left
+        → fieldsAt (λ n. field f (k n)) file i ≡ fieldAt LineRead.BadShape j f end file i
+    unfolding split
+    the-field zero f i plain h = no-byte LineRead.BadShape LF file i _ (omega arith) ∙ field-none LineRead.BadShape j f end file i (omega arith)
+    the-field (suc left) f i plain h =
+        which (getD file i 0) refl (ltb i (length file)) (eqb (getD file i 0) comma) (eqb (getD file i 0) LF) refl refl refl
+        (the-field left (λ p. f (getD file i 0 ∷ p)) (i + 1) (λ p. plain (getD file i 0 ∷ p)) (omega arith))
+      where
+        which : (x : ℕ) → getD file i 0 ≡ x → (a b c : Bool) → ltb i (length file) ≡ a → eqb x comma ≡ b → eqb x LF ≡ c
+            → fieldsAt (λ n. field (λ p. f (x ∷ p)) (k n)) file (i + 1) ≡ fieldAt LineRead.BadShape j (λ p. f (x ∷ p)) end file (i + 1)
+            → fieldsAt (λ n. field f (k n)) file i ≡ fieldAt LineRead.BadShape j f end file i
+        which x is false b c e₁ e₂ e₃ more =
+            let out = ltb-false i (length file) e₁ in
+            no-byte LineRead.BadShape LF file i _ out ∙ field-none LineRead.BadShape j f end file i out
+        which x is true true c e₁ e₂ e₃ more =
+            let here = ltb-true i (length file) e₁ in
+            let e = is ∙ eqb-true x comma e₂ in
+            goes-on LineRead.BadShape LF file i here _ _ (λ z. omega (arith, e, z)) (λ n l. comma-first (getD file i 0) f (k n) l e)
+            ∙ at-comma (f []) (i + 1)
+            ∙ at-end f i comma plain here e (lit< tt)
+        which x is true false true e₁ e₂ e₃ more =
+            let here = ltb-true i (length file) e₁ in
+            let e = is ∙ eqb-true x LF e₃ in
+            ends LineRead.BadShape LF file i here _ e ∙ at-LF (f []) (i + 1) ∙ at-end f i LF plain here e (lit< tt)
+        which x is true false false e₁ e₂ e₃ more =
+            let here = ltb-true i (length file) e₁ in
+            let no-comma = eqb-false x comma e₂ in
+            let no-LF = eqb-false x LF e₃ in
+            goes-on LineRead.BadShape LF file i here _ _ (rw is no-LF) (λ n l. rw is (other-first x f (k n) l no-comma))
+            ∙ more
+            ∙ field-goes-on LineRead.BadShape j f end file i here x is _ (λ z. ⊎-elim (λ q. no-comma (z ∙ q)) (λ q. no-LF (z ∙ q)) one-of) (λ p. refl)

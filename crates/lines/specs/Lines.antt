@@ -28,11 +28,15 @@ lineRead next′ (some l) =
       next = record { at = next′ };
     })
 
--- The first of the pieces of a text that is cut at LF. The last piece has no LF, and is no line.
+-- The first of the pieces of a text that is cut at a byte, with the position after that byte. No such byte follows the last piece.
+abbrev pub firstPiece : {R : Type 0} → R → (ℕ → List ℕ → R) → ℕ → List (List ℕ) → R
+firstPiece bad read at [] = bad
+firstPiece bad read at (p ∷ []) = bad
+firstPiece bad read at (p ∷ q ∷ ps) = read (at + length p + 1) p
+
+-- the same of lines; the last piece has no LF, and is no line
 abbrev pub firstLine : (ℕ → List ℕ → LineRead) → ℕ → List (List ℕ) → LineRead
-firstLine read at [] = LineRead.BadShape
-firstLine read at (l ∷ []) = LineRead.BadShape
-firstLine read at (l ∷ m ∷ ls) = read (at + length l + 1) l
+firstLine read at ls = firstPiece LineRead.BadShape read at ls
 
 -- the line that begins at a position of the file
 unfoldable pub lineAt : List ℕ → ℕ → LineRead

@@ -1,11 +1,12 @@
-// A line of the file, from its bytes to its six fields.
+// A line of the file, from its bytes to its six fields: each byte is looked at once, in order.
 ghost use mathlib.Core.Path.{_≡_};
 ghost use mathlib.Core.List.{[], _∷_};
-ghost use Prim.Native.Nat.{_<_, _≤_};
+ghost use Prim.Native.Nat.{_<_, _^_};
 ghost use Rattle.tableau.specs.Basics.{lookup};
-ghost use Rattle.tableau.specs.File.{letters};
+ghost use Rattle.tableau.specs.File.{letters, comma, number};
 ghost use Rattle.lines.specs.Lines.{lineAt};
-ghost use Rattle.lines.specs.Remains.{letterFound, Sound, Reads, Begins};
+ghost use Rattle.lines.specs.Fields.{letterFound, letterAt, valueAt, packedWord, digitsFrom};
+ghost use Rattle.lines.specs.Fields.{WordFits, DigitsFit, nextLetter, firstDigit, nextDigit};
 use tableau::Letter;
 
 // A position in the file.
@@ -34,29 +35,35 @@ const LF: u8 = 10;
 // "numbers of one to four digits"
 const MAX_DIGITS: usize = 4;
 
-// What is read of a line. left commas are still due: 5 in the letter, 4 in the word, 3 to 0 in the numbers. count bytes of the field are
-// read, and make value; after a first digit 0 count is MAX_DIGITS, so that no digit follows. The last three whole numbers are a, b, c.
-struct Reading {
-    left: usize,
-    count: usize,
-    value: usize,
-    letter: Letter,
-    word: usize,
-    a: usize,
-    b: usize,
-    c: usize,
+enum LetterFound {
+    Known(Letter),
+    Unknown,
 }
 
-// What a byte leads to: the line goes on, it ends here with the fields that were read, or it is not shaped as a line.
+// The letter, and the position after its comma.
+enum LetterRead {
+    Read(Letter, usize),
+    Bad,
+}
+
+// A number, or a word packed in one, and the position after the byte that ends it.
+enum ValueRead {
+    Read(usize, usize),
+    Bad,
+}
+
+// What one byte more of a field leads to: the field goes on with a new value, it ends before the byte, or it has not its shape.
 enum ByteStep {
-    More(Reading),
+    More(usize),
     End,
     Bad,
 }
 
-enum LetterFound {
-    Known(Letter),
-    Unknown,
+// No digit follows a first digit 0.
+enum FirstDigit {
+    Zero,
+    Digit(usize),
+    Bad,
 }
 
 // A call asks for no bound on the byte, as a cast of an element would.
@@ -81,193 +88,193 @@ fn letter_of(x: u8) -> LetterFound
     LetterFound::Unknown
 }
 
-impl Reading {
-    fn start() -> Reading
-        ensures { λ r. ⌜ Begins r ⌝ }
-    {
-        Reading {
-            left: 5,
-            count: 0,
-            value: 0,
-            letter: Letter::T,
-            word: 0,
-            a: 0,
-            b: 0,
-            c: 0,
-        }
+fn read_letter(file: &[u8], at: usize) -> LetterRead
+    ensures { λ r. ⌜ r ≡ letterAt (now (file .entry)) at ⌝ }
+{
+    if file.len() <= at {
+        return LetterRead::Bad;
     }
-
-    // One byte more of the line.
-    fn step(self, x: u8) -> ByteStep
-        requires { ⌜ Sound self ⌝ }
-        ensures { λ r. ⌜ Reads self x r ⌝ }
-    {
-        let left = self.left;
-        if left < 4 {
-            if x < b'0' {
-                return self.end_number(x);
-            }
-            return self.in_number(x);
-        }
-        if left == 4 {
-            if x < b'a' {
-                return self.end_word(x);
-            }
-            return self.in_word(x);
-        }
-        self.in_letter(x)
+    let LetterFound::Known(letter) = letter_of(file[at]) else {
+        return LetterRead::Bad;
+    };
+    let i = at + 1;
+    if file.len() <= i {
+        return LetterRead::Bad;
     }
-
-    fn in_letter(mut self, x: u8) -> ByteStep
-        requires { ⌜ 4 < self .left ⌝ }
-        ensures { λ r. ⌜ Reads self x r ⌝ }
-    {
-        if self.count == 0 {
-            let LetterFound::Known(letter) = letter_of(x) else {
-                return ByteStep::Bad;
-            };
-            return ByteStep::More(Reading {
-                left: 5,
-                count: 1,
-                value: 0,
-                letter: letter,
-                word: 0,
-                a: 0,
-                b: 0,
-                c: 0,
-            });
-        }
-        if x == b',' {
-            self.left = 4;
-            self.count = 0;
-            self.value = 0;
-            return ByteStep::More(self);
-        }
-        ByteStep::Bad
+    if file[i] == b',' {
+        return LetterRead::Read(letter, i + 1);
     }
-
-    fn in_word(mut self, x: u8) -> ByteStep
-        requires { ⌜ (self .left ≡ 4) × (97 ≤ x) × Sound self ⌝ }
-        ensures { λ r. ⌜ Reads self x r ⌝ }
-    {
-        let count = self.count;
-        let value = self.value;
-        if b'z' < x {
-            return ByteStep::Bad;
-        }
-        if count == 0 {
-            self.count = 1;
-            self.value = wide(x);
-            return ByteStep::More(self);
-        }
-        if count == 1 {
-            self.count = 2;
-            self.value = value + 256 * wide(x);
-            return ByteStep::More(self);
-        }
-        if count == 2 {
-            self.count = 3;
-            self.value = value + 65536 * wide(x);
-            return ByteStep::More(self);
-        }
-        ByteStep::Bad
-    }
-
-    // A byte below the small letters ends the word.
-    fn end_word(mut self, x: u8) -> ByteStep
-        requires { ⌜ (self .left ≡ 4) × (x < 97) ⌝ }
-        ensures { λ r. ⌜ Reads self x r ⌝ }
-    {
-        if x == b',' {
-            if 2 <= self.count {
-                self.left = 3;
-                self.word = self.value;
-                self.count = 0;
-                self.value = 0;
-                return ByteStep::More(self);
-            }
-        }
-        ByteStep::Bad
-    }
-
-    fn in_number(mut self, x: u8) -> ByteStep
-        requires { ⌜ (self .left < 4) × (48 ≤ x) × Sound self ⌝ }
-        ensures { λ r. ⌜ Reads self x r ⌝ }
-    {
-        let count = self.count;
-        if b'9' < x {
-            return ByteStep::Bad;
-        }
-        if MAX_DIGITS <= count {
-            return ByteStep::Bad;
-        }
-        let value = 10 * self.value + (wide(x) - 48);
-        self.value = value;
-        if value == 0 {
-            self.count = MAX_DIGITS;
-            return ByteStep::More(self);
-        }
-        self.count = count + 1;
-        ByteStep::More(self)
-    }
-
-    // A byte below the digits ends the number.
-    fn end_number(mut self, x: u8) -> ByteStep
-        requires { ⌜ (self .left < 4) × (x < 48) ⌝ }
-        ensures { λ r. ⌜ Reads self x r ⌝ }
-    {
-        let left = self.left;
-        if self.count == 0 {
-            return ByteStep::Bad;
-        }
-        if left == 0 {
-            if x == LF {
-                return ByteStep::End;
-            }
-            return ByteStep::Bad;
-        }
-        if x == b',' {
-            self.left = left - 1;
-            self.a = self.b;
-            self.b = self.c;
-            self.c = self.value;
-            self.count = 0;
-            self.value = 0;
-            return ByteStep::More(self);
-        }
-        ByteStep::Bad
-    }
+    LetterRead::Bad
 }
 
-// The line that begins at the cursor: each of its bytes is looked at once, in order.
-pub fn read_line(file: &[u8], cursor: Cursor) -> LineRead
-    ensures { λ r. ⌜ r ≡ lineAt (now (file .entry)) (cursor .at) ⌝ }
+// The unit of a word's letter after count others.
+fn unit(count: usize) -> usize
+    requires { ⌜ count < 3 ⌝ }
+    ensures { λ r. ⌜ r ≡ 256 ^ count ⌝ }
 {
-    let mut state = Reading::start();
-    let mut i = cursor.at;
+    if count == 0 {
+        return 1;
+    }
+    if count == 1 {
+        return 256;
+    }
+    65536
+}
+
+// One byte more of a word, of which count letters make value.
+fn next_letter(value: usize, count: usize, x: u8) -> ByteStep
+    requires { ⌜ WordFits value count ⌝ }
+    ensures { λ r. ⌜ r ≡ nextLetter value count x ⌝ }
+{
+    if x < b'a' {
+        if x == b',' {
+            if 2 <= count {
+                return ByteStep::End;
+            }
+        }
+        return ByteStep::Bad;
+    }
+    if b'z' < x {
+        return ByteStep::Bad;
+    }
+    if 3 <= count {
+        return ByteStep::Bad;
+    }
+    ByteStep::More(value + unit(count) * wide(x))
+}
+
+fn read_word(file: &[u8], at: usize) -> ValueRead
+    ensures { λ r. ⌜ r ≡ valueAt packedWord comma (now (file .entry)) at ⌝ }
+{
+    let mut i = at;
+    let mut value = 0;
+    let mut count = 0;
     while i < file.len() {
-        let step = state.step(file[i]);
+        let step = next_letter(value, count, file[i]);
         i += 1;
         match step {
             ByteStep::More(next) => {
-                state = next;
+                value = next;
+                count += 1;
             }
             ByteStep::End => {
-                let letter = state.letter;
-                return LineRead::Line(LineFields {
-                    letter: letter,
-                    word: state.word,
-                    a: state.a,
-                    b: state.b,
-                    c: state.c,
-                    d: state.value,
-                    next: Cursor { at: i },
-                });
+                return ValueRead::Read(value, i);
             }
             ByteStep::Bad => {
-                return LineRead::BadShape;
+                return ValueRead::Bad;
             }
         }
     }
-    LineRead::BadShape
+    ValueRead::Bad
+}
+
+fn first_digit(x: u8) -> FirstDigit
+    ensures { λ r. ⌜ r ≡ firstDigit x ⌝ }
+{
+    if x == b'0' {
+        return FirstDigit::Zero;
+    }
+    if x < b'0' {
+        return FirstDigit::Bad;
+    }
+    if b'9' < x {
+        return FirstDigit::Bad;
+    }
+    FirstDigit::Digit(wide(x) - 48)
+}
+
+// One byte more of a number whose digits so far make value, where left more may follow. The byte that ends it is below the digits.
+fn next_digit(value: usize, left: usize, x: u8, end: u8) -> ByteStep
+    requires { ⌜ (end < 48) × DigitsFit value left ⌝ }
+    ensures { λ r. ⌜ r ≡ nextDigit value left x end ⌝ }
+{
+    if x < b'0' {
+        if x == end {
+            return ByteStep::End;
+        }
+        return ByteStep::Bad;
+    }
+    if b'9' < x {
+        return ByteStep::Bad;
+    }
+    if left == 0 {
+        return ByteStep::Bad;
+    }
+    ByteStep::More(10 * value + (wide(x) - 48))
+}
+
+// A number from its second digit on, where first is its first digit and at most max more may follow.
+fn read_digits(file: &[u8], at: usize, first: usize, max: usize, end: u8) -> ValueRead
+    requires { ⌜ (end < 48) × DigitsFit first max ⌝ }
+    ensures { λ r. ⌜ r ≡ valueAt (digitsFrom first max) end (now (file .entry)) at ⌝ }
+{
+    let mut i = at;
+    let mut value = first;
+    let mut left = max;
+    while i < file.len() {
+        let step = next_digit(value, left, file[i], end);
+        i += 1;
+        match step {
+            ByteStep::More(next) => {
+                value = next;
+                left -= 1;
+            }
+            ByteStep::End => {
+                return ValueRead::Read(value, i);
+            }
+            ByteStep::Bad => {
+                return ValueRead::Bad;
+            }
+        }
+    }
+    ValueRead::Bad
+}
+
+fn read_number(file: &[u8], at: usize, end: u8) -> ValueRead
+    requires { ⌜ end < 48 ⌝ }
+    ensures { λ r. ⌜ r ≡ valueAt number end (now (file .entry)) at ⌝ }
+{
+    if file.len() <= at {
+        return ValueRead::Bad;
+    }
+    let first = first_digit(file[at]);
+    match first {
+        FirstDigit::Zero => read_digits(file, at + 1, 0, 0, end),
+        FirstDigit::Digit(value) => read_digits(file, at + 1, value, MAX_DIGITS - 1, end),
+        FirstDigit::Bad => ValueRead::Bad,
+    }
+}
+
+// The line that begins at the cursor.
+pub fn read_line(file: &[u8], cursor: Cursor) -> LineRead
+    ensures { λ r. ⌜ r ≡ lineAt (now (file .entry)) (cursor .at) ⌝ }
+{
+    let at = cursor.at;
+    let LetterRead::Read(letter, after_letter) = read_letter(file, at) else {
+        return LineRead::BadShape;
+    };
+    let ValueRead::Read(word, after_word) = read_word(file, after_letter) else {
+        return LineRead::BadShape;
+    };
+    let ValueRead::Read(a, after_a) = read_number(file, after_word, b',') else {
+        return LineRead::BadShape;
+    };
+    let ValueRead::Read(b, after_b) = read_number(file, after_a, b',') else {
+        return LineRead::BadShape;
+    };
+    let ValueRead::Read(c, after_c) = read_number(file, after_b, b',') else {
+        return LineRead::BadShape;
+    };
+    let ValueRead::Read(d, next) = read_number(file, after_c, LF) else {
+        return LineRead::BadShape;
+    };
+    LineRead::Line(LineFields {
+        letter: letter,
+        word: word,
+        a: a,
+        b: b,
+        c: c,
+        d: d,
+        next: Cursor { at: next },
+    })
 }

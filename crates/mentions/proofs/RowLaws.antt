@@ -1,6 +1,6 @@
--- The row of a new term, word by word.
+-- A row that is filled word by word, and that of a new term.
 use mathlib.Core.Path.{_≡_, refl, _∙_, ap}
-use mathlib.Core.Bool.{_||_}
+use mathlib.Core.Bool.{Bool, _||_}
 use mathlib.Core.List.{List}
 use mathlib.Core.Logic.{⊎-elim}
 use Prim.Native.Nat.{ℕ, _+_, _*_, _/_, _%_, _<_, _≤_}
@@ -12,7 +12,7 @@ use lib.ListN.{length, getD, set, length-set}
 use lib.Seq.{getD-set-same, getD-set-other}
 use Rattle.tableau.specs.Basics.{Four}
 use Rattle.tableau.specs.Terms.{TermNo}
-use Rattle.mentions.specs.Mentions.{row, bitAt, rowBit, joinedBit, AllBelow, Noted}
+use Rattle.mentions.specs.Mentions.{row, bitAt, rowBit, joinedBit, AllBelow, Filled, Noted}
 use Rattle.mentions.proofs.BitLaws.{bit-or}
 
 -- the words of the arguments' rows, joined
@@ -23,38 +23,42 @@ joined-bits rows k i {x} {y} {z} {w} ex ey ez ew q =
     bit-or x (bitOr y (bitOr z w)) q ∙ (λ j. bitAt (ex j) q || (bit-or y (bitOr z w) q
     ∙ (λ j. bitAt (ey j) q || (bit-or z w q ∙ (λ j. bitAt (ez j) q || bitAt (ew j) q)) j)) j)
 
--- the first i words of t are filled, from rows that stand below
-pub record Filled (old : List ℕ) (t : TermNo) (k : Four TermNo) (new : List ℕ) (i : ℕ) : Type 0 where
-  pub most : i ≤ row
-  pub size : length new ≡ length old
-  pub below : (j : ℕ) → j < t * row → getD new j 0 ≡ getD old j 0
-  pub words : (j q : ℕ) → j < i → q < 64 → rowBit new t j q ≡ (eqb t (j * 64 + q) || joinedBit old k j q)
+-- A ROW, word by word
+module _ (old : List ℕ) (t : ℕ) (f : ℕ → ℕ → Bool) where
+  pub filled-none : Filled old old t f 0
+  filled-none = record { size = refl; below = λ j l. refl; words = λ j q l. absurd (omega arith) }
 
-module _ (old : List ℕ) (t : TermNo) (k : Four TermNo) (b : AllBelow t k) (room : t * row + row ≤ length old) where
-  pub filled-none : Filled old t k old 0
-  filled-none = record { most = omega arith; size = refl; below = λ j l. refl; words = λ j q l. absurd (omega arith) }
-
-  joined-same : (new : List ℕ) (i q : ℕ) → i < row → ((j : ℕ) → j < t * row → getD new j 0 ≡ getD old j 0)
-      → joinedBit new k i q ≡ joinedBit old k i q
-  joined-same new i q l same =
-      let bit : (s : TermNo) → s < t → rowBit new s i q ≡ rowBit old s i q = λ s m. ap (λ (x : ℕ). bitAt x q) (same (s * row + i) (omega arith)) in
-      λ p. bit (k .a) (b .0) p || (bit (k .b) (b .1) p || (bit (k .c) (b .2) p || bit (k .d) (b .3) p))
-
-  pub filled-more : (new : List ℕ) (i x y : ℕ) → i < row → Filled old t k new i → ((q : ℕ) → q < 64 → bitAt x q ≡ eqb t (i * 64 + q))
-      → ((q : ℕ) → bitAt y q ≡ joinedBit new k i q) → Filled old t k (set new (t * row + i) (bitOr x y)) (i + 1)
-  filled-more new i x y l F own joined = record {
-    most = omega arith;
-    size = length-set new (t * row + i) (bitOr x y) ∙ F .size;
-    below = λ j m. getD-set-other new (t * row + i) j (bitOr x y) 0 (omega arith) ∙ F .below j m;
+  pub filled-more : (new : List ℕ) (i x : ℕ) → t * row + row ≤ length old → i < row → Filled old new t f i
+      → ((q : ℕ) → q < 64 → bitAt x q ≡ f i q) → Filled old (set new (t * row + i) x) t f (i + 1)
+  filled-more new i x room l F bits = record {
+    size = length-set new (t * row + i) x ∙ F .size;
+    below = λ j m. getD-set-other new (t * row + i) j x 0 (omega arith) ∙ F .below j m;
     words = λ j q m n. ⊎-elim
-        (λ (z : j ≡ i). rw z (ap (λ (v : ℕ). bitAt v q) (getD-set-same new (t * row + i) (bitOr x y) 0 (omega (arith, F .size)))
-        ∙ bit-or x y q ∙ (λ p. own q n p || (joined q ∙ joined-same new i q l (F .below)) p)))
-        (λ (z : j < i). ap (λ (v : ℕ). bitAt v q) (getD-set-other new (t * row + i) (t * row + j) (bitOr x y) 0 (omega arith)) ∙ F .words j q z n)
+        (λ (z : j ≡ i). rw z (ap (λ (v : ℕ). bitAt v q) (getD-set-same new (t * row + i) x 0 (omega (arith, F .size))) ∙ bits q n))
+        (λ (z : j < i). ap (λ (v : ℕ). bitAt v q) (getD-set-other new (t * row + i) (t * row + j) x 0 (omega arith)) ∙ F .words j q z n)
         (eq-or-lt-of-le (let h : j ≤ i = omega arith in h));
   }
 
-  pub filled-all : (new : List ℕ) (i : ℕ) → row ≤ i → Filled old t k new i → Noted old new t k
-  filled-all new i l F = record {
+  pub filled-all : (new : List ℕ) (i : ℕ) → row ≤ i → Filled old new t f i → Filled old new t f row
+  filled-all new i l F = record { size = F .size; below = F .below; words = λ j q m. F .words j q (omega arith) }
+
+-- THE ROW OF A TERM, from rows that stand below
+module _ (old : List ℕ) (t : TermNo) (k : Four TermNo) where
+  abbrev pub termBits : ℕ → ℕ → Bool
+  termBits i q = eqb t (i * 64 + q) || joinedBit old k i q
+
+  joined-same : (new : List ℕ) (i q : ℕ) → AllBelow t k → i < row → Filled old new t termBits i → joinedBit new k i q ≡ joinedBit old k i q
+  joined-same new i q b l F =
+      let bit : (s : TermNo) → s < t → rowBit new s i q ≡ rowBit old s i q = λ s m. ap (λ (x : ℕ). bitAt x q) (F .below (s * row + i) (omega arith)) in
+      λ p. bit (k .a) (b .0) p || (bit (k .b) (b .1) p || (bit (k .c) (b .2) p || bit (k .d) (b .3) p))
+
+  pub term-bits : (new : List ℕ) (i x y : ℕ) → AllBelow t k → i < row → Filled old new t termBits i
+      → ((q : ℕ) → q < 64 → bitAt x q ≡ eqb t (i * 64 + q)) → ((q : ℕ) → bitAt y q ≡ joinedBit new k i q)
+      → (q : ℕ) → q < 64 → bitAt (bitOr x y) q ≡ termBits i q
+  term-bits new i x y b l F own joined q n = bit-or x y q ∙ (λ p. own q n p || (joined q ∙ joined-same new i q b l F) p)
+
+  pub filled-noted : (new : List ℕ) → Filled old new t termBits row → Noted old new t k
+  filled-noted new F = record {
     size = F .size;
     below = λ s w l m. ap (λ (x : ℕ). bitAt x (w % 64)) (F .below (s * row + w / 64) (omega arith));
     own = λ w m. F .words (w / 64) (w % 64) (omega arith) (omega arith)

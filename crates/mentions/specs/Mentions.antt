@@ -43,6 +43,12 @@ AllBelow t k = (k .a < t) × (k .b < t) × (k .c < t) × (k .d < t)
 abbrev pub joinedBit : List ℕ → Four TermNo → ℕ → ℕ → Bool
 joinedBit rows k i q = rowBit rows (k .a) i q || (rowBit rows (k .b) i q || (rowBit rows (k .c) i q || rowBit rows (k .d) i q))
 
+-- the first i words of the row t are filled with the bits of f, and no row before it is changed
+pub record Filled (old new : List ℕ) (t : ℕ) (f : ℕ → ℕ → Bool) (i : ℕ) : Type 0 where
+  pub size : length new ≡ length old
+  pub below : (j : ℕ) → j < t * row → getD new j 0 ≡ getD old j 0
+  pub words : (j q : ℕ) → j < i → q < 64 → rowBit new t j q ≡ f j q
+
 -- what the rows say once a term t with the arguments k is noted
 pub record Noted (old new : List ℕ) (t : TermNo) (k : Four TermNo) : Type 0 where
   pub size : length new ≡ length old

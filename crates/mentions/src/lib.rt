@@ -7,9 +7,9 @@ ghost use mathlib.Core.Path.{_≡_};
 ghost use Prim.Native.Nat.{ℕ, _+_, _*_, _<_, _≤_};
 ghost use lib.Dec.{eqb};
 ghost use lib.ListN.{length, getD};
-ghost use Rattle.tableau.specs.Terms.{Table, at, mentions, maxTerms};
+ghost use Rattle.tableau.specs.Terms.{maxTerms};
 ghost use Rattle.syntax.specs.Syntax.{argumentsIn, termIn};
-ghost use Rattle.mentions.specs.Mentions.{row, rowsLength, bitAt, joinedBit, termArguments, AllBelow, MentionRows, Noted};
+ghost use Rattle.mentions.specs.Mentions.{row, rowsLength, bitAt, joinedBit, termArguments, AllBelow, Noted};
 
 // The words of a row: a bit for each of the numbers up to 600.
 pub const ROW: usize = 10;
@@ -24,16 +24,6 @@ fn word_at(rows: &[u64; WORDS], term: TermNumber, i: usize) -> u64
 {
     let t = term.0;
     rows[t * ROW + i]
-}
-
-// Does the term w stand in the term, as the whole or inside?
-pub fn mentions(rows: &[u64; WORDS], term: TermNumber, w: TermNumber) -> bool
-    requires { ⌜ (term .0 ≤ maxTerms) × (0 < w .0) × (w .0 ≤ maxTerms) ⌝ }
-    ensures { λ r. ⌜ ((table : Table) → MentionRows table (now (rows .entry)) → term .0 ≤ length table
-        → r ≡ mentions (at table) (w .0) (term .0)) ⌝ }
-{
-    let v = w.0;
-    (word_at(rows, term, v / 64) >> (v % 64)) % 2 == 1
 }
 
 // Word i of the row of a term that has no argument.

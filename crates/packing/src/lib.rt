@@ -5,7 +5,7 @@ use tableau::Sort;
 use tableau::TermNumber;
 
 pub mod literals;
-pub mod terms;
+pub mod term_codes;
 
 // A term taken apart.
 pub enum TermView {

@@ -24,7 +24,7 @@ use Rattle.lines.specs.Lines.{packWord, lineRead, firstLine, lineAt}
 use Rattle.lines.specs.Lines.{numbersOf}
 use Rattle.words.proofs.PackedWords.{words-packed, relations-packed, rules-packed}
 use Rattle.lines.proofs.Remaining.{pieces}
-use Rattle.running.specs.Running.{verdictFrom, packedCommand, runFields, LineHere, NoLine}
+use Rattle.running.specs.Running.{verdictFrom, packedCommand, runFields, LineHere}
 
 -- THE CUT AT LF: behind the first piece and its LF stand the others.
 pub behind : (c : ℕ) (text l m : List ℕ) (ls : List (List ℕ)) → split c text ≡ l ∷ m ∷ ls
@@ -200,10 +200,6 @@ pub at-end : (file : List ℕ) (at : ℕ) → length file ≤ at → (i : ℕ) (
 unfolding split runLines
 at-end file at h i σ = rw (drop-of-length-le file h)
 
-pub no-line : (file : List ℕ) (at : ℕ) → length file ≤ at → lineAt file at ≡ LineRead.BadShape
-unfolding split lineAt
-no-line file at h = rw (drop-of-length-le file h)
-
 -- CHECKS 3 AND 4 of a line that is read: out of order, with an unknown word, or a command
 module _ (σ : State) (f : LineFields) {l : Letter} (k : f .letter ≡ l) where
   pub run-disordered : inOrder (σ .letter) l ≡ false → runFields σ f ≡ refused Reason.LetterOrder
@@ -218,10 +214,3 @@ module _ (σ : State) (f : LineFields) {l : Letter} (k : f .letter ≡ l) where
       → runFields σ f ≡ (requireOpen (σ .status) >>= λ τ. runOpen σ τ c (numbersOf f))
   unfolding runFields
   run-known c o e = rw (k, o, e)
-
--- THE END OF A SECTION: the file ends here, or the line has another letter.
-pub none-at-end : (k : Letter) (file : List ℕ) (at : ℕ) → length file ≤ at → NoLine k file at
-none-at-end k file at h f e l = bad≢line (sym (no-line file at h) ∙ e)
-
-pub none-here : (k : Letter) (file : List ℕ) (at : ℕ) (f : LineFields) → lineAt file at ≡ LineRead.Line f → (f .letter ≡ k → ⊥) → NoLine k file at
-none-here k file at f e h g e′ l = h (ap (λ (x : LineFields). x .letter) (line-injective (sym e ∙ e′)) ∙ l)

@@ -10,8 +10,6 @@ use Rattle.tableau.specs.Words.{words, relations, ruleNames, Command, make, ass
 use Rattle.tableau.specs.Tree.{Checked, passed}
 use Rattle.tableau.specs.Reply.{State, runCommand, Verdict, runLines}
 use Rattle.lines.specs.declared.LineFields.{LineFields}
-use Rattle.lines.specs.declared.LineRead.{LineRead}
-use Rattle.lines.specs.Lines.{lineAt}
 use Rattle.lines.specs.Lines.{numbersOf}
 use Rattle.words.specs.Words.{lookupPacked}
 
@@ -40,7 +38,3 @@ pub record LineHere (file : List ℕ) (at : ℕ) (f : LineFields) : Type 0 where
   pub inside : f .next .at ≤ length file
   pub small : f .a < numberLimit
   pub runs : (i : ℕ) (σ : State) → verdictFrom file at i (passed σ) ≡ verdictFrom file (f .next .at) (suc i) (runFields σ f)
-
--- no line of letter k begins at the position
-abbrev pub NoLine : Letter → List ℕ → ℕ → Type 0
-NoLine k file at = (f : LineFields) → lineAt file at ≡ LineRead.Line f → f .letter ≡ k → ⊥

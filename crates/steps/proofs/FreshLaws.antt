@@ -1,26 +1,23 @@
 -- When the freshness of w matters.
 use mathlib.Core.Path.{_≡_, refl}
-use mathlib.Core.Bool.{Bool, true, false, _&&_, _||_, not, cond, false≢true}
+use mathlib.Core.Bool.{Bool, true, false, _&&_, _||_, not, cond}
 use mathlib.Core.List.{List, [], _∷_}
 use mathlib.Core.Option.{Option, none, some}
-use Prim.Native.Nat.{ℕ, _≤_}
-use lib.Dec.{leb, eqb}
-use lib.ListN.{length}
+use Prim.Native.Nat.{ℕ}
+use lib.Dec.{eqb}
 use types.Run.{OneOf}
-use borrow.Author.Tests.{leb-true, not-true}
+use borrow.Author.Tests.{not-true}
 use Rattle.tableau.specs.declared.Reason.{Reason}
 use Rattle.tableau.specs.declared.Relation.{Relation}
 use Rattle.tableau.specs.declared.Rule.{Rule}
-use Rattle.tableau.specs.Basics.{then, guard, Four, every}
+use Rattle.tableau.specs.Basics.{then, guard}
 use Rattle.tableau.specs.Words.{ruleNames}
-use Rattle.tableau.specs.Fields.{TermField, unused, term, of, termUse, ruleFields, ruleUses}
 use Rattle.tableau.specs.Terms.{Table, Literal, literal, at, sameRelation}
 use Rattle.tableau.specs.Rules.{Row, Kind, rows, congruence, replacement, rule}
 use Rattle.tableau.specs.Steps.{Letters, Conclusion, addsOne, congruent, given, met, orElse, concludeRows, concludeSub, concludeRep, conclude}
 use Rattle.tableau.specs.Tree.{Checked, _>>=_, _>>_, require, requireSome, answer}
-use Rattle.tableau.specs.Reply.{isTerm, termOrName}
-use Rattle.tableau.proofs.Bools.{both-true, both-false, every-true}
-use Rattle.tableau.proofs.Places.{rules, placeOf, placesBut, every-rule, other-rule}
+use Rattle.tableau.proofs.Bools.{both-false}
+use Rattle.tableau.proofs.Places.{rules, placeOf, placesBut, other-rule}
 use Rattle.steps.specs.Freshness.{anyFresh, freshKind, asksFresh}
 
 -- FRESHNESS: a conclusion that does not ask for it
@@ -86,24 +83,3 @@ unasked-answer table P Q t w x h f g = same-ending (conclude table P Q t w (rule
 pub others-unasked : (x : Rule) → OneOf (placesBut (Rule.Ext ∷ Rule.Fir ∷ Rule.Wit ∷ [])) (placeOf x) → asksFresh x ≡ false
 unfolding rules ruleNames rule anyFresh
 others-unasked x o = not-true _ (other-rule (λ y. not (asksFresh y)) (Rule.Ext ∷ Rule.Fir ∷ Rule.Wit ∷ []) refl refl x o)
-
--- w is a term where the rule asks for a fresh one
-abbrev isTermField : TermField → Bool
-isTermField unused = false
-isTermField term = true
-isTermField (of s) = true
-
-term-made : (table : Table) (f : TermField) (n : ℕ) → isTermField f ≡ true → termOrName table (termUse f) n ≡ true → isTerm table n ≡ true
-term-made table unused n e h = absurd (false≢true e)
-term-made table term n e h = h
-term-made table (of s) n e h = h
-
-asked-field : (x : Rule) → asksFresh x ≡ true → isTermField (ruleFields x .w) ≡ true
-unfolding rules ruleNames rule anyFresh ruleFields
-asked-field x e = rw e at (every-rule (λ y. not (asksFresh y) || isTermField (ruleFields y .w)) refl x)
-
-pub asked-term : (table : Table) (x : Rule) (k : Four ℕ) → asksFresh x ≡ true → every (termOrName table) (ruleUses x) k ≡ true → (1 ≤ k .d) × (k .d ≤ length table)
-asked-term table x k h e =
-    let i = term-made table (ruleFields x .w) (k .d) (asked-field x h) (every-true (termOrName table) (ruleUses x) k e .3) in
-    let b = both-true (leb 1 (k .d)) _ i in
-    (leb-true 1 (k .d) (b .0), leb-true (k .d) (length table) (b .1))

@@ -14,6 +14,9 @@ use Rattle.tableau.specs.Reply.{termOrName}
 use Rattle.tableau.specs.Basics.{every}
 use Rattle.syntax.specs.declared.Step.{Step}
 use Rattle.syntax.specs.Syntax.{stepFields}
+use Rattle.freshness.specs.Prefixes.{PrefixRows}
+use Rattle.steps.specs.declared.asking.Asked.{Asked}
+use Rattle.steps.specs.Reading.{branchOf}
 
 -- check 8 has passed
 abbrev pub TermsNamed : Table → Step → Type 0
@@ -32,6 +35,11 @@ freshKind replacement = false
 abbrev pub asksFresh : Rule → Bool
 asksFresh x = freshKind (rule x)
 
--- the flag says of rule x what the freshness of w would
-abbrev pub Freshness : Table → List Literal → Rule → ℕ → Bool → Type 0
-Freshness table B x w r = (P Q : Option Literal) (t : ℕ) → answer table r P Q t w x ≡ answer table (isFresh table B w) P Q t w x
+-- the flag says of the step's rule what the freshness of its w would
+abbrev pub Freshness : Table → List Literal → Step → Bool → Type 0
+Freshness table B s r = (P Q : Option Literal) (t : ℕ) → answer table r P Q t (s .w .0) (s .rule) ≡ answer table (isFresh table B (s .w .0)) P Q t (s .w .0) (s .rule)
+
+-- what a test of w says, and the rows after it
+pub record Told (table : Table) (codes : List ℕ) (len : ℕ) (s : Step) (prefix : List ℕ) (r : Asked) : Type 0 where
+  pub fresh : Freshness table (branchOf codes len) s (r .fresh)
+  pub rows : PrefixRows table codes prefix (r .noted)

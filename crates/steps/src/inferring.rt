@@ -2,11 +2,9 @@
 use crate::checks;
 use crate::reading::literal;
 use conclusions::conclude;
-use freshness::is_fresh;
 use rules::outcome::Outcome;
 use syntax::Step;
 use tableau::Reason;
-use tableau::Rule;
 use tree::Tree;
 ghost use mathlib.Core.Path.{_≡_};
 ghost use lib.ListN.{length};
@@ -14,61 +12,26 @@ ghost use Rattle.tableau.specs.Terms.{Table};
 ghost use Rattle.tableau.specs.Reply.{stepLine};
 ghost use Rattle.tableau.specs.Tree.{alternatives};
 ghost use Rattle.syntax.specs.Syntax.{stepFields, WellTaken};
-ghost use Rattle.terms.specs.Arrays.{arrays, Held};
-ghost use Rattle.table.specs.Held.{Entries};
-ghost use Rattle.mentions.specs.Mentions.{MentionRows};
+ghost use Rattle.table.specs.Held.{Searchable};
 ghost use Rattle.tree.specs.State.{IsBranch};
 ghost use Rattle.rules.specs.Answer.{Room, answerOf};
 ghost use Rattle.steps.specs.Reading.{branchOf};
-ghost use Rattle.steps.specs.Freshness.{Freshness, asksFresh, TermsNamed};
-
-fn asks_fresh(rule: Rule) -> bool
-    ensures { λ r. ⌜ r ≡ asksFresh rule ⌝ }
-{
-    match rule {
-        Rule::Ext => true,
-        Rule::Fir => true,
-        Rule::Wit => true,
-        _ => false,
-    }
-}
-
-// Is w fresh? Asked only where the rule asks it.
-fn fresh(
-    step: Step,
-    branch: &[u32; Tree::PLACES],
-    len: usize,
-    terms: &[u64; table::NUMBERS],
-    rows: &[u64; mentions::WORDS],
-    n: usize,
-) -> bool
-    requires { ⌜ ((table : Table) × Entries table (now terms) × (length table ≡ n) × TermsNamed table step) ⌝ }
-    requires { ⌜ IsBranch (now branch) len ⌝ }
-    ensures { λ r. ⌜ ((table : Table) → Entries table (now (terms .entry)) → MentionRows table (now (rows .entry)) → length table ≡ n
-        → Freshness table (branchOf (now (branch .entry)) len) (step .rule) (step .w .0) r) ⌝ }
-{
-    let rule = step.rule;
-    let w = step.w;
-    if !asks_fresh(rule) {
-        return false;
-    }
-    is_fresh(terms, rows, n, branch, len, w)
-}
+ghost use Rattle.steps.specs.Freshness.{Freshness, TermsNamed};
 
 // Checks 11 to 14 of a line that passed those before.
 fn added(
     step: Step,
+    fresh: bool,
     branch: &[u32; Tree::PLACES],
     len: usize,
     terms: &[u64; table::NUMBERS],
     chains: &[u16; table::LINKS],
-    rows: &[u64; mentions::WORDS],
-    n: usize,
 ) -> Outcome
-    requires { ⌜ ((table : Table) × Held table (arrays (now terms) (now chains) (now rows)) n × TermsNamed table step) ⌝ }
+    requires { ⌜ ((table : Table) × Searchable table (now terms) (now chains) × TermsNamed table step) ⌝ }
     requires { ⌜ IsBranch (now branch) len × WellTaken step ⌝ }
     ensures { λ r. ⌜ Room r ⌝ }
-    ensures { λ r. ⌜ ((table : Table) → Held table (arrays (now (terms .entry)) (now (chains .entry)) (now (rows .entry))) n
+    ensures { λ r. ⌜ ((table : Table) → Searchable table (now (terms .entry)) (now (chains .entry))
+        → Freshness table (branchOf (now (branch .entry)) len) step fresh
         → answerOf r ≡ alternatives table (branchOf (now (branch .entry)) len) (step .rule) (stepFields step)) ⌝ }
 {
     if !checks::places_there(len, step) {
@@ -78,27 +41,27 @@ fn added(
     let place_q = step.q;
     let p = literal(branch, len, place_p);
     let q = literal(branch, len, place_q);
-    let w_fresh = fresh(step, branch, len, terms, rows, n);
     let rule = step.rule;
     let third = step.t;
     let w = step.w;
-    conclude(rule, p, q, third, w, w_fresh, terms, chains)
+    conclude(rule, p, q, third, w, fresh, terms, chains)
 }
 
-// Checks 8, 9 and 11 to 14.
+// Checks 8, 9 and 11 to 14, where n terms are made. `fresh` says whether w is fresh, if the rule asks for that.
 pub fn infer(
     step: Step,
+    fresh: bool,
     branch: &[u32; Tree::PLACES],
     len: usize,
     terms: &[u64; table::NUMBERS],
     chains: &[u16; table::LINKS],
-    rows: &[u64; mentions::WORDS],
     n: usize,
 ) -> Outcome
-    requires { ⌜ ((table : Table) × Held table (arrays (now terms) (now chains) (now rows)) n) ⌝ }
+    requires { ⌜ ((table : Table) × Searchable table (now terms) (now chains) × (length table ≡ n)) ⌝ }
     requires { ⌜ IsBranch (now branch) len × WellTaken step ⌝ }
     ensures { λ r. ⌜ Room r ⌝ }
-    ensures { λ r. ⌜ ((table : Table) → Held table (arrays (now (terms .entry)) (now (chains .entry)) (now (rows .entry))) n
+    ensures { λ r. ⌜ ((table : Table) → Searchable table (now (terms .entry)) (now (chains .entry)) → length table ≡ n
+        → Freshness table (branchOf (now (branch .entry)) len) step fresh
         → answerOf r ≡ stepLine table (branchOf (now (branch .entry)) len) (step .rule) (stepFields step)) ⌝ }
 {
     if !checks::terms_made(n, step) {
@@ -107,5 +70,5 @@ pub fn infer(
     if !checks::sorts_fit(terms, step) {
         return Outcome::Refused(Reason::WrongSort);
     }
-    added(step, branch, len, terms, chains, rows, n)
+    added(step, fresh, branch, len, terms, chains)
 }

@@ -11,8 +11,12 @@ use lib.ListN.{length, getD, set, length-set}
 use lib.Seq.{getD-set-same, getD-set-other}
 use borrow.Author.Tests.{eqb-true, eqb-false, leb-true, leb-false}
 use Rattle.tableau.proofs.Bools.{dec}
-use Rattle.tableau.specs.Terms.{maxTerms}
-use Rattle.table.specs.Held.{hashes, hashOf, lastWith, Chains}
+use Rattle.tableau.specs.Terms.{Table, maxTerms}
+use Rattle.table.specs.Held.{hashes, hashOf, lastWith, Chains, Searchable, Seeking}
+
+hash-small : (p : ℕ) → hashOf p < hashes
+unfolding hashOf
+hash-small p = omega arith
 
 module _ (terms : List ℕ) (h : ℕ) where
   abbrev hash : ℕ → ℕ
@@ -48,40 +52,41 @@ module _ (terms : List ℕ) (h : ℕ) where
       go ih false e l le q =
           ⊎-elim (λ (z : j ≡ suc m). eqb-false _ _ e (rw z at q)) (λ (z : j < suc m). ih l (omega arith) q) (eq-or-lt-of-le le)
 
--- Where a search for the number p stands: no term past t is p, and t has p's hash.
-pub record Seeking (terms : List ℕ) (n p t : ℕ) : Type 0 where
-  pub within : t ≤ n
-  pub same : 0 < t → hashOf (getD terms t 0) ≡ hashOf p
-  pub passed : (j : ℕ) → t < j → j ≤ n → getD terms j 0 ≡ p → ⊥
-
+-- WHERE A SEARCH STANDS
 module _ (terms chains : List ℕ) (n p : ℕ) (C : Chains terms chains n) where
-  pub seek-start : (t : ℕ) → hashOf p < hashes → t ≡ getD chains (hashOf p) 0 → Seeking terms n p t
-  seek-start t l e =
-      rw (e, C .begins (hashOf p) l)
+  pub seek-start : (t : ℕ) → t ≡ getD chains (hashOf p) 0 → Seeking terms n p t
+  seek-start t e =
+      rw (e, C .begins (hashOf p) (hash-small p))
       record {
         within = last-le terms (hashOf p) n;
         same = last-hash terms (hashOf p) n;
         passed = λ j m le q. last-none terms (hashOf p) n j m le (ap hashOf q);
       }
 
-  pub seek-next : (t u : ℕ) → 0 < t → Seeking terms n p t → (getD terms t 0 ≡ p → ⊥) → u ≡ getD chains (hashes + t) 0 → Seeking terms n p u × (u < t)
+  pub seek-next : (t u : ℕ) → 0 < t → Seeking terms n p t → (getD terms t 0 ≡ p → ⊥) → u ≡ getD chains (hashes + t) 0 → Seeking terms n p u
   seek-next zero u l S differs e = absurd (omega arith)
   seek-next (suc t) u l S differs e =
       let b : t < n = S .within in
-      rw (e, C .goesOn t b, S .same l) (
-        record {
-          within = omega (arith, last-le terms (hashOf p) t);
-          same = last-hash terms (hashOf p) t;
-          passed = λ j m le q. elim (dec (leb j (suc t))) [
-            | inl z ↦ ⊎-elim
-                (λ (y : j ≡ suc t). differs (rw y at q))
-                (λ (y : j < suc t). last-none terms (hashOf p) t j m (omega arith) (ap hashOf q))
-                (eq-or-lt-of-le (leb-true j (suc t) z))
-            | inr z ↦ S .passed j (leb-false j (suc t) z) le q
-          ];
-        },
-        omega (arith, last-le terms (hashOf p) t),
-      )
+      rw (e, C .goesOn t b, S .same l)
+      record {
+        within = omega (arith, last-le terms (hashOf p) t);
+        same = last-hash terms (hashOf p) t;
+        passed = λ j m le q. elim (dec (leb j (suc t))) [
+          | inl z ↦ ⊎-elim
+              (λ (y : j ≡ suc t). differs (rw y at q))
+              (λ (y : j < suc t). last-none terms (hashOf p) t j m (omega arith) (ap hashOf q))
+              (eq-or-lt-of-le (leb-true j (suc t) z))
+          | inr z ↦ S .passed j (leb-false j (suc t) z) le q
+        ];
+      }
+
+-- it stands in the table
+abbrev pub AllSeeking : List ℕ → List ℕ → ℕ → ℕ → Type 0
+AllSeeking terms chains p t = (table : Table) → Searchable table terms chains → Seeking terms (length table) p t
+
+pub seek-within : {terms chains : List ℕ} {p t : ℕ} → (table : Table) × Searchable table terms chains → AllSeeking terms chains p t
+    → (t ≤ maxTerms) × AllSeeking terms chains p t
+seek-within G K = (omega (arith, K (G .0) (G .1) .within, G .1 .entries .few), K)
 
 -- A further term: it changes no chain below itself, and begins its own.
 last-set : (terms : List ℕ) (h t p m : ℕ) → m < t → lastWith (set terms t p) h m ≡ lastWith terms h m
@@ -94,7 +99,7 @@ module _ (terms chains : List ℕ) (n p : ℕ) (C : Chains terms chains n) (room
   x = hashOf p
 
   small : x < hashes
-  small = omega arith
+  small = hash-small p
 
   abbrev linked : List ℕ
   linked = set chains (hashes + suc n) (getD chains x 0)

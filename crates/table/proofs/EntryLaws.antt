@@ -1,13 +1,17 @@
 -- What the arrays tell of the table that they hold.
 use mathlib.Core.Path.{_≡_, refl, sym, _∙_, ap}
 use mathlib.Core.List.{List}
+use mathlib.Core.Logic.{inl, inr}
 use mathlib.Core.Option.{Option, none, some}
-use Prim.Native.Nat.{ℕ, _<_, _≤_}
+use Prim.Native.Nat.{ℕ, _+_, _<_, _≤_}
 use native.Mathlib.Omega.{arith}
+use lib.Dec.{ltb}
 use lib.ListN.{length, getD}
+use borrow.Author.Tests.{ltb-true, ltb-false}
 use Rattle.tableau.specs.Terms.{TermNo, Table, Term, at, numberOf}
+use Rattle.tableau.proofs.Bools.{dec}
 use Rattle.packing.specs.Packing.{packTerm, Packs}
-use Rattle.table.specs.Held.{Entries, Searchable, foundOf, SmallFound}
+use Rattle.table.specs.Held.{Entries, Searchable, Absent, foundOf, SmallFound}
 use Rattle.packing.proofs.PackingLaws.{pack-injective}
 use Rattle.table.proofs.NumberLaws.{found-in}
 
@@ -34,3 +38,19 @@ found-small table terms E e = go (numberOf table e) refl
     go : (o : Option TermNo) → numberOf table e ≡ o → SmallFound (foundOf o)
     go none q = tt
     go (some j) q = let l : j ≤ length table = found-in table e j q .last in omega (arith, E .few)
+
+-- TERMS THAT ARE NOT the one looked for, one after the other
+pub absent-none : (terms : List ℕ) (p first : ℕ) → Absent terms p first first
+absent-none terms p first j l m q = absurd (omega arith)
+
+pub absent-more : (terms : List ℕ) (p first last n : ℕ) → Absent terms p first last → (getD terms last 0 ≡ p → ⊥) → n ≡ last + 1 → Absent terms p first n
+absent-more terms p first last n a d next j l m q = elim (dec (ltb j last)) [
+  | inl z ↦ a j l (ltb-true j last z) q
+  | inr z ↦ let e : j ≡ last = omega (arith, ltb-false j last z) in d (rw e at q)
+]
+
+pub absent-both : (terms : List ℕ) (p first mid last : ℕ) → Absent terms p first mid → Absent terms p mid last → Absent terms p first last
+absent-both terms p first mid last a b j l m q = elim (dec (ltb j mid)) [
+  | inl z ↦ a j l (ltb-true j mid z) q
+  | inr z ↦ b j (ltb-false j mid z) m q
+]

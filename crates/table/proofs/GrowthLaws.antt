@@ -16,7 +16,7 @@ use Rattle.tableau.specs.Terms.{TermNo, Table, Term, result, sortIndex, operato
 use Rattle.tableau.proofs.Bools.{dec, eqb-same}
 use Rattle.tableau.proofs.TableGrowth.{at-snoc}
 use Rattle.packing.specs.Packing.{wordCode, wordSort, wordBits, packTerm, Packable}
-use Rattle.table.specs.Held.{Entries, hashes, hashOf, lastWith, Searchable}
+use Rattle.table.specs.Held.{Entries, hashes, hashOf, links, lastWith, Searchable}
 use Rattle.table.proofs.NumberLaws.{number-kept, number-added}
 use Rattle.table.proofs.ChainLaws.{chains-more}
 
@@ -90,7 +90,7 @@ entries-empty n q = record {
   packable = λ t. (omega arith, omega arith, omega arith, omega arith);
 }
 
-pub searchable-empty : (n m : ℕ) → n ≡ 1024 → m ≡ 1568 → Searchable [] (replicate {A = ℕ} n 0) (replicate {A = ℕ} m 0)
+pub searchable-empty : (n m : ℕ) → n ≡ 1024 → m ≡ links → Searchable [] (replicate {A = ℕ} n 0) (replicate {A = ℕ} m 0)
 unfolding lastWith
 searchable-empty n m qn qm = record {
   entries = entries-empty n qn;

@@ -17,7 +17,7 @@ use Rattle.tableau.proofs.Soundness.{term-ok}
 use Rattle.syntax.specs.declared.Term.{Term}
 use Rattle.syntax.specs.Syntax.{wordIn, fieldsIn, termIn}
 use Rattle.packing.specs.Packing.{packTerm, nameLimit, Packable}
-use Rattle.table.specs.Held.{hashes, hashOf}
+use Rattle.table.specs.Held.{hashes, hashOf, links}
 use Rattle.table.proofs.GrowthLaws.{length-grown, at-last, at-old, searchable-grown, searchable-empty}
 use Rattle.mentions.specs.Mentions.{termArguments, Noted}
 use Rattle.mentions.proofs.GrowthLaws.{ArgumentsMade, arguments-below, rows-grown, rows-empty}
@@ -63,10 +63,10 @@ held-grown table term old new n p H P A =
           (old .rows) (new .rows) (H .mentioned) (P .arguments) (rw q at (A .noted));
     }
 
-pub held-empty : Held [] (arrays (replicate {A = ℕ} 1024 0) (replicate {A = ℕ} 1568 0) (replicate {A = ℕ} 6010 0)) 0
+pub held-empty : Held [] (arrays (replicate {A = ℕ} 1024 0) (replicate {A = ℕ} links 0) (replicate {A = ℕ} 6010 0)) 0
 held-empty = record {
   count = refl;
   wellFormed = empty-well-formed;
-  searchable = searchable-empty 1024 1568 refl refl;
+  searchable = searchable-empty 1024 links refl refl;
   mentioned = rows-empty 6010 refl;
 }

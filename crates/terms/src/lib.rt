@@ -1,6 +1,6 @@
 // T lines make terms, A lines make literals of them: checks 7 to 10, in arrays that the caller lends. (Check 6, that unused fields are
 // 0, is the caller's.)
-use packing::terms::pack;
+use packing::term_codes::pack;
 use syntax::Literal;
 use syntax::Term;
 use table::Found;

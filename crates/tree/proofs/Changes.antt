@@ -2,24 +2,25 @@
 use Prim.Native.Nat.{ℕ, _+_, _-_, _≤_, _<_, min, max}
 use mathlib.Core.Path.{_≡_, refl, sym, _∙_, subst}
 use mathlib.Core.Bool.{true, false}
-use mathlib.Core.List.{List, [], _∷_, map, map-append}
+use mathlib.Core.List.{List, [], _∷_, map, map-append, append-nil}
 use native.Mathlib.Decide.{decLe}
 use native.Mathlib.Omega.{arith}
 use borrow.Author.Tests.{le-leb, lt-leb}
-use lib.ListN.{length, take, getD, length-map}
+use lib.ListN.{length, take, length-map}
 use lib.Seq.{length-take-le}
 use Rattle.tableau.specs.declared.Reason.{Reason}
 use Rattle.tableau.specs.Terms.{Literal}
-use Rattle.tableau.specs.Tree.{maxPlaces, maxWaiting, passed, roomOnBranch, roomToWait, close, grow, grown}
+use Rattle.tableau.specs.Tree.{maxPlaces, maxWaiting, passed, isOpen, isClosed, roomOnBranch, roomToWait, close, grow, grown}
 use Rattle.tree.specs.declared.Alternative.{Alternative}
-use Rattle.tree.specs.declared.Extended.{Extended}
-use Rattle.tree.specs.declared.Tree.{Tree}
-use Rattle.tree.specs.declared.Answer.{Answer}
+use Rattle.tree.specs.declared.Begun.{Begun}
+use Rattle.tree.specs.declared.Extent.{Extent}
 use Rattle.tree.specs.declared.Change.{Change}
-use Rattle.tree.specs.State.{AtMost, codesOf, cutOf, unpacked, Appended, treeOf, Within}
-use Rattle.tree.specs.Change.{Gives, Extends}
+use Rattle.tree.specs.declared.Growth.{Growth}
+use Rattle.tree.specs.declared.Tree.{Tree}
+use Rattle.tree.specs.State.{AtMost, codesOf, cutOf, unpacked, topOf, treeOf, Within}
+use Rattle.tree.specs.Change.{noneBegun, unchangedFrom, extentOf, InLimits, changed, Fits, Stored, grownBy, Gives}
 use Rattle.tree.proofs.Arrays.{take-min, take-map}
-use Rattle.tree.proofs.Waiting.{Pushed, push-none, stack-length, stack-pop}
+use Rattle.tree.proofs.Waiting.{Begins, begins-none, stack-length, stack-pop, top-at, unpacked-holds}
 
 -- CHECK 15, by the count of the longest alternative.
 abbrev pub longest : List Alternative → ℕ
@@ -50,89 +51,117 @@ over f n (a ∷ ks) s h r =
       | no p ↦ let q : maxPlaces < n + a .count = omega arith in rw (codes-length f a (s .0), lt-leb _ _ q)
     ]
 
--- the next alternative to be taken
-abbrev pub top : Tree → ℕ
-top t = getD (t .waiting) (t .count - 1) 0
-
 module _ (t : Tree) (w : Within t) where
-  pub branch-length : (f : ℕ → Literal) → length (treeOf f t .branch) ≡ t .len
+  branch-length : (f : ℕ → Literal) → length (treeOf f t .branch) ≡ t .len
   branch-length f = length-map (take (t .len) (t .branch)) f ∙ length-take-le (t .len) (t .branch) (omega arith)
 
   -- A STEP with the alternatives a and ks
   module _ (a : Alternative) (ks : List Alternative) (s : Short (a ∷ ks)) where
-    abbrev pub Grows : Change → Type 0
-    Grows = Gives t (λ f τ. grown τ (map (map f) (map codesOf (a ∷ ks))))
+    abbrev Grows : Growth → Type 0
+    Grows r = (f : ℕ → Literal) → grownBy f t r ≡ grown (treeOf f t) (map (map f) (map codesOf (a ∷ ks)))
 
     waiting-length : (f : ℕ → Literal) → length (map (map f) (map codesOf ks)) + length (treeOf f t .waiting) ≡ length ks + t .count
     waiting-length f = rw (length-map (map codesOf ks) (map f), length-map ks codesOf, stack-length f (t .waiting) (t .count))
 
-    pub branch-full : maxPlaces < t .len + longest (a ∷ ks) → Grows record { tree = t; answer = Answer.Refused Reason.BranchFull }
+    full : maxPlaces < t .len + longest (a ∷ ks) → Grows (Growth.Refused Reason.BranchFull)
     unfolding grown
-    branch-full r = record { within = w; result = λ f. rw (branch-length f, over f (t .len) (a ∷ ks) s (w .branch .room) r); kept = refl }
+    full r f = rw (branch-length f, over f (t .len) (a ∷ ks) s (w .branch .room) r)
 
-    module _ (fits : t .len + longest (a ∷ ks) ≤ maxPlaces) where
-      pub waiting-full : maxWaiting < length ks + t .count → Grows record { tree = t; answer = Answer.Refused Reason.WaitingFull }
-      unfolding grown roomToWait
-      waiting-full r = record {
-        within = w;
-        result = λ f. rw (branch-length f, room f (t .len) (a ∷ ks) s fits, waiting-length f, lt-leb _ _ r);
-        kept = refl;
-      }
+    crowded : t .len + longest (a ∷ ks) ≤ maxPlaces → maxWaiting < length ks + t .count → Grows (Growth.Refused Reason.WaitingFull)
+    unfolding grown roomToWait
+    crowded h r f = rw (branch-length f, room f (t .len) (a ∷ ks) s h, waiting-length f, lt-leb _ _ r)
 
-      pub grow-open : (t′ : Tree) → length ks + t .count ≤ maxWaiting → Appended (t .branch) (t .len) (codesOf a) (t′ .branch) (t′ .len)
-          → Pushed (t .waiting) (t .count) (t .len) (map codesOf ks) (t′ .waiting) (t′ .count) → Grows record { tree = t′; answer = Answer.Open }
-      unfolding grown roomToWait grow
-      grow-open t′ r b p = record {
-        within = record { branch = b .branch; waiting = p .stack };
-        result = λ f.
-            rw (
-              branch-length f,
-              room f (t .len) (a ∷ ks) s fits,
-              waiting-length f,
-              le-leb _ _ r,
-              b .codes,
-              map-append f (take (t .len) (t .branch)) (codesOf a),
-              p .waiting f,
-            );
-        kept = tt;
-      }
-
-  -- ONE ALTERNATIVE, added in place
-  module _ (a : Alternative) (h : AtMost 3 a) (b : List ℕ) where
-    abbrev with : ℕ → Answer → Change
-    with n r = record { tree = record { branch = b; len = n; waiting = t .waiting; count = t .count }; answer = r }
-
-    abbrev Adds : Change → Type 0
-    Adds = Gives t (λ f τ. grown τ (map (map f) (codesOf a ∷ [])))
-
-    pub extend-open : (n : ℕ) → Extends (t .branch) (t .len) a b (Extended.To n) → Adds (with n Answer.Open)
-    extend-open n e = grow-open a [] (omega arith) (omega (arith, e .0)) _ (omega arith) (e .1) (push-none _ (w .waiting))
-
-    pub extend-full : Extends (t .branch) (t .len) a b Extended.Full → Adds (with (t .len) (Answer.Refused Reason.BranchFull))
-    extend-full e =
-        subst (λ (x : List ℕ). Adds (record { tree = record { branch = x; len = t .len; waiting = t .waiting; count = t .count }; answer = Answer.Refused Reason.BranchFull }))
-        (sym (e .1)) (branch-full a [] (omega arith) (omega (arith, e .0)))
+    grows : (b : Begun) → t .len + longest (a ∷ ks) ≤ maxPlaces → length ks + t .count ≤ maxWaiting → Begins b (t .len) ks
+        → Grows (Growth.To (record { cut = t .len; adds = a; kept = t .count; begun = b }))
+    unfolding grown roomToWait grow
+    grows b h r p f = rw (branch-length f, room f (t .len) (a ∷ ks) s h, waiting-length f, le-leb _ _ r, p .waiting f)
 
   -- A CLOSING
-  abbrev pub Closes : Change → Type 0
-  Closes = Gives t (λ f τ. passed (close (τ .branch) (τ .waiting)))
+  abbrev closed : Extent → Change
+  closed e = record { cut = min (cutOf (e .top)) (e .len); adds = unpacked (e .top); kept = e .count - 1; begun = noneBegun }
 
-  pub close-last : t .count ≡ 0 → Closes record { tree = t; answer = Answer.Closed }
+  closes-last : t .count ≡ 0 → (f : ℕ → Literal) → passed isClosed ≡ passed (close (treeOf f t .branch) (treeOf f t .waiting))
   unfolding close
-  close-last e = record { within = w; result = λ f. rw e; kept = refl }
+  closes-last e f = rw e
 
-  pub close-open : (b : List ℕ) (n : ℕ) → (t .count ≡ 0 → ⊥) → Appended (t .branch) (min (cutOf (top t)) (t .len)) (codesOf (unpacked (top t))) b n
-      → Closes record { tree = record { branch = b; len = n; waiting = t .waiting; count = t .count - 1 }; answer = Answer.Open }
+  closes-more : (t .count ≡ 0 → ⊥) → (f : ℕ → Literal)
+      → passed (isOpen (changed f t (closed (extentOf t)))) ≡ passed (close (treeOf f t .branch) (treeOf f t .waiting))
   unfolding close
-  close-open b n h a = record {
-    within = record { branch = a .branch; waiting = record { size = w .waiting .size; room = omega arith; places = w .waiting .places } };
-    result = λ f.
-        rw (
-          stack-pop f (t .waiting) (t .count) h,
-          a .codes,
-          map-append f (take (min (cutOf (top t)) (t .len)) (t .branch)) (codesOf (unpacked (top t))),
-          take-map f (cutOf (top t)) (take (t .len) (t .branch)),
-          take-min (cutOf (top t)) (t .len) (t .branch),
-        );
-    kept = tt;
+  closes-more h f =
+      let top = topOf (t .waiting) (t .count) in
+      rw (
+        stack-pop f (t .waiting) (t .count) h,
+        take-map f (cutOf top) (take (t .len) (t .branch)),
+        take-min (cutOf top) (t .len) (t .branch),
+      )
+
+  top-places : (t .count ≡ 0 → ⊥) → cutOf (topOf (t .waiting) (t .count)) + unpacked (topOf (t .waiting) (t .count)) .count ≤ maxPlaces
+  top-places h = subst (λ (x : ℕ). cutOf x + unpacked x .count ≤ maxPlaces) (top-at (t .waiting) (t .count) h) (w .waiting .places (t .count - 1))
+
+-- THE METHODS of an extent, by the laws above for the trees that have it.
+module _ (e : Extent) (a : Alternative) (ks : List Alternative) (s : Short (a ∷ ks)) where
+  abbrev Steps : Growth → Type 0
+  Steps = Gives e (λ f τ. grown τ (map (map f) (map codesOf (a ∷ ks))))
+
+  pub branch-full : maxPlaces < e .len + longest (a ∷ ks) → Steps (Growth.Refused Reason.BranchFull)
+  branch-full r = record {
+    fits = λ t w q. tt;
+    result = λ t w q. full t w a ks s (subst (λ (x : Extent). maxPlaces < x .len + longest (a ∷ ks)) (sym q) r);
   }
+
+  module _ (h : e .len + longest (a ∷ ks) ≤ maxPlaces) where
+    pub waiting-full : maxWaiting < length ks + e .count → Steps (Growth.Refused Reason.WaitingFull)
+    waiting-full r = record {
+      fits = λ t w q. tt;
+      result = λ t w q.
+          crowded t w a ks s (subst (λ (x : Extent). x .len + longest (a ∷ ks) ≤ maxPlaces) (sym q) h)
+          (subst (λ (x : Extent). maxWaiting < length ks + x .count) (sym q) r);
+    }
+
+    pub steps-to : (b : Begun) → AtMost 3 a → length ks + e .count ≤ maxWaiting → Begins b (e .len) ks
+        → Steps (Growth.To (record { cut = e .len; adds = a; kept = e .count; begun = b }))
+    steps-to b g r p = record {
+      fits = λ t w q. record { cut = omega arith; adds = g; places = omega arith; kept = omega arith; waiting = omega (arith, p .count); begun = p .mayWait };
+      result = λ t w q. subst (λ (x : Extent). x .len + longest (a ∷ ks) ≤ maxPlaces → length ks + x .count ≤ maxWaiting → Begins b (x .len) ks → (f : ℕ → Literal)
+          → grownBy f t (Growth.To (record { cut = x .len; adds = a; kept = x .count; begun = b })) ≡ grown (treeOf f t) (map (map f) (map codesOf (a ∷ ks)))) q
+          (grows t w a ks s b) h r p;
+    }
+
+module _ (e : Extent) where
+  abbrev Closes : Growth → Type 0
+  Closes = Gives e (λ f τ. passed (close (τ .branch) (τ .waiting)))
+
+  pub close-last : e .count ≡ 0 → Closes Growth.Closed
+  close-last z = record { fits = λ t w q. tt; result = λ t w q. closes-last t w (subst (λ (x : Extent). x .count ≡ 0) (sym q) z) }
+
+  pub close-more : (e .count ≡ 0 → ⊥) → Closes (Growth.To (record { cut = min (cutOf (e .top)) (e .len); adds = unpacked (e .top); kept = e .count - 1; begun = noneBegun }))
+  close-more h = record {
+    fits = λ t w q.
+        let k : cutOf (e .top) + unpacked (e .top) .count ≤ maxPlaces = subst (λ (x : Extent). (x .count ≡ 0 → ⊥) → cutOf (x .top) + unpacked (x .top) .count ≤ maxPlaces) q (top-places t w) h in
+        let n : e .count ≤ maxWaiting = subst (λ (x : Extent). x .count ≤ maxWaiting) q (w .waiting .room) in
+        record { cut = omega arith; adds = unpacked-holds (e .top); places = omega (arith, k); kept = omega arith; waiting = omega (arith, n); begun = begins-none 0 .mayWait };
+    result = λ t w q. subst (λ (x : Extent). (x .count ≡ 0 → ⊥) → (f : ℕ → Literal)
+        → passed (isOpen (changed f t (record { cut = min (cutOf (x .top)) (x .len); adds = unpacked (x .top); kept = x .count - 1; begun = noneBegun })))
+        ≡ passed (close (treeOf f t .branch) (treeOf f t .waiting))) q (closes-more t w) h;
+  }
+
+-- WHAT IS STORED for a change is the tree that the change makes.
+pub stored-tree : {t t′ : Tree} {c : Change} → Stored t c t′ → (f : ℕ → Literal) → treeOf f t′ ≡ changed f t c
+stored-tree {t} {t′} {c} s f = rw (s .branch .codes, map-append f (take (c .cut) (t .branch)) (codesOf (c .adds)), s .waiting .waiting f)
+
+pub stored-within : {t t′ : Tree} {c : Change} → Stored t c t′ → Within t′
+stored-within s = record { branch = s .branch .branch; waiting = s .waiting .stack }
+
+-- the change that leaves the tree as it is
+pub unchanged-fits : (e : Extent) → InLimits e → Fits e (unchangedFrom e)
+unchanged-fits e l = record {
+  cut = omega arith;
+  adds = record { count = omega arith; first = omega arith; second = omega arith; third = omega arith };
+  places = omega (arith, l .len);
+  kept = omega arith;
+  waiting = omega (arith, l .count);
+  begun = begins-none 0 .mayWait;
+}
+
+pub unchanged-tree : (f : ℕ → Literal) (t : Tree) → changed f t (unchangedFrom (extentOf t)) ≡ treeOf f t
+unchanged-tree f t = rw (append-nil (map f (take (t .len) (t .branch))))

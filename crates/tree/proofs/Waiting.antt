@@ -9,7 +9,9 @@ use lib.Seq.{getD-set-same, getD-set-other}
 use Rattle.tableau.specs.Terms.{Literal}
 use Rattle.tableau.specs.Tree.{maxPlaces, maxWaiting, Waiting}
 use Rattle.tree.specs.declared.Alternative.{Alternative}
-use Rattle.tree.specs.State.{codesOf, AtMost, packed, cutOf, unpacked, IsStack, waitingOf, stackOf}
+use Rattle.tree.specs.declared.Begun.{Begun}
+use Rattle.tree.specs.State.{codesOf, AtMost, packed, cutOf, unpacked, IsStack, waitingOf, stackOf, topOf, begunOf, MayWait, Pushed}
+use Rattle.tree.specs.Change.{noneBegun}
 use Rattle.tree.proofs.Arrays.{all-set}
 
 -- the third code is not packed
@@ -49,42 +51,62 @@ stack-set f l zero m x h = refl
 stack-set f l (suc n) m x h = cc (getD-set-other l m n x 0 (λ e. omega arith), stack-set f l n m x (omega arith))
 
 -- the top, and the rest
-pub stack-pop : (f : ℕ → Literal) (l : List ℕ) (n : ℕ) → (n ≡ 0 → ⊥) → stackOf f l n ≡ waitingOf f (getD l (n - 1) 0) ∷ stackOf f l (n - 1)
+pub stack-pop : (f : ℕ → Literal) (l : List ℕ) (n : ℕ) → (n ≡ 0 → ⊥) → stackOf f l n ≡ waitingOf f (topOf l n) ∷ stackOf f l (n - 1)
 stack-pop f l zero h = absurd (h refl)
 stack-pop f l (suc n) h = let e : suc n - 1 ≡ n = omega arith in rw e
+
+pub top-at : (l : List ℕ) (n : ℕ) → (n ≡ 0 → ⊥) → getD l (n - 1) 0 ≡ topOf l n
+top-at l zero h = absurd (h refl)
+top-at l (suc n) h = let e : suc n - 1 ≡ n = omega arith in rw e
 
 abbrev pub wait : ℕ → List Literal → Waiting
 wait cut k = record { length = cut; alternative = k }
 
--- Alternatives of one split on top of a stack, the first of them topmost.
-pub record Pushed (l : List ℕ) (n cut : ℕ) (more : List (List ℕ)) (l′ : List ℕ) (n′ : ℕ) : Type 0 where
-  pub stack : IsStack l′ n′
-  pub waiting : (f : ℕ → Literal) → stackOf f l′ n′ ≡ map (wait cut) (map (map f) more) ++ stackOf f l n
+-- packed alternatives stored on top of a stack, one after the other
+pub push-none : {l : List ℕ} {n : ℕ} → IsStack l n → Pushed l n [] l n
+push-none w = record { stack = w; waiting = λ f. refl }
 
-pub push-none : {l : List ℕ} {n : ℕ} (cut : ℕ) → IsStack l n → Pushed l n cut [] l n
-push-none cut w = record { stack = w; waiting = λ f. refl }
+pub push-one : {l : List ℕ} {n : ℕ} {more : List ℕ} {l′ : List ℕ} {n′ : ℕ} (n″ x : ℕ) → Pushed l n more l′ n′ → n′ < maxWaiting
+    → cutOf x + unpacked x .count ≤ maxPlaces → n″ ≡ n′ + 1 → Pushed l n (x ∷ more) (set l′ n′ x) n″
+push-one {l} {n} {more} {l′} {n′} n″ x p room places next = record {
+  stack = record {
+    size = length-set l′ n′ x ∙ p .stack .size;
+    room = omega arith;
+    places = all-set (λ y. cutOf y + unpacked y .count ≤ maxPlaces) l′ n′ x (p .stack .places) places;
+  };
+  waiting = λ f. rw (next, add-one, getD-set-same l′ n′ x 0 (omega arith), stack-set f l′ n′ n′ x (omega arith), p .waiting f);
+}
 
-pub push-one : {l : List ℕ} {n cut : ℕ} {more : List (List ℕ)} {l′ : List ℕ} {n′ : ℕ} (n″ : ℕ) (a : Alternative) → Pushed l n cut more l′ n′
-    → n′ < maxWaiting → cut + a .count ≤ maxPlaces → AtMost 2 a → n″ ≡ n′ + 1 → Pushed l n cut (codesOf a ∷ more) (set l′ n′ (packed cut a)) n″
-push-one {l} {n} {cut} {more} {l′} {n′} n″ a p room places h next =
-    let w = packed cut a in
-    let c : cut ≤ maxPlaces = omega arith in
-    record {
-      stack = record {
-        size = length-set l′ n′ w ∙ p .stack .size;
-        room = omega arith;
-        places =
-            all-set (λ x. cutOf x + unpacked x .count ≤ maxPlaces) l′ n′ w (p .stack .places)
-            (rw (cut-packed cut a c h, count-packed cut a c h) places);
-      };
-      waiting = λ f.
-          rw (
-            next,
-            add-one,
-            getD-set-same l′ n′ w 0 (omega arith),
-            stack-set f l′ n′ n′ w (omega arith),
-            cut-packed cut a c h,
-            codes-packed cut a c h,
-            p .waiting f,
-          );
-    }
+-- ALTERNATIVES OF ONE SPLIT that begin to wait, packed with the length of the branch there
+pub record Begins (b : Begun) (cut : ℕ) (ks : List Alternative) : Type 0 where
+  pub count : b .count ≡ length ks
+  pub mayWait : MayWait b
+  pub waiting : (f : ℕ → Literal) → map (waitingOf f) (begunOf b) ≡ map (wait cut) (map (map f) (map codesOf ks))
+
+pub begins-none : (cut : ℕ) → Begins noneBegun cut []
+begins-none cut = record { count = refl; mayWait = record { count = omega arith; first = omega arith; last = omega arith }; waiting = λ f. refl }
+
+module _ (cut : ℕ) (a : Alternative) (g : AtMost 2 a) (room : cut + a .count ≤ maxPlaces) where
+  inside : cut ≤ maxPlaces
+  inside = omega arith
+
+  pub waiting-packed : (f : ℕ → Literal) → waitingOf f (packed cut a) ≡ wait cut (map f (codesOf a))
+  waiting-packed f = rw (cut-packed cut a inside g, codes-packed cut a inside g)
+
+  pub room-packed : cutOf (packed cut a) + unpacked (packed cut a) .count ≤ maxPlaces
+  room-packed = rw (cut-packed cut a inside g, count-packed cut a inside g) room
+
+  pub begins-one : Begins (record { count = 1; first = packed cut a; last = 0 }) cut (a ∷ [])
+  begins-one = record {
+    count = refl;
+    mayWait = record { count = omega arith; first = room-packed; last = omega arith };
+    waiting = λ f. rw (waiting-packed f);
+  }
+
+pub begins-two : (cut : ℕ) (a k : Alternative) → AtMost 2 a → cut + a .count ≤ maxPlaces → AtMost 2 k → cut + k .count ≤ maxPlaces
+    → Begins (record { count = 2; first = packed cut a; last = packed cut k }) cut (a ∷ k ∷ [])
+begins-two cut a k g r h s = record {
+  count = refl;
+  mayWait = record { count = omega arith; first = room-packed cut a g r; last = room-packed cut k h s };
+  waiting = λ f. rw (waiting-packed cut a g r f, waiting-packed cut k h s f);
+}

@@ -1,36 +1,69 @@
--- What a method of the tree hands back, and what is added to the branch in place.
+-- What a step makes of a tree, worked out from the tree's extent.
 use mathlib.Core.Path.{_≡_}
-use mathlib.Core.List.{List}
-use Prim.Native.Nat.{ℕ, _+_, _≤_, _<_}
+use mathlib.Core.List.{_++_, map}
+use Prim.Native.Nat.{ℕ, _+_, _≤_}
+use lib.ListN.{take}
 use Rattle.tableau.specs.Terms.{Literal}
 use Rattle.tableau.specs.Tree as specification
-use Rattle.tableau.specs.Tree.{Checked, refused, passed, Status, isOpen, isClosed, maxPlaces}
+use Rattle.tableau.specs.Tree.{Checked, refused, passed, Status, isOpen, isClosed, maxPlaces, maxWaiting}
 use Rattle.tree.specs.declared.Alternative.{Alternative}
-use Rattle.tree.specs.declared.Extended.{Extended}
-use Rattle.tree.specs.declared.Tree.{Tree}
-use Rattle.tree.specs.declared.Answer.{Answer}
+use Rattle.tree.specs.declared.Extent.{Extent}
+use Rattle.tree.specs.declared.Begun.{Begun}
 use Rattle.tree.specs.declared.Change.{Change}
-use Rattle.tree.specs.State.{codesOf, Appended, treeOf, Within}
+use Rattle.tree.specs.declared.Growth.{Growth}
+use Rattle.tree.specs.declared.Tree.{Tree}
+use Rattle.tree.specs.State.{codesOf, AtMost, waitingOf, stackOf, topOf, begunOf, MayWait, Appended, Pushed, treeOf, Within}
 
--- the answer of a method, as the specification says it
-abbrev pub answered : specification.Tree → Answer → Checked Status
-answered τ Answer.Open = passed (isOpen τ)
-answered τ Answer.Closed = passed isClosed
-answered τ (Answer.Refused r) = refused r
+-- THE EXTENT of a tree
+abbrev pub extentOf : Tree → Extent
+extentOf t = record { len = t .len; count = t .count; top = topOf (t .waiting) (t .count) }
 
--- an answer other than `Open` leaves the state as it was
-abbrev pub Kept : Answer → Tree → Tree → Type 0
-Kept Answer.Open t t′ = Unit {0}
-Kept Answer.Closed t t′ = t′ ≡ t
-Kept (Answer.Refused r) t t′ = t′ ≡ t
+pub record InLimits (e : Extent) : Type 0 where
+  pub len : e .len ≤ maxPlaces
+  pub count : e .count ≤ maxWaiting
 
--- For every reading of the codes, the change is what g says of the tree before.
-pub record Gives (t : Tree) (g : (ℕ → Literal) → specification.Tree → Checked Status) (o : Change) : Type 0 where
-  pub within : Within (o .tree)
-  pub result : (f : ℕ → Literal) → answered (treeOf f (o .tree)) (o .answer) ≡ g f (treeOf f t)
-  pub kept : Kept (o .answer) t (o .tree)
+-- A CHANGE: the tree that it makes of a tree, and what is so of one that the arrays have room for.
+abbrev pub changed : (ℕ → Literal) → Tree → Change → specification.Tree
+changed f t c = record {
+  branch = map f (take (c .cut) (t .branch)) ++ map f (codesOf (c .adds));
+  waiting = map (waitingOf f) (begunOf (c .begun)) ++ stackOf f (t .waiting) (c .kept);
+}
 
--- An alternative added in place to a branch of n codes: all of it, or, where it has no room, nothing.
-abbrev pub Extends : List ℕ → ℕ → Alternative → List ℕ → Extended → Type 0
-Extends array n a array′ (Extended.To n′) = (n + a .count ≤ maxPlaces) × Appended array n (codesOf a) array′ n′
-Extends array n a array′ Extended.Full = (maxPlaces < n + a .count) × (array′ ≡ array)
+pub record Fits (e : Extent) (c : Change) : Type 0 where
+  pub cut : c .cut ≤ e .len
+  pub adds : AtMost 3 (c .adds)
+  pub places : c .cut + c .adds .count ≤ maxPlaces
+  pub kept : c .kept ≤ e .count
+  pub waiting : c .kept + c .begun .count ≤ maxWaiting
+  pub begun : MayWait (c .begun)
+
+-- the change that leaves the tree as it is
+abbrev pub noLiterals : Alternative
+noLiterals = record { count = 0; first = 0; second = 0; third = 0 }
+
+abbrev pub noneBegun : Begun
+noneBegun = record { count = 0; first = 0; last = 0 }
+
+abbrev pub unchangedFrom : Extent → Change
+unchangedFrom e = record { cut = e .len; adds = noLiterals; kept = e .count; begun = noneBegun }
+
+-- what is stored for a change
+pub record Stored (t : Tree) (c : Change) (t′ : Tree) : Type 0 where
+  pub branch : Appended (t .branch) (c .cut) (codesOf (c .adds)) (t′ .branch) (t′ .len)
+  pub waiting : Pushed (t .waiting) (c .kept) (begunOf (c .begun)) (t′ .waiting) (t′ .count)
+
+-- THE GROWTH of a tree by a step, as the specification says it
+abbrev pub grownBy : (ℕ → Literal) → Tree → Growth → Checked Status
+grownBy f t (Growth.To c) = passed (isOpen (changed f t c))
+grownBy f t Growth.Closed = passed isClosed
+grownBy f t (Growth.Refused r) = refused r
+
+abbrev pub FitsIn : Extent → Growth → Type 0
+FitsIn e (Growth.To c) = Fits e c
+FitsIn e Growth.Closed = Unit {0}
+FitsIn e (Growth.Refused r) = Unit {0}
+
+-- For every tree of this extent and every reading of the codes, the growth is what g says of the tree.
+pub record Gives (e : Extent) (g : (ℕ → Literal) → specification.Tree → Checked Status) (r : Growth) : Type 0 where
+  pub fits : (t : Tree) → Within t → extentOf t ≡ e → FitsIn e r
+  pub result : (t : Tree) → Within t → extentOf t ≡ e → (f : ℕ → Literal) → grownBy f t r ≡ g f (treeOf f t)

@@ -11,6 +11,7 @@ use Rattle.tableau.specs.Tree as specification
 use Rattle.tableau.specs.Tree.{literalAt, onBranch, maxPlaces, maxWaiting, Waiting}
 use Rattle.packing.specs.Packing.{codeLimit}
 use Rattle.tree.specs.declared.Alternative.{Alternative}
+use Rattle.tree.specs.declared.Begun.{Begun}
 use Rattle.tree.specs.declared.Tree.{Tree}
 
 -- ALTERNATIVES: the codes that one adds, in order.
@@ -73,7 +74,27 @@ abbrev pub stackOf : (ℕ → Literal) → List ℕ → ℕ → List Waiting
 stackOf f array zero = []
 stackOf f array (suc n) = waitingOf f (getD array n 0) ∷ stackOf f array n
 
--- THE TREE that a state stands for, and what every method requires and ensures of a state.
+-- the packed alternative that is taken next; 0 where none waits
+abbrev pub topOf : List ℕ → ℕ → ℕ
+topOf array zero = 0
+topOf array (suc n) = getD array n 0
+
+-- the packed alternatives that begin to wait, the one that is taken first in front
+abbrev pub begunOf : Begun → List ℕ
+begunOf b = take (b .count) (b .first ∷ b .last ∷ [])
+
+-- the branch has room for each of them
+pub record MayWait (b : Begun) : Type 0 where
+  pub count : b .count ≤ 2
+  pub first : cutOf (b .first) + unpacked (b .first) .count ≤ maxPlaces
+  pub last : cutOf (b .last) + unpacked (b .last) .count ≤ maxPlaces
+
+-- packed alternatives on top of the first n, and the new count
+pub record Pushed (array : List ℕ) (n : ℕ) (more : List ℕ) (array′ : List ℕ) (n′ : ℕ) : Type 0 where
+  pub stack : IsStack array′ n′
+  pub waiting : (f : ℕ → Literal) → stackOf f array′ n′ ≡ map (waitingOf f) more ++ stackOf f array n
+
+-- THE TREE that a state stands for, and what is always so of a state.
 abbrev pub treeOf : (ℕ → Literal) → Tree → specification.Tree
 treeOf f t = record { branch = map f (take (t .len) (t .branch)); waiting = stackOf f (t .waiting) (t .count) }
 

@@ -1,14 +1,16 @@
-// The tree state: the branch and the alternatives that wait. A literal is one number here, its code; the contracts hold for every reading
-// of the codes as literals.
+// The tree: the branch and the alternatives that wait. A literal is one number here, its code; the contracts hold for every reading of
+// the codes as literals. A method with `mut self` that is called for a step would copy the arrays, so what a step makes of the tree is
+// worked out from its extent alone, and then stored in place, one array a call.
 ghost use mathlib.Core.Path.{_≡_};
 ghost use mathlib.Core.Bool.{true};
 ghost use mathlib.Core.List.{[], _∷_, map};
 ghost use Prim.Native.Nat.{ℕ, _+_, _≤_, _<_, min, max};
 ghost use Rattle.tableau.specs.Terms.{Literal};
-ghost use Rattle.tableau.specs.Tree.{maxPlaces, root, passed, close, grown};
+ghost use Rattle.tableau.specs.Tree.{maxPlaces, maxWaiting, root, passed, close, grown};
 ghost use Rattle.packing.specs.Packing.{codeLimit};
-ghost use Rattle.tree.specs.State.{codesOf, AtMost, packed, cutOf, unpacked, IsBranch, HasPlace, IsAt, Appended, treeOf, Within};
-ghost use Rattle.tree.specs.Change.{Gives, Extends};
+ghost use Rattle.tree.specs.State.{codesOf, AtMost, packed, cutOf, unpacked, IsBranch, HasPlace, IsAt, Appended};
+ghost use Rattle.tree.specs.State.{IsStack, topOf, begunOf, MayWait, Pushed, treeOf, Within};
+ghost use Rattle.tree.specs.Change.{noLiterals, noneBegun, unchangedFrom, InLimits, Gives};
 use tableau::Place;
 use tableau::Reason;
 
@@ -29,25 +31,38 @@ pub struct Tree {
     pub count: usize,
 }
 
-pub enum Answer {
-    Open,
+// How far the arrays of a tree are filled, and the alternative that is taken next (0: none waits). What a step makes of the tree depends on
+// nothing else of it.
+pub struct Extent {
+    pub len: usize,
+    pub count: usize,
+    pub top: u64,
+}
+
+// Packed alternatives that begin to wait: the first `count` of two, the first of them taken first.
+pub struct Begun {
+    pub count: usize,
+    pub first: u64,
+    pub last: u64,
+}
+
+// The branch is cut back to a length, and an alternative added there; some alternatives are kept waiting, and others begin to wait on
+// top of them.
+pub struct Change {
+    pub cut: usize,
+    pub adds: Alternative,
+    pub kept: usize,
+    pub begun: Begun,
+}
+
+// What a step makes of an open tree.
+pub enum Growth {
+    To(Change),
     Closed,
     Refused(Reason),
 }
 
-// The new length of a branch to which an alternative is added in place; or it has no room for it (check 15).
-pub enum Extended {
-    To(usize),
-    Full,
-}
-
-// The answer stands beside the tree, since an enum can't hold its arrays.
-pub struct Change {
-    pub tree: Tree,
-    pub answer: Answer,
-}
-
-fn least(a: usize, b: usize) -> usize
+pub fn least(a: usize, b: usize) -> usize
     ensures { λ r. ⌜ r ≡ min a b ⌝ }
 {
     if a < b { a } else { b }
@@ -67,6 +82,17 @@ impl Alternative {
     const COUNTS: u64 = 4;
 
     const CODES: u64 = 8388608;
+
+    fn none() -> Self
+        ensures { λ r. ⌜ r ≡ noLiterals ⌝ }
+    {
+        Self {
+            count: 0,
+            first: 0,
+            second: 0,
+            third: 0,
+        }
+    }
 
     pub fn one(first: u32) -> Self
         requires { ⌜ first < codeLimit ⌝ }
@@ -132,6 +158,119 @@ impl Alternative {
     }
 }
 
+impl Begun {
+    fn none() -> Self
+        ensures { λ r. ⌜ r ≡ noneBegun ⌝ }
+    {
+        Self {
+            count: 0,
+            first: 0,
+            last: 0,
+        }
+    }
+}
+
+impl Extent {
+    // The tree as it is.
+    pub fn unchanged(self) -> Change
+        ensures { λ r. ⌜ r ≡ unchangedFrom self ⌝ }
+    {
+        Change {
+            cut: self.len,
+            adds: Alternative::none(),
+            kept: self.count,
+            begun: Begun::none(),
+        }
+    }
+
+    // A step with one alternative, with check 15.
+    pub fn extend(self, a: Alternative) -> Growth
+        requires { ⌜ InLimits self × AtMost 3 a ⌝ }
+        ensures { λ r. ⌜ Gives self (λ f τ. grown τ (map (map f) (codesOf a ∷ []))) r ⌝ }
+    {
+        let len = self.len;
+        let count = self.count;
+        if Tree::PLACES < len + a.count {
+            return Growth::Refused(Reason::BranchFull);
+        }
+        Growth::To(Change {
+            cut: len,
+            adds: a,
+            kept: count,
+            begun: Begun::none(),
+        })
+    }
+
+    // A step with two alternatives, with checks 15 and 16.
+    pub fn split2(self, first: Alternative, second: Alternative) -> Growth
+        requires { ⌜ InLimits self × AtMost 3 first × AtMost 2 second ⌝ }
+        ensures { λ r. ⌜ Gives self (λ f τ. grown τ (map (map f) (codesOf first ∷ codesOf second ∷ []))) r ⌝ }
+    {
+        let len = self.len;
+        let count = self.count;
+        if Tree::PLACES < len + greatest(first.count, second.count) {
+            return Growth::Refused(Reason::BranchFull);
+        }
+        if Tree::WAITING < count + 1 {
+            return Growth::Refused(Reason::WaitingFull);
+        }
+        Growth::To(Change {
+            cut: len,
+            adds: first,
+            kept: count,
+            begun: Begun {
+                count: 1,
+                first: second.pack(len),
+                last: 0,
+            },
+        })
+    }
+
+    // The same with three.
+    pub fn split3(self, first: Alternative, second: Alternative, third: Alternative) -> Growth
+        requires { ⌜ InLimits self × AtMost 3 first × AtMost 2 second × AtMost 2 third ⌝ }
+        ensures { λ r. ⌜ Gives self (λ f τ. grown τ (map (map f) (codesOf first ∷ codesOf second ∷ codesOf third ∷ []))) r ⌝ }
+    {
+        let len = self.len;
+        let count = self.count;
+        if Tree::PLACES < len + greatest(first.count, greatest(second.count, third.count)) {
+            return Growth::Refused(Reason::BranchFull);
+        }
+        if Tree::WAITING < count + 2 {
+            return Growth::Refused(Reason::WaitingFull);
+        }
+        Growth::To(Change {
+            cut: len,
+            adds: first,
+            kept: count,
+            begun: Begun {
+                count: 2,
+                first: second.pack(len),
+                last: third.pack(len),
+            },
+        })
+    }
+
+    // A closing step. The lesser of the recorded length and the length asks for no order among the recorded lengths.
+    pub fn close(self) -> Growth
+        ensures { λ r. ⌜ Gives self (λ f τ. passed (close (τ .branch) (τ .waiting))) r ⌝ }
+    {
+        let len = self.len;
+        let count = self.count;
+        let top = self.top;
+        if count == 0 {
+            return Growth::Closed;
+        }
+        let recorded = Alternative::cut(top);
+        Growth::To(Change {
+            cut: least(recorded, len),
+            adds: Alternative::unpack(top),
+            kept: count - 1,
+            begun: Begun::none(),
+        })
+    }
+}
+
 impl Tree {
     pub const PLACES: usize = 1000;
 
@@ -147,8 +286,6 @@ impl Tree {
             count: 0,
         }
     }
-
-    // The next four read and store in place, since a method with `self` copies the tree.
 
     // check 11
     pub fn has_place(len: usize, place: Place) -> bool
@@ -186,98 +323,32 @@ impl Tree {
         len + 3
     }
 
-    // One alternative, with check 15.
-    pub fn extend(branch: &mut [u32; Tree::PLACES], len: usize, a: Alternative) -> Extended
-        requires { ⌜ IsBranch (now branch) len × AtMost 3 a ⌝ }
-        ensures { λ r. ⌜ Extends (now (branch .entry)) len a (now (branch .exit)) r ⌝ }
+    // The alternative that is taken next, 0 where none waits.
+    pub fn top(waiting: &[u64; Tree::WAITING], count: usize) -> u64
+        requires { ⌜ count ≤ maxWaiting ⌝ }
+        ensures { λ r. ⌜ r ≡ topOf (now (waiting .entry)) count ⌝ }
     {
-        if Self::PLACES < len + a.count {
-            return Extended::Full;
+        if 0 < count {
+            return waiting[count - 1];
         }
-        Extended::To(Self::append(branch, len, a))
+        0
     }
 
-    // A step with two alternatives, with checks 15 and 16.
-    pub fn split2(mut self, first: Alternative, second: Alternative) -> Change
-        requires { ⌜ Within self × AtMost 3 first × AtMost 2 second ⌝ }
-        ensures { λ r. ⌜ Gives self (λ f τ. grown τ (map (map f) (codesOf first ∷ codesOf second ∷ []))) r ⌝ }
+    // The result is the new count.
+    pub fn push(waiting: &mut [u64; Tree::WAITING], kept: usize, b: Begun) -> usize
+        requires { ⌜ IsStack (now waiting) kept × (kept + b .count ≤ maxWaiting) × MayWait b ⌝ }
+        ensures { λ r. ⌜ Pushed (now (waiting .entry)) kept (begunOf b) (now (waiting .exit)) r ⌝ }
     {
-        let len = self.len;
-        let count = self.count;
-        if Self::PLACES < len + greatest(first.count, second.count) {
-            return Change {
-                tree: self,
-                answer: Answer::Refused(Reason::BranchFull),
-            };
+        let n = b.count;
+        if n == 0 {
+            return kept;
         }
-        if Self::WAITING < count + 1 {
-            return Change {
-                tree: self,
-                answer: Answer::Refused(Reason::WaitingFull),
-            };
+        if n == 1 {
+            waiting[kept] = b.first;
+            return kept + 1;
         }
-        let n = Self::append(&mut self.branch, len, first);
-        self.len = n;
-        self.waiting[count] = second.pack(len);
-        self.count = count + 1;
-        Change {
-            tree: self,
-            answer: Answer::Open,
-        }
-    }
-
-    // The same with three. The second is stored last, so that it is taken first.
-    pub fn split3(mut self, first: Alternative, second: Alternative, third: Alternative) -> Change
-        requires { ⌜ Within self × AtMost 3 first × AtMost 2 second × AtMost 2 third ⌝ }
-        ensures { λ r. ⌜ Gives self (λ f τ. grown τ (map (map f) (codesOf first ∷ codesOf second ∷ codesOf third ∷ []))) r ⌝ }
-    {
-        let len = self.len;
-        let count = self.count;
-        if Self::PLACES < len + greatest(first.count, greatest(second.count, third.count)) {
-            return Change {
-                tree: self,
-                answer: Answer::Refused(Reason::BranchFull),
-            };
-        }
-        if Self::WAITING < count + 2 {
-            return Change {
-                tree: self,
-                answer: Answer::Refused(Reason::WaitingFull),
-            };
-        }
-        let n = Self::append(&mut self.branch, len, first);
-        self.len = n;
-        self.waiting[count] = third.pack(len);
-        self.waiting[count + 1] = second.pack(len);
-        self.count = count + 2;
-        Change {
-            tree: self,
-            answer: Answer::Open,
-        }
-    }
-
-    // A closing step. The lesser of the recorded length and the length asks for no order among the recorded lengths.
-    pub fn close(mut self) -> Change
-        requires { ⌜ Within self ⌝ }
-        ensures { λ r. ⌜ Gives self (λ f τ. passed (close (τ .branch) (τ .waiting))) r ⌝ }
-    {
-        let count = self.count;
-        if count == 0 {
-            return Change {
-                tree: self,
-                answer: Answer::Closed,
-            };
-        }
-        let w = self.waiting[count - 1];
-        self.count = count - 1;
-        let len = self.len;
-        let recorded = Alternative::cut(w);
-        let cut = least(recorded, len);
-        let n = Self::append(&mut self.branch, cut, Alternative::unpack(w));
-        self.len = n;
-        Change {
-            tree: self,
-            answer: Answer::Open,
-        }
+        waiting[kept] = b.last;
+        waiting[kept + 1] = b.first;
+        kept + 2
     }
 }

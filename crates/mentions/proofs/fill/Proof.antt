@@ -3,18 +3,19 @@ use Prim.Native.Nat.{_-_}
 use native.Mathlib.Omega.{arith}
 use borrow.Author.Needs.{needs}
 use Rattle.syntax.specs.Syntax.{argumentsIn}
-use Rattle.mentions.proofs.RowLaws.{Filled, filled-none, filled-more, filled-all}
+use Rattle.mentions.specs.Mentions.{Filled}
+use Rattle.mentions.proofs.RowLaws.{filled-none, filled-more, filled-all, termBits, term-bits, filled-noted}
 use Rattle.mentions.proofs.fill.Statement.{statement}
 use Rattle.mentions.proofs.fill.Tie as tie
 
 abbrev Inv-loop : tie.InvT-loop
-Inv-loop rows₀ term k t i₀ rows i = Filled rows₀ (term .0) (argumentsIn k) rows i
+Inv-loop rows₀ term k t i₀ rows i = Filled rows₀ rows (term .0) (termBits rows₀ (term .0) (argumentsIn k)) i
 
 abbrev μ-loop : tie.MeasureT-loop
 μ-loop rows₀ term k t i₀ rows i = 10 - i
 
 loop-holds : tie.Need-loop-holds Inv-loop μ-loop
-loop-holds c = filled-none _ _ _ (c .pre .1) (omega (arith, c .pre))
+loop-holds c = filled-none _ _ _
 
 own-word-requires : tie.Need-own-word-requires Inv-loop μ-loop
 own-word-requires c κs = search needs
@@ -42,14 +43,13 @@ loop-less c = search needs
 
 loop-again : tie.Need-loop-again Inv-loop μ-loop
 loop-again c =
-    let s = c .before .before .before .before .before in
-    filled-more _ _ _ (s .pre .1) (omega (arith, s .pre)) _ _ _ _ (c .before .before .before .loop-test .taken)
-    (c .before .before .before .before .loop .inv) (c .before .before .own-word .ensures) (c .joined-word .ensures)
+    let s = c .before .before .before .before in
+    let l = c .before .before .before .loop-test .taken in
+    filled-more _ _ _ _ _ _ (omega (arith, s .before .pre)) l (s .loop .inv)
+    (term-bits _ _ _ _ _ _ _ (s .before .pre .1) l (s .loop .inv) (c .before .before .own-word .ensures) (c .joined-word .ensures))
 
 returns : tie.Need-returns Inv-loop μ-loop
-returns c =
-    let s = c .before .before in
-    filled-all _ _ _ (s .pre .1) (omega (arith, s .pre)) _ _ (c .loop-test .left) (c .before .loop .inv)
+returns c = filled-noted _ _ _ _ (filled-all _ _ _ _ _ (c .loop-test .left) (c .before .loop .inv))
 
 pub fill-spec : {M : Type 1} → statement M
 fill-spec =

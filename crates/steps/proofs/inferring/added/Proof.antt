@@ -44,7 +44,7 @@ within c =
 
 returns : tie.Need-returns
 unfolding alternatives
-returns c = (tt, λ table H. rw (eleven (c .before) ∙ not-true _ (c .if1 .taken)))
+returns c = (tt, λ table H F. rw (eleven (c .before) ∙ not-true _ (c .if1 .taken)))
 
 literal-requires : tie.Need-literal-requires
 literal-requires c κs = let k = c .before .before in (k .before .before .pre .1 .0, within k .0)
@@ -52,25 +52,18 @@ literal-requires c κs = let k = c .before .before in (k .before .before .pre .1
 literal-requires-2 : tie.Need-literal-requires-2
 literal-requires-2 c κs = let k = c .before .before .before in (k .before .before .pre .1 .0, within k .1)
 
-fresh-requires : tie.Need-fresh-requires
-fresh-requires c κs =
-    let s = c .before .before .before .before .before .before in
-    let p = s .pre .0 in
-    ((p .0, p .1 .searchable .entries, p .1 .count, p .2), s .pre .1 .0)
-
 conclude-requires : tie.Need-conclude-requires
 conclude-requires c κs =
-    let l = c .before .before in
+    let l = c .before in
     let s = l .before .before .before .before .before .before in
     let p = s .pre .0 in
     let W = s .pre .1 .1 in
-    ((p .0, p .1 .searchable), (l .before .literal .ensures .small, l .literal2 .ensures .small, step-given (p .0) (p .1 .searchable .entries .few) (s .args .step) W (p .2), W .third))
+    ((p .0, p .1), (l .before .literal .ensures .small, l .literal2 .ensures .small, step-given (p .0) (p .1 .entries .few) (s .args .step) W (p .2), W .third))
 
 returns-2 : tie.Need-returns-2
 unfolding alternatives
 returns-2 c =
-    let f = c .before .before in
-    let l = f .before in
+    let l = c .before .before in
     let k = l .before .before .before .before in
     let s = k .before .before in
     let x = s .args .step .rule in
@@ -79,9 +72,9 @@ returns-2 c =
     let h = every-true (onBranch (branch s)) (ruleUses x) (stepFields (s .args .step)) (eleven-held k) in
     let read-p = place-read (now (s .args .branch)) (s .args .len) (s .pre .1 .0) (ruleFields x .p) _ _ (z .0) (h .0) (l .before .literal .ensures) in
     let read-q = place-read (now (s .args .branch)) (s .args .len) (s .pre .1 .0) (ruleFields x .q) _ _ (z .1) (h .1) (l .literal2 .ensures) in
-    (I .room, λ table H. sym (rw (eleven-held k, read-p, read-q) (sym (f .fresh .ensures table (H .searchable .entries) (H .mentioned) (H .count) _ _ _) ∙ I .answers table (H .searchable))))
+    (I .room, λ table H F. sym (rw (eleven-held k, read-p, read-q) (sym (F _ _ _) ∙ I .answers table H)))
 
 pub added-spec : {M : Type 1} → statement M
 added-spec =
     tie.close
-    (tie.spec (λ c κs. c .pre .1 .1) returns literal-requires literal-requires-2 fresh-requires conclude-requires returns-2)
+    (tie.spec (λ c κs. c .pre .1 .1) returns literal-requires literal-requires-2 conclude-requires returns-2)

@@ -14,27 +14,27 @@ eight-held c table q = sym (c .before .terms-made .ensures table q) ∙ not-fals
 
 returns : tie.Need-returns
 unfolding stepLine
-returns c = (tt, λ table H. rw (c .before .before .pre .1 .1 .unusedZero, sym (c .before .terms-made .ensures table (H .count)) ∙ not-true _ (c .if1 .taken)))
+returns c = (tt, λ table H q F. rw (c .before .before .pre .1 .1 .unusedZero, sym (c .before .terms-made .ensures table q) ∙ not-true _ (c .if1 .taken)))
 
 sorts-fit-requires : tie.Need-sorts-fit-requires
 sorts-fit-requires c κs =
     let s = c .before .before in
     let p = s .pre .0 in
-    ((p .0, p .1 .searchable .entries, eight-held c (p .0) (p .1 .count)), s .pre .1 .1)
+    ((p .0, p .1 .entries, eight-held c (p .0) (p .2)), s .pre .1 .1)
 
 returns-2 : tie.Need-returns-2
 unfolding stepLine
 returns-2 c =
     let k = c .before .before in
     let W = k .before .before .pre .1 .1 in
-    (tt, λ table H. rw (W .unusedZero, eight-held k table (H .count), sym (c .before .sorts-fit .ensures table (H .searchable .entries)) ∙ not-true _ (c .if2 .taken)))
+    (tt, λ table H q F. rw (W .unusedZero, eight-held k table q, sym (c .before .sorts-fit .ensures table (H .entries)) ∙ not-true _ (c .if2 .taken)))
 
 added-requires : tie.Need-added-requires
 added-requires c κs =
     let k = c .before .before in
     let s = k .before .before in
     let p = s .pre .0 in
-    ((p .0, p .1, eight-held k (p .0) (p .1 .count)), s .pre .1)
+    ((p .0, p .1, eight-held k (p .0) (p .2)), s .pre .1)
 
 returns-3 : tie.Need-returns-3
 unfolding stepLine
@@ -43,8 +43,8 @@ returns-3 c =
     let k = j .before .before in
     let W = k .before .before .pre .1 .1 in (
       c .added .ensures .0,
-      λ table H. rw (W .unusedZero, eight-held k table (H .count), sym (j .before .sorts-fit .ensures table (H .searchable .entries)) ∙ not-false _ (j .if2 .left))
-          (c .added .ensures .1 table H),
+      λ table H q F. rw (W .unusedZero, eight-held k table q, sym (j .before .sorts-fit .ensures table (H .entries)) ∙ not-false _ (j .if2 .left))
+          (c .added .ensures .1 table H F),
     )
 
 pub infer-spec : {M : Type 1} → statement M

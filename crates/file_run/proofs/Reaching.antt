@@ -1,0 +1,129 @@
+-- The run over a file: its start, a bad line, a line refused, a line more, the end.
+use mathlib.Core.Path.{_≡_, refl, sym, _∙_, ap, subst}
+use mathlib.Core.Bool.{Bool, true, false}
+use mathlib.Core.List.{List, []}
+use Prim.Native.Nat.{ℕ, suc, _+_, _<_, _≤_}
+use native.Mathlib.Omega.{arith}
+use native.Mathlib.Numerals.{add-one}
+use lib.ListN.{length, take}
+use lib.Seq.{length-take-le, take-take, take-append-le}
+use Rattle.tableau.specs.declared.Reason.{Reason}
+use Rattle.tableau.specs.File.{maxBytes}
+use Rattle.tableau.specs.Tree as specification
+use Rattle.tableau.specs.Tree.{passed, root}
+use Rattle.tableau.specs.Reply.{start, refuse, atEnd}
+use Rattle.lines.specs.declared.LineFields.{LineFields}
+use Rattle.lines.specs.declared.LineRead.{LineRead}
+use Rattle.lines.specs.Lines.{lineAt}
+use Rattle.packing.specs.Packing.{unpackLiteral}
+use Rattle.terms.specs.Arrays.{Arrays, Held}
+use Rattle.freshness.specs.Prefixes.{PrefixRows}
+use Rattle.freshness.proofs.PrefixLaws.{prefix-same}
+use Rattle.tree.specs.declared.Tree.{Tree}
+use Rattle.tree.specs.declared.Extent.{Extent}
+use Rattle.tree.specs.declared.Change.{Change}
+use Rattle.tree.specs.State.{IsBranch, Appended, IsStack, treeOf, Within}
+use Rattle.tree.specs.Change.{extentOf, Fits, Stored}
+use Rattle.tree.proofs.Changes.{stored-tree, stored-within}
+use Rattle.growth.specs.declared.Progress.{Progress}
+use Rattle.growth.specs.declared.LineResult.{LineResult}
+use Rattle.growth.specs.Progress.{statusOf, stateAt, atStart, verdictIf, verdictAtEnd}
+use Rattle.line_checks.specs.Checks.{Ready, Done, HeldAfter, LineDone}
+use Rattle.running.specs.Running.{verdictFrom}
+use Rattle.running.proofs.Lines.{line-here, bad-line, refused-here, at-end}
+use Rattle.file_run.specs.Reached.{Reached, Stopped}
+
+-- what is appended behind a cut leaves what stands before it
+front-kept : {b more b′ : List ℕ} {cut n : ℕ} → Appended b cut more b′ n → cut ≤ length b → (m : ℕ) → m ≤ cut → take m b′ ≡ take m b
+front-kept {b} {more} {b′} {cut} {n} a l m h =
+    let k : cut ≤ n = omega (arith, a .count) in
+    sym (take-take m n b′ (omega arith)) ∙ ap (take m) (a .codes) ∙ take-append-le m (take cut b) more (omega (arith, length-take-le cut b l, h)) ∙ take-take m cut b h
+
+pub reached-start : {file : List ℕ} {A : Arrays} {prefix : List ℕ} {t : Tree} → Held [] A 0 → PrefixRows [] (t .branch) prefix 0 → Within t
+    → treeOf unpackLiteral t ≡ root → length file ≤ maxBytes → Reached file A prefix t atStart 0
+reached-start {file} H P w q s = record {
+  table = [];
+  held = H;
+  rows = P;
+  within = w;
+  counted = record { terms = omega arith; assumptions = omega arith; steps = omega arith; closings = omega arith; closed = λ z. absurd (let y : _≡_ {A = ℕ} 0 1 = cc in omega arith) };
+  noted = omega arith;
+  lines = omega arith;
+  inside = omega arith;
+  short = s;
+  runs = ap (λ (τ : specification.Tree). verdictFrom file 0 0 (passed (stateAt [] τ atStart))) (sym q);
+}
+
+module _ {file : List ℕ} {A : Arrays} {prefix : List ℕ} {t : Tree} {g : Progress} {at : ℕ} (R : Reached file A prefix t g at) where
+  pub ready : at < length file → Ready g (extentOf t)
+  ready h = record {
+    limits = record { len = R .within .branch .room; count = R .within .waiting .room };
+    counted = R .counted;
+    short = omega (arith, R .lines, R .short, h);
+    noted = R .noted;
+  }
+
+  pub stopped : {t′ : Tree} → t′ ≡ t → Stopped file t′
+  stopped e = subst (Stopped file) (sym e) (record { arrays = A; prefix = prefix; progress = g; at = at; reached = R })
+
+  pub reached-bad : at < length file → lineAt file at ≡ LineRead.BadShape → refuse Reason.BadShape (g .lines + 1) ≡ verdictFrom file 0 0 (passed start)
+  reached-bad h e = rw (add-one (g .lines)) (sym (R .runs ∙ bad-line file at h e (g .lines) _))
+
+  pub reached-end : length file ≤ at → verdictAtEnd g ≡ verdictFrom file 0 0 (passed start)
+  reached-end h = go (g .closed) refl ∙ sym (R .runs ∙ at-end file at h (g .lines) _)
+    where
+      go : (b : Bool) → g .closed ≡ b → verdictIf b g ≡ atEnd (stateAt (R .table) (treeOf unpackLiteral t) g) (statusOf b (treeOf unpackLiteral t)) (suc (g .lines))
+      go true e = refl
+      go false e = ap (refuse Reason.BranchOpen) (add-one (g .lines))
+
+  -- a line with fields f, checked with the tree's extent: its result is y
+  module _ (f : LineFields) (e : lineAt file at ≡ LineRead.Line f) {x : Extent} (q : extentOf t ≡ x) {A′ : Arrays} {prefix′ : List ℕ} {y : LineResult}
+      (D : LineDone (R .table) (t .branch) g x f A′ prefix′ y) where
+    done : {r : LineResult} → y ≡ r → Done (R .table) (D .after) g x f t r
+    done z = subst (Done (R .table) (D .after) g x f t) z (D .done t (R .within) q refl)
+
+    pub reached-refused : {r : Reason} {i : ℕ} → y ≡ LineResult.Refused r i → refuse r i ≡ verdictFrom file 0 0 (passed start)
+    reached-refused {r} z =
+        let d = done z in
+        ap (refuse r) (d .follows ∙ add-one (g .lines))
+        ∙ sym (R .runs ∙ line-here file at f e .runs (g .lines) _ ∙ ap (verdictFrom file (f .next .at) (suc (g .lines))) (d .runs)
+        ∙ refused-here file (f .next .at) (suc (g .lines)) r)
+
+    module _ {g′ : Progress} {c : Change} (z : y ≡ LineResult.Passed g′ c) where
+      pub fits : Fits x c
+      fits = done z .follows .fits
+
+      pub cut-branch : IsBranch (t .branch) (c .cut)
+      cut-branch = record {
+        size = R .within .branch .size;
+        room = omega (arith, fits .cut, ap (λ (v : Extent). v .len) q, R .within .branch .room);
+        bounded = R .within .branch .bounded;
+      }
+
+      pub kept-stack : IsStack (t .waiting) (c .kept)
+      kept-stack = record {
+        size = R .within .waiting .size;
+        room = omega (arith, fits .kept, ap (λ (v : Extent). v .count) q, R .within .waiting .room);
+        places = R .within .waiting .places;
+      }
+
+      pub reached-more : {t′ : Tree} → Stored t c t′ → Reached file A′ prefix′ t′ g′ (f .next .at)
+      reached-more {t′} S =
+          let d = done z in
+          let n = d .follows in
+          let h = subst (HeldAfter (D .after) (t .branch) A′ prefix′) z (D .held) in
+          let l = line-here file at f e in
+          let i : suc (g .lines) ≡ g′ .lines = omega (arith, n .lines) in
+          record {
+            table = D .after;
+            held = h .0;
+            rows = prefix-same (front-kept (S .branch) (omega (arith, cut-branch .room, cut-branch .size)) (g′ .noted) (n .noted)) (h .1);
+            within = stored-within S;
+            counted = n .counted;
+            noted = omega (arith, n .noted, S .branch .count);
+            lines = omega (arith, n .lines, R .lines, l .longer);
+            inside = l .inside;
+            short = R .short;
+            runs = R .runs ∙ l .runs (g .lines) _ ∙ ap (verdictFrom file (f .next .at) (suc (g .lines))) (d .runs)
+                ∙ (λ j. verdictFrom file (f .next .at) (i j) (passed (stateAt (D .after) (sym (stored-tree S unpackLiteral) j) g′)));
+          }

@@ -1,0 +1,153 @@
+-- Every line so far passed, and arrays, tree and counts are what these lines make of them. The measure is what is left of the file.
+use mathlib.Core.Path.{_≡_, sym, _∙_, ap, subst}
+use Prim.Native.Nat.{ℕ, _-_}
+use native.Mathlib.Omega.{arith}
+use lib.ListN.{length}
+use Rattle.lines.specs.declared.LineRead.{LineRead}
+use Rattle.lines.specs.Lines.{lineAt}
+use Rattle.terms.specs.Arrays.{arrays}
+use Rattle.reply.specs.Verdict.{verdictOf}
+use Rattle.line_checks.specs.Checks.{Ready}
+use Rattle.tree.specs.Change.{extentOf}
+use Rattle.running.proofs.Lines.{line-here}
+use Rattle.file_run.specs.Reached.{Reached}
+use Rattle.file_run.proofs.Reaching.{reached-start, stopped, ready, reached-bad, reached-end, reached-refused, fits, cut-branch, kept-stack, reached-more}
+use borrow.Author.Needs.{needs}
+use Rattle.file_run.proofs.Run.run.Statement.{statement}
+use Rattle.file_run.proofs.Run.run.Tie as tie
+
+abbrev Inv-loop : tie.InvT-loop
+Inv-loop file terms₀ chains₀ rows₀ prefix₀ self₀ progress₀ at₀ terms chains rows prefix self progress at =
+    Reached file (arrays terms chains rows) prefix (self .tree) progress at
+
+abbrev μ-loop : tie.MeasureT-loop
+μ-loop file terms₀ chains₀ rows₀ prefix₀ self₀ progress₀ at₀ terms chains rows prefix self progress at = length file - at
+
+loop-holds : tie.Need-loop-holds Inv-loop μ-loop
+loop-holds c =
+    let p = c .before .before .pre in
+    rw (c .start .ensures) (reached-start (p .0 .0) (p .0 .1) (p .1 .0) (p .1 .1) (p .1 .2))
+
+add-line : tie.Need-add-line Inv-loop μ-loop
+add-line c = let l = c .before .before .before .before .before in omega (arith, l .loop .inv .lines, l .loop .inv .inside, l .loop .inv .short)
+
+-- check 2
+returns : tie.Need-returns Inv-loop μ-loop
+returns c =
+    let r = c .before .before .before .before in
+    let R = r .before .before .loop .inv in
+    (ap verdictOf (c .ends .ensures .0) ∙ reached-bad R (r .before .loop-test .taken) (sym (r .read-line .ensures) ∙ c .before .before .enum-told .given .1), stopped R (c .ends .ensures .1))
+
+-- the line that is read
+abbrev begun : tie.After-known-told Inv-loop μ-loop → tie.At-loop Inv-loop μ-loop
+begun c = c .before .before .before .before .before
+
+is-line : (c : tie.After-known-told Inv-loop μ-loop)
+    → lineAt (begun c .before .before .before .args .file .now) (begun c .loop .at) ≡ LineRead.Line (c .before .f .given .0 .0)
+is-line c = sym (c .before .before .before .read-line .ensures) ∙ c .before .f .given .1
+
+-- the extent that the line is checked with is the tree's
+abbrev told : tie.After-self2 Inv-loop μ-loop → tie.After-known-told Inv-loop μ-loop
+told c = c .before .before .before .before
+
+extent-is : (c : tie.After-self2 Inv-loop μ-loop) → extentOf (begun (told c) .loop .self .tree)
+    ≡ record { len = begun (told c) .loop .self .tree .len; count = begun (told c) .loop .self .tree .count; top = c .before .top .result }
+extent-is c = ap (λ (x : ℕ). record { len = begun (told c) .loop .self .tree .len; count = begun (told c) .loop .self .tree .count; top = x }) (sym (c .before .top .ensures))
+
+check-line-requires : tie.Need-check-line-requires Inv-loop μ-loop
+check-line-requires c κs =
+    let u = c .before .before .before .before .before in
+    let k = told u in
+    let R = begun k .loop .inv in
+    let h = k .before .before .before .before .loop-test .taken in
+    ((R .table, R .held), (subst (Ready _) (extent-is u) (ready R h), R .within .branch, line-here _ _ _ (is-line k) .small))
+
+-- the other checks
+abbrev with : tie.After-check-line Inv-loop μ-loop → tie.After-self2 Inv-loop μ-loop
+with c = c .before .before .before .before .before .before
+
+returns-2 : tie.Need-returns-2 Inv-loop μ-loop
+returns-2 c =
+    let x = c .before .before .before .before in
+    let k = told (with x) in
+    let R = begun k .loop .inv in (
+      ap verdictOf (c .ends2 .ensures .0) ∙ reached-refused R _ (is-line k) (extent-is (with x)) (x .check-line .ensures (R .table) (R .held) (R .rows)) (c .before .before .reason .given .1),
+      stopped R (c .ends2 .ensures .1),
+    )
+
+-- the line passed
+abbrev checked : tie.After-next Inv-loop μ-loop → tie.After-check-line Inv-loop μ-loop
+checked c = c .before .before
+
+append-requires : tie.Need-append-requires Inv-loop μ-loop
+append-requires c κs =
+    let n = c .before .before .before .before in
+    let x = checked n in
+    let k = told (with x) in
+    let R = begun k .loop .inv in
+    let D = x .check-line .ensures (R .table) (R .held) (R .rows) in
+    let F = fits R _ (is-line k) (extent-is (with x)) D (n .next .given .1) in
+    (cut-branch R _ (is-line k) (extent-is (with x)) D (n .next .given .1), F .adds, F .places)
+
+push-requires : tie.Need-push-requires Inv-loop μ-loop
+push-requires c κs =
+    let n = c .before .before .before .before .before .before .before in
+    let x = checked n in
+    let k = told (with x) in
+    let R = begun k .loop .inv in
+    let D = x .check-line .ensures (R .table) (R .held) (R .rows) in
+    let F = fits R _ (is-line k) (extent-is (with x)) D (n .next .given .1) in
+    (kept-stack R _ (is-line k) (extent-is (with x)) D (n .next .given .1), F .waiting, F .begun)
+
+loop-less : tie.Need-loop-less Inv-loop μ-loop
+loop-less c =
+    let l = line-here _ _ _ (is-line (told (with (checked (c .before .before .before .before .before .before .before .before .before))))) in
+    omega (arith, l .longer, l .inside)
+
+loop-again : tie.Need-loop-again Inv-loop μ-loop
+loop-again c =
+    let p = c .before in
+    let a = p .before .before .before in
+    let n = a .before .before .before .before .before in
+    let x = checked n in
+    let k = told (with x) in
+    let R = begun k .loop .inv in
+    let D = x .check-line .ensures (R .table) (R .held) (R .rows) in
+    reached-more R _ (is-line k) (extent-is (with x)) D (n .next .given .1) (record { branch = a .append .ensures; waiting = p .push .ensures })
+
+end-requires : tie.Need-end-requires Inv-loop μ-loop
+end-requires c κs = let R = c .before .loop .inv in omega (arith, R .lines, R .inside, R .short)
+
+returns-3 : tie.Need-returns-3 Inv-loop μ-loop
+returns-3 c =
+    let l = c .before .before in
+    let R = l .before .loop .inv in
+    (ap verdictOf (c .ends3 .ensures .0) ∙ c .before .end .ensures ∙ reached-end R (l .loop-test .left), stopped R (c .ends3 .ensures .1))
+
+pub run-spec : {M : Type 1} → statement M
+run-spec =
+    tie.close
+    (tie.spec
+    Inv-loop
+    μ-loop
+    (λ c κs. search needs)
+    loop-holds
+    (λ c κs. search needs)
+    (λ c. search needs)
+    (λ c. search needs)
+    add-line
+    (λ c κs. search needs)
+    returns
+    (λ c κs. begun (c .before .before) .loop .inv .within .waiting .room)
+    check-line-requires
+    (λ c. search needs)
+    (λ c κs. search needs)
+    returns-2
+    (λ c. search needs)
+    append-requires
+    push-requires
+    loop-less
+    loop-again
+    end-requires
+    (λ c κs. search needs)
+    returns-3)

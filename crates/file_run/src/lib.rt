@@ -1,0 +1,98 @@
+// The lines of a file, in one loop: each is read once, whatever its letter.
+use growth::LineResult;
+use growth::Progress;
+use line_checks::check_line;
+use lines::Cursor;
+use lines::LineRead;
+use lines::read_line;
+use reply::Verdict;
+use tableau::Reason;
+use tree::Extent;
+use tree::Tree;
+ghost use mathlib.Core.Path.{_≡_};
+ghost use mathlib.Core.List.{[]};
+ghost use Prim.Native.Nat.{_≤_};
+ghost use lib.ListN.{length};
+ghost use Rattle.tableau.specs.File.{maxBytes};
+ghost use Rattle.tableau.specs.Tree.{passed, root};
+ghost use Rattle.tableau.specs.Reply.{start};
+ghost use Rattle.packing.specs.Packing.{unpackLiteral};
+ghost use Rattle.terms.specs.Arrays.{arrays, Held};
+ghost use Rattle.freshness.specs.Prefixes.{PrefixRows};
+ghost use Rattle.tree.specs.State.{treeOf, Within};
+ghost use Rattle.reply.specs.Verdict.{verdictOf};
+ghost use Rattle.running.specs.Running.{verdictFrom};
+ghost use Rattle.file_run.specs.Reached.{Stopped};
+
+// A run over a file, with its tree.
+pub struct Run {
+    pub tree: Tree,
+}
+
+// The tree where the run ended, and the verdict.
+pub struct Ran {
+    pub tree: Tree,
+    pub verdict: Verdict,
+}
+
+impl Run {
+    fn ends(self, verdict: Verdict) -> Ran
+        ensures { λ r. ⌜ (r .verdict ≡ verdict) × (r .tree ≡ self .tree) ⌝ }
+    {
+        let tree = self.tree;
+        Ran { tree, verdict }
+    }
+
+    // From an empty tree, with arrays that hold no term and no row. The loop stands inside the method: called for each step, it would
+    // copy the tree.
+    pub fn run(
+        mut self,
+        file: &[u8],
+        terms: &mut [u64; table::NUMBERS],
+        chains: &mut [u16; table::LINKS],
+        rows: &mut [u64; mentions::WORDS],
+        prefix: &mut [u64; freshness::PREFIX_WORDS],
+    ) -> Ran
+        requires { ⌜ Held [] (arrays (now terms) (now chains) (now rows)) 0 × PrefixRows [] (self .tree .branch) (now prefix) 0 ⌝ }
+        requires { ⌜ Within (self .tree) × (treeOf unpackLiteral (self .tree) ≡ root) × (length (now file) ≤ maxBytes) ⌝ }
+        ensures { λ r. ⌜ verdictOf (r .verdict) ≡ verdictFrom (now (file .entry)) 0 0 (passed start) ⌝ }
+        ensures { λ r. ⌜ Stopped (now (file .entry)) (r .tree) ⌝ }
+    {
+        let mut progress = Progress::start();
+        let mut at = 0;
+        while at < file.len() {
+            let LineRead::Line(f) = read_line(file, Cursor { at }) else {
+                let line = progress.lines + 1;
+                return self.ends(Verdict::Refused(Reason::BadShape, line));
+            };
+            let len = self.tree.len;
+            let count = self.tree.count;
+            let top = Tree::top(&self.tree.waiting, count);
+            let extent = Extent { len, count, top };
+            match check_line(
+                progress,
+                extent,
+                f,
+                &self.tree.branch,
+                terms,
+                chains,
+                rows,
+                prefix,
+            ) {
+                LineResult::Refused(reason, line) => {
+                    return self.ends(Verdict::Refused(reason, line));
+                }
+                LineResult::Passed(next, change) => {
+                    let adds = change.adds;
+                    let begun = change.begun;
+                    self.tree.len = Tree::append(&mut self.tree.branch, change.cut, adds);
+                    self.tree.count = Tree::push(&mut self.tree.waiting, change.kept, begun);
+                    progress = next;
+                }
+            }
+            at = f.next.at;
+        }
+        let verdict = progress.end();
+        self.ends(verdict)
+    }
+}

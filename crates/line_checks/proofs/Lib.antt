@@ -1,0 +1,5 @@
+pub mod Results
+pub mod TermLines
+pub mod AssumptionLines
+pub mod StepLines
+pub mod AnyLine

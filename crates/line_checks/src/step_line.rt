@@ -1,0 +1,82 @@
+// An S line.
+use growth::LineResult;
+use growth::Progress;
+use growth::grow;
+use lines::LineFields;
+use parsing::StepTaken;
+use steps::ask_fresh;
+use steps::infer;
+use syntax::Step;
+use tableau::Letter;
+use tableau::Reason;
+use tree::Extent;
+use tree::Tree;
+use words::RuleFound;
+ghost use mathlib.Core.Path.{_≡_};
+ghost use Rattle.tableau.specs.Terms.{Table};
+ghost use Rattle.syntax.specs.Syntax.{WellTaken};
+ghost use Rattle.terms.specs.Arrays.{arrays, Held};
+ghost use Rattle.freshness.specs.Prefixes.{PrefixRows};
+ghost use Rattle.tree.specs.State.{IsBranch};
+ghost use Rattle.line_checks.specs.Checks.{Ready, StepTakes, LineDone};
+
+// Checks 8, 9 and 11 to 16 of a line that is taken apart, on an open tree.
+fn take(
+    progress: Progress,
+    extent: Extent,
+    step: Step,
+    branch: &[u32; Tree::PLACES],
+    terms: &[u64; table::NUMBERS],
+    chains: &[u16; table::LINKS],
+    rows: &[u64; mentions::WORDS],
+    prefix: &mut [u64; freshness::PREFIX_WORDS],
+) -> LineResult
+    requires { ⌜ ((table : Table) × Held table (arrays (now terms) (now chains) (now rows)) (progress .counts .terms)) ⌝ }
+    requires { ⌜ Ready progress extent × IsBranch (now branch) (extent .len) × WellTaken step ⌝ }
+    ensures { λ r. ⌜ ((table : Table) → Held table (arrays (now (terms .entry)) (now (chains .entry)) (now (rows .entry))) (progress .counts .terms)
+        → PrefixRows table (now (branch .entry)) (now (prefix .entry)) (progress .noted)
+        → StepTakes table (now (branch .entry)) progress extent step (now (prefix .exit)) r) ⌝ }
+{
+    let rule = step.rule;
+    let n = progress.counts.terms;
+    let len = extent.len;
+    let noted = progress.noted;
+    let asked = ask_fresh(step, branch, len, noted, terms, rows, prefix, n);
+    let outcome = infer(step, asked.fresh, branch, len, terms, chains, n);
+    let growth = grow(extent, outcome);
+    progress
+        .after_step(rule, asked.noted)
+        .result(extent, growth)
+}
+
+// Checks 4 to 6, then those above.
+pub fn check(
+    progress: Progress,
+    extent: Extent,
+    f: LineFields,
+    branch: &[u32; Tree::PLACES],
+    terms: &[u64; table::NUMBERS],
+    chains: &[u16; table::LINKS],
+    rows: &[u64; mentions::WORDS],
+    prefix: &mut [u64; freshness::PREFIX_WORDS],
+) -> LineResult
+    requires { ⌜ ((table : Table) × Held table (arrays (now terms) (now chains) (now rows)) (progress .counts .terms)) ⌝ }
+    requires { ⌜ Ready progress extent × IsBranch (now branch) (extent .len) × (f .letter ≡ Letter.S) ⌝ }
+    ensures { λ r. ⌜ ((table : Table) → Held table (arrays (now (terms .entry)) (now (chains .entry)) (now (rows .entry))) (progress .counts .terms)
+        → PrefixRows table (now (branch .entry)) (now (prefix .entry)) (progress .noted)
+        → LineDone table (now (branch .entry)) progress extent f (arrays (now (terms .entry)) (now (chains .entry)) (now (rows .entry)))
+        (now (prefix .exit)) r) ⌝ }
+{
+    let line = progress.lines + 1;
+    let word = f.word;
+    let RuleFound::Known(row) = words::rule_of(word) else {
+        return LineResult::Refused(Reason::UnknownWord, line);
+    };
+    if progress.closed {
+        return LineResult::Refused(Reason::TreeClosed, line);
+    }
+    let StepTaken::Step(step) = parsing::step_of(row, f) else {
+        return LineResult::Refused(Reason::UnusedField, line);
+    };
+    take(progress, extent, step, branch, terms, chains, rows, prefix)
+}

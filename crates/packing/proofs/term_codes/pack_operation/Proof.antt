@@ -1,0 +1,25 @@
+-- The low bits are the word's, and no sum passes its width.
+use native.Mathlib.Omega.{arith}
+use Rattle.packing.specs.Packing.{packTerm}
+use borrow.Author.Needs.{needs}
+use Rattle.packing.proofs.term_codes.pack_operation.Statement.{statement}
+use Rattle.packing.proofs.term_codes.pack_operation.Tie as tie
+
+returns : tie.Need-returns
+unfolding packTerm
+returns c = omega arith
+
+pub pack-operation-spec : {M : Type 1} → statement M
+pack-operation-spec =
+    tie.close
+    (tie.spec
+    (λ c κs. search needs)
+    (λ c. search needs)
+    (λ c. search needs)
+    (λ c. search needs)
+    (λ c. search needs)
+    (λ c. search needs)
+    (λ c. search needs)
+    (λ c. search needs)
+    (λ c. search needs)
+    returns)

@@ -1,3 +1,0 @@
-pub mod TermLines
-pub mod AssumptionLines
-pub mod StepLines

@@ -1,0 +1,63 @@
+// Is w fresh? Asked only where the rule asks it.
+use syntax::Step;
+use tableau::Rule;
+use tree::Tree;
+ghost use mathlib.Core.Path.{_≡_};
+ghost use Prim.Native.Nat.{_≤_};
+ghost use lib.ListN.{length};
+ghost use Rattle.tableau.specs.Terms.{Table};
+ghost use Rattle.table.specs.Held.{Entries};
+ghost use Rattle.mentions.specs.Mentions.{MentionRows};
+ghost use Rattle.freshness.specs.Prefixes.{PrefixRows};
+ghost use Rattle.tree.specs.State.{IsBranch};
+ghost use Rattle.steps.specs.Freshness.{asksFresh, Told};
+
+// Whether w is fresh, and how many literals have their rows after the test.
+pub struct Asked {
+    pub fresh: bool,
+    pub noted: usize,
+}
+
+fn asks_fresh(rule: Rule) -> bool
+    ensures { λ r. ⌜ r ≡ asksFresh rule ⌝ }
+{
+    match rule {
+        Rule::Ext => true,
+        Rule::Fir => true,
+        Rule::Wit => true,
+        _ => false,
+    }
+}
+
+// The first `noted` of the branch's len literals have their rows.
+pub fn ask_fresh(
+    step: Step,
+    branch: &[u32; Tree::PLACES],
+    len: usize,
+    noted: usize,
+    terms: &[u64; table::NUMBERS],
+    rows: &[u64; mentions::WORDS],
+    prefix: &mut [u64; freshness::PREFIX_WORDS],
+    n: usize,
+) -> Asked
+    requires { ⌜ ((table : Table) × Entries table (now terms) × (length table ≡ n)) ⌝ }
+    requires { ⌜ IsBranch (now branch) len × (noted ≤ len) ⌝ }
+    ensures { λ r. ⌜ r .noted ≤ len ⌝ }
+    ensures { λ r. ⌜ ((table : Table) → Entries table (now (terms .entry)) → MentionRows table (now (rows .entry)) → length table ≡ n
+        → PrefixRows table (now (branch .entry)) (now (prefix .entry)) noted
+        → Told table (now (branch .entry)) len step (now (prefix .exit)) r) ⌝ }
+{
+    let rule = step.rule;
+    let w = step.w;
+    if !asks_fresh(rule) {
+        return Asked {
+            fresh: false,
+            noted,
+        };
+    }
+    freshness::note(prefix, rows, n, branch, noted, len);
+    Asked {
+        fresh: freshness::is_fresh(terms, &*prefix, n, len, w),
+        noted: len,
+    }
+}
