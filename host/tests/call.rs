@@ -6,16 +6,9 @@ mod runner;
 
 use cases::{all, Case};
 use host::call::{check, tabcheck, REPLY_BYTES};
+use host::checkers::reply_line;
 use host::independent;
 use std::hint::black_box;
-
-fn reply_line(numbers: [u32; 6]) -> String {
-    let word = if numbers[0] == 0 { "yes" } else { "no" };
-    format!(
-        "{word},{}\n",
-        numbers.map(|number| number.to_string()).join(",")
-    )
-}
 
 fn check_line(file: &[u8]) -> String {
     reply_line(check(file))

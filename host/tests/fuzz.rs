@@ -40,6 +40,32 @@ fn checkers_agree() {
     assert_eq!(summary.never_refused(&WITH_LOOKUP, 14), Vec::<&str>::new());
 }
 
+/// A file with a line of each letter, and one that is refused after the tree
+/// is closed.
+const SMALL: &[u8] = b"T,rfv,1,0,0,0\nT,rgv,20,0,0,0\nA,in,1,2,0,0\nA,ni,1,2,0,0\n\
+    S,ref,0,0,1,0\nS,cls,1,2,0,0\nS,cut,0,0,1,2\n";
+
+/// Every byte of a small file made every other, and every byte put in.
+#[test]
+fn checkers_agree_whatever_the_byte() {
+    for position in 0..=SMALL.len() {
+        for byte in 0..=u8::MAX {
+            let (before, after) = SMALL.split_at(position);
+            expect_agreement(&[before, &[byte], after].concat());
+            expect_agreement(&[before, &[byte], after.get(1..).unwrap_or(&[])].concat());
+        }
+        expect_agreement(&SMALL[..position]);
+    }
+}
+
+fn expect_agreement(file: &[u8]) {
+    let known = plain_rust(file);
+    for (name, check) in CHECKERS {
+        let text = String::from_utf8_lossy(file);
+        assert_eq!(check(file), known, "{name}:\n{text}");
+    }
+}
+
 #[test]
 fn accepted_files_have_no_model() {
     for checker in CHECKERS {

@@ -92,9 +92,11 @@ fn succeeded(output: Output) -> String {
     String::from_utf8(output.stdout).unwrap()
 }
 
-/// Compiles a program of `tests/c` and links it with the library.
-fn compiled(name: &str) -> PathBuf {
-    linked(&repository().join(format!("host/tests/c/{name}.c")), name)
+/// Compiles a program of `tests/c` and links it with the library, under a name
+/// of the test's own: tests run at the same time, and a program that runs can't
+/// be written.
+fn compiled(source: &str, name: &str) -> PathBuf {
+    linked(&repository().join(format!("host/tests/c/{source}.c")), name)
 }
 
 fn linked(source: &Path, name: &str) -> PathBuf {
@@ -108,7 +110,7 @@ fn linked(source: &Path, name: &str) -> PathBuf {
 
 #[test]
 fn a_c_host_gets_every_reply() {
-    let program = compiled("caller");
+    let program = compiled("caller", "caller");
     runner::expect_replies(|file| {
         let output = run_on(&mut Command::new(&program), "caller.in", file);
         String::from_utf8(output.stdout).unwrap()
@@ -127,7 +129,7 @@ fn expect_status_2_where_reading_fails(program: &Path) {
 
 #[test]
 fn a_c_host_that_cannot_read_says_so() {
-    expect_status_2_where_reading_fails(&compiled("caller"));
+    expect_status_2_where_reading_fails(&compiled("caller", "caller_unread"));
 }
 
 /// The program `accept.c` of the page.
@@ -151,7 +153,7 @@ fn the_c_program_of_the_readme() {
 
 #[test]
 fn a_short_buffer_of_a_c_host_is_left_alone() {
-    let output = Command::new(compiled("buffer")).output();
+    let output = Command::new(compiled("buffer", "buffer")).output();
     assert_eq!(succeeded(output.unwrap()), "left alone\n");
 }
 

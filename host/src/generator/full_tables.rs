@@ -1,32 +1,68 @@
-//! Files with 600 terms and about 2,500 steps, to time the checkers on.
+//! Files with 600 terms and 2,500 steps, to time the checkers on. Each kind is
+//! named after the rule that its steps are about; closings go with the rules
+//! that split.
 
-use super::closable::{Closable, MEMBER};
-use super::draft::{lit, Draft, Place, TermId, MOST_PLACES, MOST_TERMS, MOST_WAITING};
+mod additions;
+mod freshness;
+pub mod hash;
+mod lookups;
+mod mixtures;
+mod rounds;
+mod shared_hash;
+mod splits;
+
+use super::draft::{Draft, MOST_TERMS};
 use super::tableau::{text, Tableau};
 use super::{accepted, refusal, Sample};
 
-const STEPS: usize = 2_500;
+pub const STEPS: usize = 2_500;
 
 /// An accepted file, and one that differs in its last line and is refused
 /// there.
 pub struct FullTable {
     pub accepted: Sample,
     pub refused: Sample,
-    pub steps: usize,
 }
 
+/// The name of a kind, and how a file of it is made.
+type Kind = (&'static str, fn() -> Tableau);
+
+const KINDS: &[Kind] = &[
+    ("`cut`, one waits", splits::cut_shallow),
+    ("`cut`, 200 wait", splits::cut_deep),
+    ("`cue`", splits::cue),
+    ("`sgi`", splits::sgi),
+    ("`img`, terms early", lookups::img_early),
+    ("`img`, terms late", lookups::img_late),
+    ("`rdm`, nested writes", lookups::rdm),
+    ("`all`, term early", lookups::all_early),
+    ("`all`, term late", lookups::all_late),
+    ("`nul`, term early", lookups::nul_early),
+    ("`nul`, term late", lookups::nul_late),
+    ("`all`, shared hash, term early", shared_hash::all_early),
+    ("`all`, shared hash, term late", shared_hash::all_late),
+    ("`img`, shared hash", shared_hash::img),
+    ("`sym`, long branch", additions::sym),
+    ("`trn`, long branch", additions::trn),
+    ("`rep`, long branch", additions::rep),
+    ("`sub`", additions::sub),
+    ("`ref`", additions::reflexive),
+    ("`ext`", freshness::ext),
+    ("`wit`", freshness::wit),
+    ("`fir`", freshness::fir),
+    ("`fir`, deep terms", freshness::deep_terms),
+    ("region rules", mixtures::region_rules),
+    ("class and heap rules", mixtures::class_and_heap_rules),
+    ("900 A lines", mixtures::many_assumptions),
+];
+
 pub fn all() -> Vec<FullTable> {
-    vec![
-        full_table("many lookups", lookups()),
-        full_table("many splits and closings", splits()),
-        full_table("many freshness tests", freshness_tests()),
-        full_table("long branches", long_branches()),
-    ]
+    let made = KINDS.iter().map(|(kind, make)| full_table(kind, make()));
+    made.collect()
 }
 
 /// The last closing turned around is what the rule doesn't allow.
 fn full_table(kind: &'static str, tableau: Tableau) -> FullTable {
-    assert_eq!(tableau.terms, MOST_TERMS);
     let mut lines = tableau.lines.clone();
     let last = lines.len() - 1;
     lines[last].entries.swap(0, 1);
@@ -37,103 +73,20 @@ fn full_table(kind: &'static str, tableau: Tableau) -> FullTable {
             bytes: text(&lines),
             expected: refusal(12, last + 1),
         },
-        steps: tableau.steps,
     }
 }
 
-/// Makes regions that no step needs, until there are so many terms.
-fn fill(draft: &mut Draft, terms: usize) {
+/// Makes regions that no step needs, until there is room for so many terms
+/// more.
+fn fill(draft: &mut Draft, room_left: usize) {
     let mut name = 2;
-    while draft.terms.len() < terms {
+    while room(draft) > room_left {
         draft.variable("rgv", name);
         name += 1;
     }
 }
 
-/// Each `img` looks up four terms, which stand last in the table.
-fn lookups() -> Tableau {
-    let mut made = Closable::new();
-    let (u, r) = (made.u, made.r);
-    let draft = &mut made.draft;
-    let h = draft.variable("arv", 1);
-    let f = draft.variable("fnv", 1);
-    fill(draft, MOST_TERMS - 5);
-    let img = draft.term("img", &[h, r, f]);
-    let typ = draft.term("typ", &[u]);
-    let dty = draft.term("dty", &[f]);
-    let rea = draft.term("rea", &[h, u, f]);
-    let all = draft.term("all", &[]);
-    let below = draft.assume(lit(typ, "le", dty));
-    let allocated = draft.assume(lit(rea, "in", all));
-    while draft.steps.len() + 4 <= STEPS {
-        let added = draft.img(MEMBER, img);
-        draft.cls(below, added);
-        draft.cls(allocated, added);
-    }
-    made.close()
-}
-
-/// As many alternatives as may wait, and as many closings, again and again.
-fn splits() -> Tableau {
-    let mut made = Closable::new();
-    fill(&mut made.draft, MOST_TERMS);
-    while made.draft.steps.len() + 2 * MOST_WAITING < STEPS {
-        for _ in 0..MOST_WAITING {
-            made.draft.cut(made.u, made.r);
-        }
-        for _ in 0..MOST_WAITING {
-            made.cls();
-        }
-    }
-    made.close()
-}
-
-/// Some 300 variables taken as fresh one after the other, on eight branches.
-/// Another term holds each of them.
-fn freshness_tests() -> Tableau {
-    let mut made = Closable::new();
-    made.draft.term("all", &[]);
-    let mut witnesses = Vec::new();
-    for name in 2.. {
-        if made.draft.terms.len() + 2 > MOST_TERMS {
-            break;
-        }
-        let w = made.draft.variable("rfv", name);
-        made.draft.term("typ", &[w]);
-        witnesses.push(w);
-    }
-    fill(&mut made.draft, MOST_TERMS);
-    while made.draft.steps.len() + witnesses.len() + 3 <= STEPS {
-        made.draft.cut(made.u, made.r);
-        for w in &witnesses {
-            made.draft.fir(*w);
-        }
-        made.cls();
-    }
-    made.close()
-}
-
-/// Branches with as many places as there may be, each step from the places
-/// before it.
-fn long_branches() -> Tableau {
-    let mut made = Closable::new();
-    fill(&mut made.draft, MOST_TERMS);
-    let last_term = TermId(MOST_TERMS - 1);
-    let equation = made.draft.assume(lit(made.r, "eq", last_term));
-    while made.draft.steps.len() + MOST_PLACES / 2 <= STEPS {
-        made.draft.cut(made.u, made.r);
-        fill_branch(&mut made.draft, equation);
-        made.cls();
-    }
-    made.close()
-}
-
-/// r eq s gives s eq r, then r eq r, then r eq s again.
-fn fill_branch(draft: &mut Draft, equation: Place) {
-    let mut place = equation;
-    while draft.length() + 3 <= MOST_PLACES && draft.steps.len() + 5 <= STEPS {
-        let turned = draft.sym(place);
-        let same = draft.trn(equation, turned);
-        place = draft.rep(same, equation, 2);
-    }
+/// How many terms the table has room for.
+fn room(draft: &Draft) -> usize {
+    MOST_TERMS - draft.terms.len()
 }

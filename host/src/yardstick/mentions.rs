@@ -1,0 +1,117 @@
+//! Which reference variables stand in the literals of the branch.
+
+use super::literals::{left, right};
+use super::packing::{field, has_arguments, has_head, Packed, RFV};
+use super::terms::{Terms, MOST_TERMS};
+use super::tree::Tree;
+
+const WORDS: usize = MOST_TERMS.div_ceil(64);
+
+/// A set of reference variables: a bit for each, at its term number less 1.
+type Row = [u64; WORDS];
+
+/// The variables in a term. Most terms have one at the most and need no row.
+#[derive(Clone, Copy, PartialEq, Eq)]
+enum Variables {
+    None,
+    One(u16),
+    /// The index of their row.
+    Many(u16),
+}
+
+/// Nothing is noted before the first test, since many files have none.
+#[derive(Default)]
+pub struct Mentions {
+    in_terms: Vec<Variables>,
+    rows: Vec<Row>,
+    /// The variables in the first `noted` literals of the branch.
+    now: Row,
+    noted: usize,
+    /// What `noted` and `now` were at the splits of the alternatives that have
+    /// waited since before the last test.
+    at_splits: Vec<(usize, Row)>,
+}
+
+impl Mentions {
+    /// Whether a reference variable stands in no literal of the branch.
+    pub fn is_fresh(&mut self, variable: u32, terms: &Terms, tree: &Tree) -> bool {
+        if self.in_terms.is_empty() {
+            self.note_terms(terms.all());
+        }
+        for waiting in &tree.waiting()[self.at_splits.len()..] {
+            self.note_literals(tree, waiting.length);
+            self.at_splits.push((self.noted, self.now));
+        }
+        self.note_literals(tree, tree.branch().len());
+        let index = variable as usize - 1;
+        self.now[index / 64] >> (index % 64) & 1 == 0
+    }
+
+    fn note_terms(&mut self, terms: &[Packed]) {
+        self.in_terms.reserve_exact(terms.len());
+        for (index, term) in terms.iter().enumerate() {
+            let variables = if has_head(*term, RFV) {
+                Variables::One(index as u16)
+            } else if has_arguments(*term) {
+                self.in_arguments(*term)
+            } else {
+                Variables::None
+            };
+            self.in_terms.push(variables);
+        }
+    }
+
+    /// The variables in the arguments of a term, which are earlier terms.
+    fn in_arguments(&mut self, term: Packed) -> Variables {
+        let numbers = (0..4).map(|index| field(term, index) as usize);
+        let sets = numbers
+            .filter(|number| *number != 0)
+            .map(|number| self.in_terms[number - 1])
+            .filter(|set| *set != Variables::None);
+        let Some(first) = sets.clone().next() else {
+            return Variables::None;
+        };
+        if sets.clone().all(|set| set == first) {
+            return first;
+        }
+        let mut row = [0; WORDS];
+        for set in sets {
+            unite(&mut row, set, &self.rows);
+        }
+        self.rows.push(row);
+        Variables::Many(self.rows.len() as u16 - 1)
+    }
+
+    #[inline(always)]
+    fn note_literals(&mut self, tree: &Tree, length: usize) {
+        for literal in &tree.branch()[self.noted..length] {
+            for side in [left(*literal), right(*literal)] {
+                let set = self.in_terms[side as usize - 1];
+                unite(&mut self.now, set, &self.rows);
+            }
+        }
+        self.noted = length;
+    }
+
+    /// To be called when a closing has taken an alternative: back to its split,
+    /// unless no test came after that.
+    #[inline(always)]
+    pub fn cut_back(&mut self, tree: &Tree) {
+        if self.at_splits.len() > tree.waits() {
+            (self.noted, self.now) = self.at_splits.pop().unwrap_or_default();
+        }
+    }
+}
+
+#[inline(always)]
+fn unite(row: &mut Row, variables: Variables, rows: &[Row]) {
+    match variables {
+        Variables::None => {}
+        Variables::One(index) => row[index as usize / 64] |= 1 << (index % 64),
+        Variables::Many(index) => {
+            for (word, more) in row.iter_mut().zip(rows[index as usize]) {
+                *word |= more;
+            }
+        }
+    }
+}

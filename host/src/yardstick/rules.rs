@@ -1,0 +1,68 @@
+//! The thirty rules. Each takes p, q, t and w, and makes its checks in the
+//! order of their numbers: fields that it doesn't use, terms, sorts, places,
+//! needs, freshness, terms to be added. All are inlined into the loop over the
+//! lines, so that the fields stay in registers.
+
+mod equations;
+mod members;
+mod regions;
+
+use super::literals::{denies, has_relation, left, right, Literal, Relation};
+use super::packing::{field, has_head, Head, Packed, EMP, RFV};
+use super::refusal::{ensure, unused, Refusal};
+use super::steps::Checker;
+
+type Fields = [u32; 4];
+type Step = Result<(), Refusal>;
+
+#[inline(always)]
+fn need(so: bool) -> Step {
+    ensure(so, Refusal::Need)
+}
+
+/// The sides of a literal, which must have this relation.
+#[inline(always)]
+fn sides(literal: Literal, relation: Relation) -> Result<(u32, u32), Refusal> {
+    need(has_relation(literal, relation))?;
+    Ok((left(literal), right(literal)))
+}
+
+/// The first N fields of a term, which must have this head.
+#[inline(always)]
+fn arguments<const N: usize>(term: Packed, head: Head) -> Result<[u32; N], Refusal> {
+    need(has_head(term, head))?;
+    Ok(std::array::from_fn(|index| field(term, index)))
+}
+
+impl Checker {
+    #[inline(always)]
+    fn ensure_fresh(&mut self, number: u32, term: Packed) -> Step {
+        let fresh = has_head(term, RFV) && self.mentions.is_fresh(number, &self.terms, &self.tree);
+        ensure(fresh, Refusal::Fresh)
+    }
+
+    #[inline(always)]
+    pub fn cls(&mut self, [p, q, t, w]: Fields) -> Step {
+        unused([t, w])?;
+        let (p, q) = (self.tree.at(p)?, self.tree.at(q)?);
+        need(denies(p, q))?;
+        self.close();
+        Ok(())
+    }
+
+    /// The rule `emp`.
+    #[inline(always)]
+    pub fn empty(&mut self, [p, q, t, w]: Fields) -> Step {
+        unused([q, t, w])?;
+        let (_, region) = sides(self.tree.at(p)?, Relation::In)?;
+        need(has_head(self.terms.get(region), EMP))?;
+        self.close();
+        Ok(())
+    }
+
+    #[inline(always)]
+    fn close(&mut self) {
+        self.tree.close();
+        self.mentions.cut_back(&self.tree);
+    }
+}

@@ -1,0 +1,69 @@
+//! The files that the checkers are timed on: they are full, and every checker
+//! gives the replies known of them.
+
+use host::checkers::CHECKERS;
+use host::generator::full_tables::{all, hash, FullTable, STEPS};
+use host::generator::Expected;
+
+const MOST_BYTES: usize = 60_000;
+const MIN_KINDS: usize = 18;
+
+fn lines_with(file: &[u8], letter: u8) -> usize {
+    let lines = file.split(|byte| *byte == b'\n');
+    lines.filter(|line| line.first() == Some(&letter)).count()
+}
+
+#[test]
+fn they_are_full() {
+    let tables = all();
+    assert!(tables.len() >= MIN_KINDS);
+    for FullTable { accepted, refused } in tables {
+        for sample in [&accepted, &refused] {
+            assert!(sample.bytes.len() <= MOST_BYTES, "{}", sample.kind);
+            assert_eq!(lines_with(&sample.bytes, b'T'), 600, "{}", sample.kind);
+            assert_eq!(lines_with(&sample.bytes, b'S'), STEPS, "{}", sample.kind);
+        }
+    }
+}
+
+/// The refused file differs in its last line alone.
+#[test]
+fn they_are_refused_at_the_last_line() {
+    for FullTable { accepted, refused } in all() {
+        let text = |file: Vec<u8>| String::from_utf8(file).unwrap();
+        let (accepted, refused) = (text(accepted.bytes), text(refused.bytes));
+        let pairs = accepted.lines().zip(refused.lines());
+        let different: Vec<usize> = pairs
+            .enumerate()
+            .filter(|(_, (one, other))| one != other)
+            .map(|(index, _)| index)
+            .collect();
+        assert_eq!(different, [accepted.lines().count() - 1]);
+        assert_eq!(refused.lines().count(), accepted.lines().count());
+    }
+}
+
+#[test]
+fn every_checker_gives_the_known_replies() {
+    for table in all() {
+        for sample in [table.accepted, table.refused] {
+            for (name, check) in CHECKERS {
+                let reply = Expected::Reply(check(&sample.bytes));
+                assert_eq!(reply, sample.expected, "{name}: {}", sample.kind);
+            }
+        }
+    }
+}
+
+/// Otherwise the terms that are chosen to share a hash would not.
+#[test]
+fn the_hash_is_that_of_the_proved_checker() {
+    let source = concat!(env!("CARGO_MANIFEST_DIR"), "/../crates/table/src/lib.rt");
+    let text = std::fs::read_to_string(source).unwrap();
+    for (name, factor) in [
+        ("LOW_FACTOR", hash::LOW_FACTOR),
+        ("HIGH_FACTOR", hash::HIGH_FACTOR),
+    ] {
+        assert!(text.contains(&format!("const {name}: u64 = {factor};")));
+    }
+}
