@@ -29,7 +29,8 @@ pub record Reached (file : List ℕ) (A : Arrays) (prefix : List ℕ) (t : Tree)
   pub short : length file ≤ maxBytes
   pub runs : verdictFrom file 0 0 (passed start) ≡ verdictFrom file at (g .lines) (passed (stateAt table (treeOf unpackLiteral t) g))
 
--- THE TREE that a run hands back: that of the lines which passed, before the first that did not
+-- A TREE that a run may hand back: one from which, at some position and with some counts, the rest of the file comes to the file's verdict.
+-- It does not say which position, so that the tree at the start is one too.
 pub record Stopped (file : List ℕ) (t : Tree) : Type 0 where
   pub arrays : Arrays
   pub prefix : List ℕ
