@@ -5,7 +5,7 @@ use std::collections::BTreeMap;
 use std::fmt;
 
 use crate::checkers::{Checker, Numbers};
-use crate::generator::{batch, Expected, Sample, RULES};
+use crate::generator::{batch, Expected, Sample, FORMER_RULE, RULES};
 
 /// The refusals that a file can get; the last, 18, is about the buffer.
 pub const REFUSALS: std::ops::RangeInclusive<u32> = 1..=17;
@@ -73,11 +73,11 @@ impl Summary {
     }
 }
 
-/// The rule of a step.
+/// The rule of a step, or the word that was one.
 fn rule_of(line: &[u8]) -> Option<&'static str> {
     let rest = line.strip_prefix(b"S,")?;
     let named = |rule: &&str| rest.starts_with(rule.as_bytes());
-    RULES.into_iter().find(named)
+    RULES.into_iter().chain([FORMER_RULE]).find(named)
 }
 
 impl fmt::Display for Summary {
@@ -96,7 +96,7 @@ impl fmt::Display for Summary {
             let count = self.refusals.get(&number).unwrap_or(&0);
             write!(f, " {number}: {count}")?;
         }
-        for number in [12, 13, 14] {
+        for number in [4, 12, 13, 14] {
             write!(f, "\nsteps refused with {number}:")?;
             for ((rule, given), count) in &self.refused_steps {
                 if *given == number {

@@ -25,7 +25,7 @@ use builder::Builder;
 use draft::MOST_WAITING;
 
 pub use damage::neighbour;
-pub use exact_damage::RULES;
+pub use exact_damage::{FORMER_RULE, RULES};
 pub use tableau::Tableau;
 
 /// What is known of the reply to a file.

@@ -1,5 +1,6 @@
 //! A checker for closed tableaux, written from document 01 alone and for
-//! plainness only. Sentences in quotes are the document's.
+//! plainness only. Sentences in quotes are the document's. Its rule `fir` is
+//! struck.
 
 use LiteralWord::*;
 
@@ -684,7 +685,6 @@ enum Rule {
     Eqr,
     Eql,
     Ext,
-    Fir,
     Cpe,
     Cpi,
     Cue,
@@ -718,7 +718,6 @@ fn rule_of_word(word: &[u8]) -> Option<Rule> {
         b"eqr" => Some(Rule::Eqr),
         b"eql" => Some(Rule::Eql),
         b"ext" => Some(Rule::Ext),
-        b"fir" => Some(Rule::Fir),
         b"cpe" => Some(Rule::Cpe),
         b"cpi" => Some(Rule::Cpi),
         b"cue" => Some(Rule::Cue),
@@ -749,14 +748,13 @@ fn rule_of_word(word: &[u8]) -> Option<Rule> {
     }
 }
 
-/// The column "Uses": "Which fields each rule uses is one fixed table of
-/// thirty rows."
+/// The column "Uses": "Which fields each rule uses is one fixed table", of
+/// twenty-nine rows without `fir`.
 fn uses(rule: Rule) -> &'static str {
     match rule {
         Rule::Eqr => "pq",
         Rule::Eql => "pq",
         Rule::Ext => "pw",
-        Rule::Fir => "w",
         Rule::Cpe => "p",
         Rule::Cpi => "pqt",
         Rule::Cue => "p",
@@ -788,7 +786,7 @@ fn uses(rule: Rule) -> &'static str {
 
 /// The rules whose column "Needs" says "w fresh".
 fn wants_fresh(rule: Rule) -> bool {
-    matches!(rule, Rule::Ext | Rule::Fir | Rule::Wit)
+    matches!(rule, Rule::Ext | Rule::Wit)
 }
 
 /// "S lines hold a rule, then in fields 3 to 6 places p and q, terms t and w,
@@ -982,7 +980,7 @@ fn close(state: &mut State) {
 }
 
 // ---------------------------------------------------------------------------
-// The thirty rules
+// The twenty-nine rules
 // ---------------------------------------------------------------------------
 
 /// What a step adds, or `None` when what its rule needs is not so. Freshness
@@ -993,7 +991,6 @@ fn conclude(state: &State, step: &Step) -> Option<Conclusion> {
         Rule::Eqr => eqr(state, p, q),
         Rule::Eql => eql(state, p, q),
         Rule::Ext => ext(state, p, w),
-        Rule::Fir => fir(state, w),
         Rule::Cpe => cpe(state, p),
         Rule::Cpi => cpi(state, p, q, t),
         Rule::Cue => cue(state, p),
@@ -1083,12 +1080,6 @@ fn ext(state: &State, p: u32, w: u32) -> Option<Conclusion> {
         vec![lit(w, In, r), lit(w, Ni, s)],
         vec![lit(w, Ni, r), lit(w, In, s)],
     ])
-}
-
-/// fir | w | w fresh | w in all
-fn fir(state: &State, w: u32) -> Option<Conclusion> {
-    let all = state.find(TermWord::All, &[]);
-    adds(vec![maybe(Some(w), In, all)])
 }
 
 /// cpe | p | u in cap(r,s) | u in r, u in s

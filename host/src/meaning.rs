@@ -1,5 +1,5 @@
 //! "Meaning" of document 01 for small concrete heaps. Sentences in quotes are
-//! the document's.
+//! the document's. Its clause that some reference is allocated is struck.
 
 use std::collections::BTreeSet;
 
@@ -92,12 +92,10 @@ impl Heap {
         true
     }
 
-    /// "`all` is a set of references without `nul`; at least one reference is
-    /// allocated."
+    /// "`all` is a set of references without `nul`". It may be empty: the
+    /// clause after it, "at least one reference is allocated", is struck.
     fn allocation_fits(&self) -> bool {
-        self.allocated.len() == self.references
-            && self.allocated.first() == Some(&false)
-            && self.allocated.contains(&true)
+        self.allocated.len() == self.references && self.allocated.first() == Some(&false)
     }
 
     /// "`typ` and `dty` are total."

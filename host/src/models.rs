@@ -83,7 +83,7 @@ impl Question {
         let mut found = 0;
         for _ in 0..tries {
             let size = Size {
-                references: 2 + random.below(3),
+                references: 1 + random.below(4),
                 fields: 1 + random.below(2),
                 classes: 1 + random.below(3),
             };
@@ -92,22 +92,25 @@ impl Question {
         found
     }
 
-    /// Goes through all heaps with one reference beside `nul`, one field and
-    /// at most two classes, and all values, but no more than `most` of them
-    /// for each number of classes.
+    /// Goes through all heaps with at most one reference beside `nul`, one
+    /// field and at most two classes, and all values, but no more than `most`
+    /// of them for each number of references and classes. Of two classes in
+    /// order class 0 is the lower: their names make no difference.
     pub fn all_models(&self, most: usize) -> Search {
         let mut search = Search {
             found: 0,
             tried: 0,
             complete: true,
         };
-        for classes in 1..=2 {
-            let size = Size {
-                references: 2,
-                fields: 1,
-                classes,
-            };
-            self.search(&size, most, &mut search);
+        for references in 1..=2 {
+            for classes in 1..=2 {
+                let size = Size {
+                    references,
+                    fields: 1,
+                    classes,
+                };
+                self.search(&size, most, &mut search);
+            }
         }
         search
     }
@@ -162,10 +165,9 @@ fn heap(size: &Size, choices: &mut impl Choices) -> Heap {
         classes,
     } = *size;
     let mut allocated = vec![false; references];
-    // At least one reference is allocated, and `nul` is not.
-    allocated[1 + choices.below(references - 1)] = true;
+    // `nul` is not allocated; of the others some, all or none.
     for one in allocated.iter_mut().skip(1) {
-        *one = *one || choices.below(2) == 0;
+        *one = choices.below(2) == 0;
     }
     Heap {
         references,
@@ -178,9 +180,10 @@ fn heap(size: &Size, choices: &mut impl Choices) -> Heap {
     }
 }
 
-/// A partial order: by size, none at all, or all above class 0.
+/// A partial order: by size, none at all, or all above class 0. With one class
+/// these are the same; with two, all above class 0 is by size.
 fn order(classes: usize, choices: &mut impl Choices) -> Vec<Vec<bool>> {
-    let kind = if classes == 1 { 0 } else { choices.below(3) };
+    let kind = choices.below(classes.min(3));
     let below = |a: usize, b: usize| match kind {
         0 => a <= b,
         1 => a == b,

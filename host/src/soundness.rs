@@ -9,10 +9,11 @@ use crate::generator::{neighbour, small_tableau, Tableau};
 use crate::models::{Question, Search};
 use crate::random::Random;
 
-/// Heaps tried at random on each file.
-const TRIES: usize = 40;
-/// Heaps tried in turn on each file, for each number of classes.
-const MOST_IN_TURN: usize = 300;
+/// Heaps tried at random on each file. In nearly half of them nothing is
+/// allocated.
+const TRIES: usize = 80;
+/// Heaps tried in turn on each file, for each number of references and classes.
+const MOST_IN_TURN: usize = 400;
 const NEIGHBOURS: usize = 6;
 
 /// What was tried.

@@ -125,8 +125,8 @@ fn each_old_failing_and_its_damaged_neighbour() {
             wrong: ("failings: img, third left open", [17, 18, 0, 0, 0, 0]),
         },
         Pair {
-            right: ("failings: typ(v) on the branch", [0, 0, 9, 2, 3, 1]),
-            wrong: ("failings: typ(w) on the branch", [13, 12, 0, 0, 0, 0]),
+            right: ("failings: typ(v) on the branch", [0, 0, 9, 3, 4, 2]),
+            wrong: ("failings: typ(w) on the branch", [13, 13, 0, 0, 0, 0]),
         },
         Pair {
             right: (

@@ -5,10 +5,10 @@ mod cases;
 use cases::{all, Case};
 use std::collections::HashSet;
 
-const RULES: [&str; 30] = [
-    "eqr", "eql", "ext", "fir", "cpe", "cpi", "cue", "cui", "dfe", "dfi", "sge", "sgi", "cut",
-    "all", "nul", "sep", "img", "wit", "ref", "sym", "trn", "sub", "rep", "ler", "let", "lea",
-    "rdh", "rdm", "cls", "emp",
+const RULES: [&str; 29] = [
+    "eqr", "eql", "ext", "cpe", "cpi", "cue", "cui", "dfe", "dfi", "sge", "sgi", "cut", "all",
+    "nul", "sep", "img", "wit", "ref", "sym", "trn", "sub", "rep", "ler", "let", "lea", "rdh",
+    "rdm", "cls", "emp",
 ];
 
 /// Whether the reply says yes, and its six numbers.
@@ -51,8 +51,8 @@ fn count(file: &[u8], start: &str) -> usize {
 
 /// The count that the documents give.
 #[test]
-fn there_are_1_565_files() {
-    assert_eq!(all().len(), 1_565);
+fn there_are_1_694_files() {
+    assert_eq!(all().len(), 1_694);
 }
 
 #[test]
@@ -127,19 +127,18 @@ fn every_number_is_given() {
 fn numbers_of(rule: &str) -> Vec<usize> {
     let is = |rules: &[&str]| rules.contains(&rule);
     let uses_a_term = is(&[
-        "ext", "fir", "cpi", "cui", "dfi", "sgi", "cut", "img", "wit", "ref", "sub", "ler", "rdh",
-        "rdm",
+        "ext", "cpi", "cui", "dfi", "sgi", "cut", "img", "wit", "ref", "sub", "ler", "rdh", "rdm",
     ]);
-    let uses_no_place = is(&["fir", "sgi", "cut", "ref", "ler", "rdh", "rdm"]);
+    let uses_no_place = is(&["sgi", "cut", "ref", "ler", "rdh", "rdm"]);
     let given = [
         (5, true),
         (6, true),
         (8, uses_a_term),
         (9, is(&["cut", "ler"])),
         (11, !uses_no_place),
-        (12, !is(&["fir", "cut", "ref", "ler"])),
-        (13, is(&["ext", "fir", "wit"])),
-        (14, is(&["fir", "sgi", "all", "nul", "img", "wit", "rdm"])),
+        (12, !is(&["cut", "ref", "ler"])),
+        (13, is(&["ext", "wit"])),
+        (14, is(&["sgi", "all", "nul", "img", "wit", "rdm"])),
         (15, !is(&["cls", "emp"])),
         (16, is(&["ext", "cue", "sgi", "cut", "img", "rdm"])),
     ];
@@ -177,6 +176,23 @@ fn every_rule_is_refused_by_each_number_it_can_get() {
     let refused = refused_rules();
     let wrong: Vec<_> = refused.symmetric_difference(&expected).collect();
     assert!(wrong.is_empty(), "{wrong:?}");
+}
+
+/// A well shaped S line with `fir` gets 4, and no accepted file has one.
+#[test]
+fn fir_is_refused_as_a_word() {
+    for (case, _) in saying(true) {
+        assert_eq!(count(&case.file, "S,fir,"), 0, "{}", case.name);
+    }
+    let mut given = HashSet::new();
+    for (case, [number, line, ..]) in saying(false) {
+        let mut lines = case.file.split(|&byte| byte == b'\n');
+        let refused = line.checked_sub(1).and_then(|index| lines.nth(index));
+        if refused.is_some_and(|text| text.starts_with(b"S,fir,")) {
+            given.insert(number);
+        }
+    }
+    assert_eq!(given, HashSet::from([2, 4]));
 }
 
 /// The cuts before the first closing: each leaves one alternative waiting.

@@ -136,6 +136,13 @@ fn the_missing_case_is_all_that_is_missing() {
     assert_eq!(missing.lines().count(), 4);
 }
 
+fn values<const N: usize>(given: [(TermWord, u32, Value); N]) -> Values {
+    let given = given.map(|(word, name, value)| (Variable { word, name }, value));
+    Values {
+        given: given.into(),
+    }
+}
+
 /// References nul, x = 1 and j = 2; fields ack = 0 and done = 1; x.ack is j.
 #[test]
 fn the_routine_can_hit_the_record() {
@@ -149,7 +156,7 @@ fn the_routine_can_hit_the_record() {
         dty: vec![0; 2],
     };
     let before = vec![vec![0, 0], vec![2, 0], vec![0, 0]];
-    let values = [
+    let values = values([
         (TermWord::Rfv, 1, Value::Reference(1)),
         (TermWord::Rfv, 2, Value::Reference(2)),
         (TermWord::Rfv, 3, Value::Reference(1)),
@@ -158,12 +165,38 @@ fn the_routine_can_hit_the_record() {
         (TermWord::Fnv, 1, Value::Field(0)),
         (TermWord::Fnv, 2, Value::Field(1)),
         (TermWord::Fnv, 3, Value::Field(1)),
-    ];
-    let given = values.map(|(word, name, value)| (Variable { word, name }, value));
-    let values = Values {
-        given: given.into(),
-    };
+    ]);
     let holds = |name| assumptions(example(name).as_bytes(), &heap, &values);
     assert_eq!(holds("acknowledgement_hits_last_jog.tab"), Some(true));
     assert_eq!(holds("acknowledgement_spares_last_jog.tab"), Some(false));
+}
+
+/// A receiver that has just started: nul, and a reference that is not
+/// allocated.
+#[test]
+fn before_the_first_allocation() {
+    let heap = Heap {
+        references: 2,
+        fields: 1,
+        classes: 1,
+        order: vec![vec![true]],
+        allocated: vec![false; 2],
+        typ: vec![0; 2],
+        dty: vec![0],
+    };
+    let values = values([
+        (TermWord::Rfv, 1, Value::Reference(1)),
+        (TermWord::Rgv, 1, Value::Region(BTreeSet::new())),
+        (TermWord::Arv, 1, Value::HeapValue(vec![vec![1]; 2])),
+        (TermWord::Fnv, 1, Value::Field(0)),
+    ]);
+    let holds = |file: String| assumptions(file.as_bytes(), &heap, &values);
+    let start_up = example("start_up_writes_nothing.tab");
+    let claimed = edited(&start_up, "10s/.*/A,eq,8,6,0,0/");
+    assert_eq!(holds(start_up), Some(false));
+    assert_eq!(holds(claimed), Some(true));
+    let something = example("something_is_allocated.tab");
+    let unsaid = edited(&something, "6s/.*/A,eq,3,3,0,0/");
+    assert_eq!(holds(something), Some(false));
+    assert_eq!(holds(unsaid), Some(true));
 }

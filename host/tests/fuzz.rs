@@ -3,18 +3,19 @@
 
 use host::checkers::{plain_rust, Checker, Numbers, CHECKERS};
 use host::comparison::compare;
-use host::generator::RULES;
+use host::generator::{batch, FORMER_RULE, RULES};
 use host::soundness::try_meaning;
 
 const FILES: usize = 20_000;
 const SMALL_TABLEAUX: usize = 600;
 const SEED: u64 = 20_040_404;
+const BATCHES: u64 = 300;
 
-/// The rules with no need of their own but a sort or a fresh variable.
-const WITHOUT_NEEDS: [&str; 4] = ["fir", "cut", "ref", "ler"];
-const WITH_FRESH: [&str; 3] = ["ext", "fir", "wit"];
+/// The rules with no need of their own but a sort.
+const WITHOUT_NEEDS: [&str; 3] = ["cut", "ref", "ler"];
+const WITH_FRESH: [&str; 2] = ["ext", "wit"];
 /// The rules that add a term which no field or premise names.
-const WITH_LOOKUP: [&str; 7] = ["fir", "sgi", "all", "nul", "img", "wit", "rdm"];
+const WITH_LOOKUP: [&str; 6] = ["sgi", "all", "nul", "img", "wit", "rdm"];
 
 #[test]
 fn checkers_agree() {
@@ -38,6 +39,16 @@ fn checkers_agree() {
     assert_eq!(summary.never_refused(&with_needs, 12), Vec::<&str>::new());
     assert_eq!(summary.never_refused(&WITH_FRESH, 13), Vec::<&str>::new());
     assert_eq!(summary.never_refused(&WITH_LOOKUP, 14), Vec::<&str>::new());
+    assert!(summary.refused_steps[&(FORMER_RULE, 4)] >= FILES / 200);
+}
+
+/// Otherwise files with a variable at random would test no freshness.
+#[test]
+fn a_variable_at_random_is_fresh_in_some_files() {
+    let samples = (0..BATCHES).flat_map(|number| batch(SEED, number));
+    let taken = samples.filter(|sample| sample.kind == "a variable taken at random");
+    let numbers: Vec<u32> = taken.map(|sample| plain_rust(&sample.bytes)[0]).collect();
+    assert!(numbers.contains(&0) && numbers.contains(&13));
 }
 
 /// A file with a line of each letter, and one that is refused after the tree

@@ -3,7 +3,7 @@
 
 use std::collections::{BTreeSet, HashSet};
 
-use host::generator::{batch, Expected};
+use host::generator::{batch, refusal, Expected, FORMER_RULE};
 
 const BATCHES: u64 = 300;
 const SEED: u64 = 7;
@@ -72,7 +72,7 @@ fn deepest_term(file: &[Line]) -> usize {
 fn takes_again(file: &[Line]) -> bool {
     let mut taken = HashSet::new();
     file.iter().any(|(letter, word, numbers)| {
-        let takes = letter == "S" && matches!(word.as_str(), "ext" | "fir" | "wit");
+        let takes = letter == "S" && matches!(word.as_str(), "ext" | "wit");
         takes && !taken.insert(numbers[3])
     })
 }
@@ -120,7 +120,9 @@ fn every_kind_is_made() {
         "closed tableau",
         "an alternative left out",
         "two alternatives exchanged",
+        "a variable taken at random",
         "a fresh variable taken twice",
+        "a step by fir",
         "a term looked up left out",
         "a number changed",
         "a line dropped",
@@ -147,6 +149,32 @@ fn every_kind_is_made() {
     ] {
         assert!(kinds.contains(kind), "{kind}");
     }
+}
+
+/// A step by a word that is no rule is refused with 4 where it stands: among
+/// the steps or after the last, and whatever its fields hold.
+#[test]
+fn the_former_rule_stands_anywhere() {
+    let samples = (0..BATCHES).flat_map(|number| batch(SEED, number));
+    let (mut among, mut after, mut as_before, mut changed) = (0, 0, 0, 0);
+    for sample in samples.filter(|sample| sample.kind == "a step by fir") {
+        let file = lines(&sample.bytes);
+        let is_it = |line: &Line| line.0 == "S" && line.1 == FORMER_RULE;
+        let index = file.iter().position(is_it).expect("the step");
+        assert_eq!(sample.expected, refusal(4, index + 1));
+        let last = index + 1 == file.len();
+        among += usize::from(!last);
+        after += usize::from(last);
+        let only_w = matches!(file[index].2, [0, 0, 0, w] if w > 0);
+        as_before += usize::from(only_w);
+        changed += usize::from(!only_w);
+    }
+    for count in [among, after, as_before, changed] {
+        assert!(count >= 5, "{among} {after} {as_before} {changed}");
+    }
+    let accepted = accepted_files();
+    let mut words = accepted.iter().flatten().map(|line| line.1.as_str());
+    assert!(words.all(|word| word != FORMER_RULE));
 }
 
 /// A seed makes the same files again, another seed others.

@@ -1,9 +1,9 @@
 //! The cases of document 01 with a stated reply, and their neighbours. Expected
-//! replies are worked out by hand from the document.
+//! replies are worked out by hand from the document, its rule `fir` struck.
 
 mod examples;
 
-use examples::{file, rule_files, F, G, IMG, RDM, WIT};
+use examples::{file, rule_files, ALLOCATED, F, G, IMG, RDM, STRUCK, WIT};
 use host::independent::{call, check, reply_line, Reply};
 
 fn yes(terms: u32, assumptions: u32, steps: u32, closings: u32) -> Reply {
@@ -160,7 +160,14 @@ fn example_12() {
 
 #[test]
 fn example_13() {
-    assert_eq!(check_lines(&with_line(&F, 7, "S,fir,0,0,0,1")), no(13, 7));
+    // A reused w in `ext`: F's u, which stands in place 1.
+    let lines = with_line(&F, 6, "A,ne,2,3,0,0");
+    let lines = with_line(&lines, 7, "S,ext,2,0,0,1");
+    assert_eq!(check_lines(&lines), no(13, 7));
+    // The same w in two `ext` lines.
+    let text = "T,rfv,1,0,0,0 T,rgv,1,0,0,0 T,rgv,2,0,0,0 A,ne,2,3,0,0 S,ext,1,0,0,1";
+    assert_eq!(check_text(text), no(17, 6));
+    assert_eq!(check_text(&format!("{text} S,ext,1,0,0,1")), no(13, 6));
 }
 
 #[test]
@@ -464,21 +471,27 @@ fn old_two_of_three_img_alternatives() {
 
 #[test]
 fn old_w_inside_a_larger_term() {
-    let fresh = "T,rfv,1,0,0,0 T,typ,1,0,0,0 T,all,0,0,0,0 S,fir,0,0,0,1";
-    assert_eq!(check_text(fresh), no(17, 5));
-    let spoilt = "T,rfv,1,0,0,0 T,typ,1,0,0,0 T,all,0,0,0,0 A,eq,2,2,0,0 S,fir,0,0,0,1";
-    assert_eq!(check_text(spoilt), no(13, 5));
+    let fresh = "T,rfv,1,0,0,0 T,typ,1,0,0,0 T,all,0,0,0,0 T,emp,0,0,0,0
+                 A,ne,3,4,0,0 S,ext,1,0,0,1";
+    assert_eq!(check_text(fresh), no(17, 7));
+    let spoilt = "T,rfv,1,0,0,0 T,typ,1,0,0,0 T,all,0,0,0,0 T,emp,0,0,0,0
+                  A,ne,3,4,0,0 A,eq,2,2,0,0 S,ext,1,0,0,1";
+    assert_eq!(check_text(spoilt), no(13, 7));
     // Two deep, on the right side.
-    let deep = "T,rfv,1,0,0,0 T,sin,1,0,0,0 T,all,0,0,0,0 T,cup,3,2,0,0
-                A,eq,3,4,0,0 S,fir,0,0,0,1";
-    assert_eq!(check_text(deep), no(13, 6));
+    let deep = "T,rfv,1,0,0,0 T,sin,1,0,0,0 T,all,0,0,0,0 T,emp,0,0,0,0 T,cup,3,2,0,0
+                A,ne,3,4,0,0 A,eq,3,5,0,0 S,ext,1,0,0,1";
+    assert_eq!(check_text(deep), no(13, 8));
+    // In what the step needs: all ne cup(all,sin(w)).
+    let needed = "T,rfv,1,0,0,0 T,sin,1,0,0,0 T,all,0,0,0,0 T,cup,3,2,0,0
+                  A,ne,3,4,0,0 S,ext,1,0,0,1";
+    assert_eq!(check_text(needed), no(13, 6));
     // A name that equals the term number does not spoil it.
     let name = "T,rfv,7,0,0,0 T,rgv,1,0,0,0 T,all,0,0,0,0
-                A,eq,2,2,0,0 S,fir,0,0,0,1";
+                A,ne,2,3,0,0 S,ext,1,0,0,1";
     assert_eq!(check_text(name), no(17, 6));
     // Nor does the same name of another sort: `rfv` 1 and `rgv` 1.
     let sort = "T,rfv,1,0,0,0 T,rgv,1,0,0,0 T,all,0,0,0,0
-                A,eq,2,2,0,0 S,fir,0,0,0,1";
+                A,ne,2,3,0,0 S,ext,1,0,0,1";
     assert_eq!(check_text(sort), no(17, 6));
 }
 
@@ -539,12 +552,13 @@ fn old_sin_without_a_case_outside_all() {
 #[test]
 fn every_rule() {
     let names = [
-        "eqr", "eql", "ext", "fir", "cpe", "cpi", "cue", "cui", "dfe", "dfi", "sge", "sgi", "cut",
-        "all", "nul", "sep", "img", "wit", "ref", "sym", "trn", "sub", "rep", "ler", "let", "lea",
-        "rdh", "rdm", "cls", "emp",
+        "eqr", "eql", "ext", "cpe", "cpi", "cue", "cui", "dfe", "dfi", "sge", "sgi", "cut", "all",
+        "nul", "sep", "img", "wit", "ref", "sym", "trn", "sub", "rep", "ler", "let", "lea", "rdh",
+        "rdm", "cls", "emp",
     ];
     let files = rule_files();
-    assert_eq!(files.len(), 30);
+    assert_eq!(names.len(), 29);
+    assert_eq!(files.len(), 29);
     for (name, example) in names.iter().zip(&files) {
         assert_eq!(*name, example.rule);
         let word = format!("S,{name},");
@@ -558,9 +572,9 @@ fn every_rule() {
 #[test]
 fn every_rule_uses_its_fields() {
     // The column "Uses" of the document, written out a second time.
-    let table = "eqr pq, eql pq, ext pw, fir w, cpe p, cpi pqt, cue p, cui pt, dfe p, dfi pqt,
-                 sge p, sgi t, cut tw, all p, nul p, sep pq, img pt, wit pw, ref t, sym p,
-                 trn pq, sub ptw, rep pqt, ler t, let pq, lea pq, rdh t, rdm t, cls pq, emp p";
+    let table = "eqr pq, eql pq, ext pw, cpe p, cpi pqt, cue p, cui pt, dfe p, dfi pqt, sge p,
+                 sgi t, cut tw, all p, nul p, sep pq, img pt, wit pw, ref t, sym p, trn pq,
+                 sub ptw, rep pqt, ler t, let pq, lea pq, rdh t, rdm t, cls pq, emp p";
     let mut rows = 0;
     for row in table.split(',') {
         let words: Vec<&str> = row.split_whitespace().collect();
@@ -573,11 +587,32 @@ fn every_rule_uses_its_fields() {
             let line = format!("S,{rule},{p},{q},{t},{w}");
             // With an empty table and branch a used field gets past 6.
             let reply = check_lines(&[&line]);
+            assert_ne!(reply.number, 4, "{line}");
             assert_eq!(reply.number == 6, !used.contains(field), "{line}");
             assert_eq!(reply.line, 1);
         }
     }
-    assert_eq!(rows, 30);
+    assert_eq!(rows, 29);
+}
+
+#[test]
+fn no_other_word_is_a_rule() {
+    let files = rule_files();
+    let letters = || (b'a'..=b'z').map(char::from);
+    let mut rules = 0;
+    for first in letters() {
+        for second in letters() {
+            assert_eq!(check_text(&format!("S,{first}{second},0,0,0,0")), no(4, 1));
+            for third in letters() {
+                let word = format!("{first}{second}{third}");
+                let known = files.iter().any(|example| example.rule == word);
+                let reply = check_text(&format!("S,{word},0,0,0,0"));
+                assert_eq!(reply.number != 4, known, "{word}");
+                rules += usize::from(known);
+            }
+        }
+    }
+    assert_eq!(rules, 29);
 }
 
 #[test]
@@ -610,6 +645,89 @@ fn premises_in_order() {
     // `ext` wants regions.
     let text = "T,rfv,1,0,0,0 T,rfv,2,0,0,0 A,ne,1,1,0,0 S,ext,1,0,0,2";
     assert_eq!(check_text(text), no(12, 4));
+}
+
+// ---------------------------------------------------------------------------
+// The struck rule, and what stands in for it
+// ---------------------------------------------------------------------------
+
+#[test]
+fn fir_is_not_known() {
+    assert_eq!(check_lines(&STRUCK), no(4, 5));
+    // 4 whatever the fields hold, on a closed tree and on a full branch too.
+    for line in [
+        "S,fir,0,0,0,1",
+        "S,fir,0,0,0,0",
+        "S,fir,0,0,0,9999",
+        "S,fir,1,0,0,1",
+        "S,fir,9999,9999,9999,9999",
+    ] {
+        assert_eq!(check_lines(&[line]), no(4, 1), "{line}");
+        assert_eq!(check_lines(&with_line(&F, 7, line)), no(4, 7), "{line}");
+        assert_eq!(check_lines(&with_more(&F, &[line])), no(4, 9), "{line}");
+        let mut text = places(1_000);
+        text.extend(file(&[line]));
+        assert_eq!(check(&text), no(4, 1_003), "{line}");
+    }
+    // 2 comes before 4.
+    for line in [
+        "S,fir,0,0,0",
+        "S,fir,0,0,0,1,",
+        "S,fir,0,0,0,01",
+        "S,fir,0,0,0,10000",
+        "S,Fir,0,0,0,1",
+        "S,firs,0,0,0,1",
+        "s,fir,0,0,0,1",
+        "S,fir,0,0,0,1\r",
+    ] {
+        assert_eq!(check_lines(&[line]), no(2, 1), "{line:?}");
+        assert_eq!(check_lines(&with_line(&F, 7, line)), no(2, 7), "{line:?}");
+        assert_eq!(check_lines(&with_more(&F, &[line])), no(2, 9), "{line:?}");
+    }
+    assert_eq!(check(b"S,fir,0,0,0,1"), no(2, 1));
+    // So does 3; under T and A `fir` was never known.
+    assert_eq!(check(b"T,fir,0,0,0,1\n"), no(4, 1));
+    assert_eq!(check(b"A,fir,0,0,0,1\n"), no(4, 1));
+    assert_eq!(check_lines(&with_line(&F, 8, "T,fir,0,0,0,1")), no(3, 8));
+    assert_eq!(check_lines(&with_line(&F, 8, "A,fir,0,0,0,1")), no(3, 8));
+}
+
+#[test]
+fn all_ne_emp_gives_an_allocated_object() {
+    assert_eq!(check_lines(&ALLOCATED), yes(5, 3, 8, 3));
+    // Without it place 1 holds r eq emp, which `ext` cannot open.
+    assert_eq!(check_lines(&without_line(&ALLOCATED, 6)), no(12, 8));
+    // The alternative w ni all, w in emp is to be closed too.
+    assert_eq!(check_lines(&without_line(&ALLOCATED, 16)), no(17, 16));
+    // With all eq emp beside it. Places: 3 w in all, 4 w ni emp, 5 w in emp,
+    // then 3 w ni all, 4 w in emp.
+    let text = "T,rfv,1,0,0,0 T,all,0,0,0,0 T,emp,0,0,0,0
+                A,ne,2,3,0,0 A,eq,2,3,0,0
+                S,ext,1,0,0,1 S,eqr,2,3,0,0 S,cls,5,4,0,0 S,emp,4,0,0,0";
+    assert_eq!(check_text(text), yes(3, 2, 4, 2));
+}
+
+#[test]
+fn all_eq_emp_stays_open() {
+    // No literal says of a w that it is in all, and `ext` wants a ne.
+    let base = "T,rfv,1,0,0,0 T,all,0,0,0,0 T,emp,0,0,0,0 A,eq,2,3,0,0";
+    assert_eq!(check_text(base), no(17, 5));
+    for line in [
+        "S,ext,1,0,0,1",
+        "S,eqr,1,1,0,0",
+        "S,eql,1,1,0,0",
+        "S,emp,1,0,0,0",
+        "S,all,1,0,0,0",
+        "S,cls,1,1,0,0",
+    ] {
+        assert_eq!(check_text(&format!("{base} {line}")), no(12, 5), "{line}");
+    }
+    // A cut at all closes on w in all only. Places: 2 w in all, 3 w in emp,
+    // then 2 w ni all.
+    let cut = format!("{base} S,cut,0,0,1,2 S,eqr,1,2,0,0 S,emp,3,0,0,0");
+    assert_eq!(check_text(&cut), no(17, 8));
+    assert_eq!(check_text(&format!("{cut} S,cls,2,2,0,0")), no(12, 8));
+    assert_eq!(check_text(&format!("{cut} S,emp,3,0,0,0")), no(11, 8));
 }
 
 // ---------------------------------------------------------------------------
@@ -802,10 +920,6 @@ fn order_on_s_lines() {
         // 12 before 13.
         ("S,ext,1,0,0,1", 12),
         ("S,wit,1,0,0,1", 12),
-        // 13 before 14; w not an `rfv` is not fresh.
-        ("S,fir,0,0,0,1", 13),
-        ("S,fir,0,0,0,2", 13),
-        ("S,fir,0,0,0,3", 13),
     ] {
         assert_eq!(
             check_text(&format!("{base} {line}")),
@@ -813,28 +927,64 @@ fn order_on_s_lines() {
             "{line}"
         );
     }
+}
+
+#[test]
+fn freshness() {
+    // 13 before 14: u in img(h,r,f) is on the branch, and no typ(w) or
+    // rea(h,w,f) in the table. Terms: 1 h, 2 r, 3 f, 4 img(h,r,f), 5 u, 6 w.
+    let base = "T,arv,1,0,0,0 T,rgv,1,0,0,0 T,fnv,1,0,0,0 T,img,1,2,3,0
+                T,rfv,1,0,0,0 T,rfv,2,0,0,0 A,in,5,4,0,0";
+    for (w, number) in [(0, 8), (1, 13), (2, 13), (3, 13), (4, 13), (5, 13), (6, 14)] {
+        let line = format!("S,wit,1,0,0,{w}");
+        let reply = check_text(&format!("{base} {line}"));
+        assert_eq!(reply, no(number, 8), "{line}");
+    }
+    // w not an `rfv` is not fresh: 2 a region, 3 a class on no branch.
+    let base = "T,rfv,1,0,0,0 T,rgv,1,0,0,0 T,clv,1,0,0,0 A,ne,2,2,0,0";
+    assert_eq!(check_text(&format!("{base} S,ext,1,0,0,1")), no(17, 6));
+    assert_eq!(check_text(&format!("{base} S,ext,1,0,0,2")), no(13, 5));
+    assert_eq!(check_text(&format!("{base} S,ext,1,0,0,3")), no(13, 5));
     // `nul` is on no branch and yet not fresh: only an `rfv` is.
-    let text = "T,nul,0,0,0,0 T,all,0,0,0,0 S,fir,0,0,0,1";
-    assert_eq!(check_text(text), no(13, 3));
-    // Not on the branch now: fresh again once its alternative is closed.
-    let text = "T,rfv,1,0,0,0 T,rfv,2,0,0,0 T,all,0,0,0,0 T,emp,0,0,0,0
-                A,in,1,4,0,0 S,cut,0,0,1,3
-                S,fir,0,0,0,2 S,emp,1,0,0,0
-                S,fir,0,0,0,2 S,emp,1,0,0,0";
-    assert_eq!(check_text(text), yes(4, 1, 5, 2));
+    let text = "T,nul,0,0,0,0 T,all,0,0,0,0 T,emp,0,0,0,0 A,ne,2,3,0,0 S,ext,1,0,0,1";
+    assert_eq!(check_text(text), no(13, 5));
+    // 13 before 15 and 16: 800 A lines and 200 cuts fill both. Terms: 1 u,
+    // 2 w, 3 all, 4 emp.
+    for (step, number) in [("S,ext,1,0,0,1", 13), ("S,ext,1,0,0,2", 15)] {
+        let mut text = file(&["T,rfv,1,0,0,0", "T,rfv,2,0,0,0"]);
+        text.extend(file(&["T,all,0,0,0,0", "T,emp,0,0,0,0"]));
+        text.extend(b"A,ne,3,4,0,0\n".repeat(800));
+        text.extend(b"S,cut,0,0,1,3\n".repeat(200));
+        text.extend(file(&[step]));
+        assert_eq!(check(&text), no(number, 4 + 800 + 200 + 1), "{step}");
+    }
+    // Not on the branch now: fresh again once both its alternatives are
+    // closed. Terms: 1 u, 2 w, 3 all, 4 emp.
+    let base = "T,rfv,1,0,0,0 T,rfv,2,0,0,0 T,all,0,0,0,0 T,emp,0,0,0,0
+                A,in,1,4,0,0 A,ne,3,4,0,0 S,cut,0,0,1,3
+                S,ext,2,0,0,2 S,emp,1,0,0,0";
+    assert_eq!(check_text(&format!("{base} S,ext,2,0,0,2")), no(13, 10));
+    let again = format!("{base} S,emp,1,0,0,0 S,ext,2,0,0,2 S,emp,1,0,0,0");
+    assert_eq!(check_text(&again), no(17, 13));
+    assert_eq!(
+        check_text(&format!("{again} S,emp,1,0,0,0")),
+        yes(4, 2, 7, 4)
+    );
     // Only waiting, not on the branch: still fresh. Of the alternatives of
-    // `rdm` only the second holds v, term 4.
+    // `rdm` only the second holds v, term 4; the first holds u and y.
     let mut lines = RDM[..9].to_vec();
-    lines.extend(["T,all,0,0,0,0", "S,rdm,0,0,8,0", "S,fir,0,0,0,4"]);
-    assert_eq!(check_lines(&lines), no(17, 13));
-    lines[11] = "S,fir,0,0,0,2";
-    assert_eq!(check_lines(&lines), no(13, 12));
+    lines.extend(["T,all,0,0,0,0", "T,emp,0,0,0,0", "A,ne,10,11,0,0"]);
+    lines.extend(["S,rdm,0,0,8,0", "S,ext,1,0,0,4"]);
+    assert_eq!(check_lines(&lines), no(17, 15));
+    lines[13] = "S,ext,1,0,0,2";
+    assert_eq!(check_lines(&lines), no(13, 14));
+    lines[13] = "S,ext,1,0,0,6";
+    assert_eq!(check_lines(&lines), no(13, 14));
 }
 
 #[test]
 fn terms_to_be_added_must_stand() {
     // 14 for each missing term.
-    assert_eq!(check_text("T,rfv,1,0,0,0 S,fir,0,0,0,1"), no(14, 2));
     let text = "T,rfv,1,0,0,0 T,rgv,1,0,0,0 A,in,1,2,0,0";
     assert_eq!(check_text(&format!("{text} S,all,1,0,0,0")), no(14, 4));
     assert_eq!(check_text(&format!("{text} S,nul,1,0,0,0")), no(14, 4));
@@ -932,6 +1082,6 @@ fn doubling_terms_finish() {
     for term in 2..599 {
         text.extend_from_slice(format!("T,cup,{term},{term},0,0\n").as_bytes());
     }
-    text.extend_from_slice(b"T,all,0,0,0,0\nA,eq,599,599,0,0\nS,fir,0,0,0,1\n");
+    text.extend_from_slice(b"T,all,0,0,0,0\nA,ne,600,599,0,0\nS,ext,1,0,0,1\n");
     assert_eq!(check(&text), no(13, 602));
 }

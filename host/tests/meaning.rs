@@ -5,11 +5,13 @@ mod examples;
 
 use std::collections::BTreeSet;
 
-use examples::{file, rule_files, F, IMG};
+use examples::{file, rule_files, ALLOCATED, F, IMG, STRUCK};
 use host::independent::{check, read, TermWord};
 use host::meaning::{
     assumptions, assumptions_true, values_of_terms, variables, Heap, Value, Values, Variable,
 };
+use host::models::Question;
+use host::random::Random;
 
 fn set(references: &[usize]) -> BTreeSet<usize> {
     references.iter().copied().collect()
@@ -188,7 +190,9 @@ fn finite_heaps() {
     let mut heap = small_heap();
     heap.allocated = vec![true, true, true, false];
     assert!(!heap.is_finite_heap());
-    heap.allocated = vec![false; 4];
+    heap.allocated = vec![true, false, false, false];
+    assert!(!heap.is_finite_heap());
+    heap.allocated = vec![false; 3];
     assert!(!heap.is_finite_heap());
     let mut heap = small_heap();
     heap.order = vec![vec![true, true], vec![true, true]];
@@ -204,6 +208,220 @@ fn finite_heaps() {
     heap.fields = 0;
     heap.dty = vec![];
     assert!(!heap.is_finite_heap());
+}
+
+// ---------------------------------------------------------------------------
+// Heaps in which nothing is allocated
+// ---------------------------------------------------------------------------
+
+/// The small heap before the first allocation.
+fn started_heap() -> Heap {
+    Heap {
+        allocated: vec![false; 4],
+        ..small_heap()
+    }
+}
+
+/// The small values, but for the regions: only the empty one is left.
+fn started_values() -> Values {
+    let mut values = small_values();
+    values.given[2].1 = Value::Region(set(&[]));
+    values.given[3].1 = Value::Region(set(&[]));
+    values
+}
+
+/// `nul` is the only reference; one field, one class.
+fn nul_heap() -> Heap {
+    Heap {
+        references: 1,
+        fields: 1,
+        classes: 1,
+        order: vec![vec![true]],
+        allocated: vec![false],
+        typ: vec![0],
+        dty: vec![0],
+    }
+}
+
+/// Every variable has the only value there is.
+fn nul_values() -> Values {
+    Values {
+        given: vec![
+            (variable(TermWord::Rfv, 1), Value::Reference(0)),
+            (variable(TermWord::Rfv, 2), Value::Reference(0)),
+            (variable(TermWord::Rgv, 1), Value::Region(set(&[]))),
+            (variable(TermWord::Rgv, 2), Value::Region(set(&[]))),
+            (variable(TermWord::Arv, 1), Value::HeapValue(vec![vec![0]])),
+            (variable(TermWord::Fnv, 1), Value::Field(0)),
+            (variable(TermWord::Fnv, 2), Value::Field(0)),
+            (variable(TermWord::Clv, 1), Value::Class(0)),
+        ],
+    }
+}
+
+#[test]
+fn heaps_with_nothing_allocated() {
+    assert!(started_heap().is_finite_heap());
+    assert!(nul_heap().is_finite_heap());
+    assert_eq!(started_heap().all(), set(&[]));
+    assert_eq!(nul_heap().all(), set(&[]));
+    // `nul` is a reference and is never allocated.
+    let mut heap = nul_heap();
+    heap.allocated = vec![true];
+    assert!(!heap.is_finite_heap());
+    let mut heap = nul_heap();
+    heap.references = 0;
+    heap.allocated = vec![];
+    heap.typ = vec![];
+    assert!(!heap.is_finite_heap());
+    // Fields and classes must still be there.
+    let mut heap = nul_heap();
+    heap.fields = 0;
+    heap.dty = vec![];
+    assert!(!heap.is_finite_heap());
+    let mut heap = nul_heap();
+    heap.classes = 0;
+    heap.order = vec![];
+    assert!(!heap.is_finite_heap());
+    // Regions are subsets of all, so empty; an `rfv` may have any reference.
+    assert!(started_values().fit(&started_heap()));
+    assert!(!small_values().fit(&started_heap()));
+    assert!(nul_values().fit(&nul_heap()));
+    for (index, value) in [
+        (0, Value::Reference(1)),
+        (2, Value::Region(set(&[0]))),
+        (4, Value::HeapValue(vec![vec![1]])),
+        (5, Value::Field(1)),
+        (7, Value::Class(1)),
+    ] {
+        let mut values = nul_values();
+        values.given[index].1 = value;
+        assert!(!values.fit(&nul_heap()), "{index}");
+    }
+}
+
+#[test]
+fn values_with_nothing_allocated() {
+    // The terms, and their values in the started heap and in that of `nul`.
+    let empty = || Value::Region(set(&[]));
+    let lines = [
+        ("T,nul,0,0,0,0", Value::Reference(0), Value::Reference(0)),
+        ("T,rfv,1,0,0,0", Value::Reference(1), Value::Reference(0)),
+        ("T,rfv,2,0,0,0", Value::Reference(3), Value::Reference(0)),
+        (
+            "T,arv,1,0,0,0",
+            Value::HeapValue(vec![vec![0, 0], vec![2, 3], vec![1, 1], vec![0, 0]]),
+            Value::HeapValue(vec![vec![0]]),
+        ),
+        ("T,fnv,1,0,0,0", Value::Field(0), Value::Field(0)),
+        ("T,fnv,2,0,0,0", Value::Field(1), Value::Field(0)),
+        // 7 r, 8 emp, 9 all.
+        ("T,rgv,1,0,0,0", empty(), empty()),
+        ("T,emp,0,0,0,0", empty(), empty()),
+        ("T,all,0,0,0,0", empty(), empty()),
+        ("T,cup,7,9,0,0", empty(), empty()),
+        ("T,cap,9,9,0,0", empty(), empty()),
+        ("T,dif,9,8,0,0", empty(), empty()),
+        ("T,sin,1,0,0,0", empty(), empty()),
+        ("T,sin,2,0,0,0", empty(), empty()),
+        ("T,img,4,9,5,0", empty(), empty()),
+        ("T,img,4,9,6,0", empty(), empty()),
+        // Reading and writing need nothing allocated.
+        ("T,rea,4,2,5,0", Value::Reference(2), Value::Reference(0)),
+        ("T,rea,4,2,6,0", Value::Reference(3), Value::Reference(0)),
+        (
+            "T,wri,4,2,5,3",
+            Value::HeapValue(vec![vec![0, 0], vec![3, 3], vec![1, 1], vec![0, 0]]),
+            Value::HeapValue(vec![vec![0]]),
+        ),
+        ("T,typ,3,0,0,0", Value::Class(1), Value::Class(0)),
+        ("T,dty,6,0,0,0", Value::Class(1), Value::Class(0)),
+    ];
+    let text: Vec<&str> = lines.iter().map(|(line, _, _)| *line).collect();
+    let (terms, _) = read(&file(&text)).unwrap();
+    let started = values_of_terms(&terms, &started_heap(), &started_values()).unwrap();
+    let nul = values_of_terms(&terms, &nul_heap(), &nul_values()).unwrap();
+    for (number, (line, of_started, of_nul)) in lines.iter().enumerate() {
+        assert_eq!(*of_started, started[number], "{line}");
+        assert_eq!(*of_nul, nul[number], "{line}");
+    }
+}
+
+#[test]
+fn truth_with_nothing_allocated() {
+    let terms = [
+        "T,rfv,1,0,0,0",
+        "T,rfv,2,0,0,0",
+        "T,nul,0,0,0,0",
+        "T,all,0,0,0,0",
+        "T,emp,0,0,0,0",
+        "T,rgv,1,0,0,0",
+        "T,sin,1,0,0,0",
+        "T,arv,1,0,0,0",
+        "T,fnv,1,0,0,0",
+        "T,img,8,4,9,0",
+        "T,wri,8,1,9,2",
+    ];
+    // Truth in the small heap, in the started heap, in that of `nul`.
+    let literals = [
+        ("eq,4,5", [false, true, true]),
+        ("in,1,4", [true, false, false]),
+        ("in,3,4", [false, false, false]),
+        ("in,1,7", [true, false, false]),
+        ("eq,6,4", [true, true, true]),
+        ("eq,7,5", [false, true, true]),
+        ("eq,10,5", [false, true, true]),
+        ("eq,1,3", [false, false, true]),
+        ("eq,1,2", [false, false, true]),
+        ("eq,8,11", [false, false, true]),
+    ];
+    let models = [
+        (small_heap(), small_values()),
+        (started_heap(), started_values()),
+        (nul_heap(), nul_values()),
+    ];
+    for (literal, truths) in literals {
+        let denial = literal.replace("in", "ni").replace("eq", "ne");
+        for ((heap, values), truth) in models.iter().zip(truths) {
+            for (text, expected) in [(literal, truth), (denial.as_str(), !truth)] {
+                let line = format!("A,{text},0,0");
+                let mut lines = terms.to_vec();
+                lines.push(&line);
+                let answer = assumptions(&file(&lines), heap, values);
+                assert_eq!(answer, Some(expected), "{line}");
+            }
+        }
+    }
+}
+
+#[test]
+fn an_allocated_object_is_assumed() {
+    let nothing = file(&["T,all,0,0,0,0", "T,emp,0,0,0,0", "A,eq,1,2,0,0"]);
+    let something = file(&["T,all,0,0,0,0", "T,emp,0,0,0,0", "A,ne,1,2,0,0"]);
+    for (heap, values) in [
+        (started_heap(), started_values()),
+        (nul_heap(), nul_values()),
+    ] {
+        assert_eq!(assumptions(&nothing, &heap, &values), Some(true));
+        assert_eq!(assumptions(&something, &heap, &values), Some(false));
+        // The file that the struck rule closed has these models.
+        assert_eq!(assumptions(&file(&STRUCK), &heap, &values), Some(true));
+        // So has the accepted one, once it no longer assumes all ne emp.
+        assert_eq!(assumptions(&file(&ALLOCATED), &heap, &values), Some(false));
+        let mut weaker = ALLOCATED.to_vec();
+        weaker.remove(5);
+        assert_eq!(assumptions(&file(&weaker), &heap, &values), Some(true));
+    }
+    let (heap, values) = (small_heap(), small_values());
+    assert_eq!(assumptions(&nothing, &heap, &values), Some(false));
+    assert_eq!(assumptions(&something, &heap, &values), Some(true));
+    assert_eq!(assumptions(&file(&STRUCK), &heap, &values), Some(false));
+    // One allocated reference is enough.
+    let mut heap = started_heap();
+    heap.allocated[3] = true;
+    let values = started_values();
+    assert_eq!(assumptions(&nothing, &heap, &values), Some(false));
+    assert_eq!(assumptions(&something, &heap, &values), Some(true));
 }
 
 // ---------------------------------------------------------------------------
@@ -239,16 +457,15 @@ fn some_order(dice: &mut Dice, classes: usize) -> Vec<Vec<bool>> {
     order
 }
 
+/// `nul` and up to three more references; nothing need be allocated.
 fn some_heap(dice: &mut Dice) -> Heap {
-    let references = 2 + dice.below(3);
+    let references = 1 + dice.below(4);
     let fields = 1 + dice.below(2);
     let classes = 1 + dice.below(3);
     let mut allocated = vec![false];
     for _ in 1..references {
         allocated.push(dice.below(3) > 0);
     }
-    let sure = 1 + dice.below(references - 1);
-    allocated[sure] = true;
     Heap {
         references,
         fields,
@@ -287,18 +504,18 @@ fn some_values(dice: &mut Dice, heap: &Heap, text: &[u8]) -> Values {
     Values { given }
 }
 
-/// How many of many heaps make all assumptions true.
-fn models(text: &[u8]) -> usize {
+/// Those of many heaps that make all assumptions true.
+fn models(text: &[u8]) -> Vec<Heap> {
     let mut dice = Dice(1);
-    let mut found = 0;
-    for _ in 0..2_000 {
+    let mut found = Vec::new();
+    for _ in 0..3_000 {
         let heap = some_heap(&mut dice);
         let values = some_values(&mut dice, &heap, text);
         let answer = assumptions(text, &heap, &values);
         assert!(answer.is_some());
         assert_eq!(assumptions_true(text, &heap, &values), answer == Some(true));
         if answer == Some(true) {
-            found += 1;
+            found.push(heap);
         }
     }
     found
@@ -313,8 +530,10 @@ fn accepted_files_have_no_model() {
         let (terms, literals) = read(&text).unwrap();
         assert_eq!(example.counts[0], terms.len() as u32);
         assert_eq!(example.counts[1], literals.len() as u32);
-        assert_eq!(models(&text), 0, "{}", example.rule);
+        assert!(models(&text).is_empty(), "{}", example.rule);
     }
+    assert!(check(&file(&ALLOCATED)).yes);
+    assert!(models(&file(&ALLOCATED)).is_empty());
 }
 
 #[test]
@@ -322,13 +541,87 @@ fn weaker_files_have_models() {
     // F without its second assumption, `img` without any one of its four.
     let mut lines = F.to_vec();
     lines.remove(5);
-    assert!(models(&file(&lines)) > 0);
+    assert!(!models(&file(&lines)).is_empty());
     for number in 9..13 {
         let mut lines = IMG.to_vec();
         lines.remove(number);
-        assert!(models(&file(&lines)) > 0, "{}", IMG[number]);
+        assert!(!models(&file(&lines)).is_empty(), "{}", IMG[number]);
     }
     // u ni sin(u): true where u is not allocated.
     let lines = ["T,rfv,1,0,0,0", "T,sin,1,0,0,0", "A,ni,1,2,0,0"];
-    assert!(models(&file(&lines)) > 0);
+    assert!(!models(&file(&lines)).is_empty());
+}
+
+#[test]
+fn models_with_and_without_an_allocated_object() {
+    // Any heap is a model of no assumption: the heaps tried are of each kind.
+    let heaps = models(b"");
+    assert_eq!(heaps.len(), 3_000);
+    let many = |kind: fn(&Heap) -> bool| heaps.iter().filter(|heap| kind(heap)).count() > 200;
+    assert!(many(|heap| heap.references == 1));
+    assert!(many(|heap| heap.references > 1 && heap.all().is_empty()));
+    assert!(many(|heap| !heap.all().is_empty()));
+    // All eq emp, and what is left of the accepted file without all ne emp,
+    // are true only where nothing is allocated.
+    let mut weaker = ALLOCATED.to_vec();
+    weaker.remove(5);
+    for text in [file(&STRUCK), file(&weaker)] {
+        let heaps = models(&text);
+        assert!(heaps.iter().any(|heap| heap.references == 1));
+        assert!(heaps.iter().any(|heap| heap.references > 1));
+        assert!(heaps.iter().all(|heap| heap.all().is_empty()));
+    }
+    // Each of the other assumptions may go as well.
+    for number in [6, 7] {
+        let mut weaker = ALLOCATED.to_vec();
+        weaker.remove(number);
+        let heaps = models(&file(&weaker));
+        assert!(!heaps.is_empty());
+        assert!(heaps.iter().all(|heap| !heap.all().is_empty()));
+    }
+}
+
+// ---------------------------------------------------------------------------
+// Heaps in turn
+// ---------------------------------------------------------------------------
+
+/// What `all_models` found and tried, and whether it tried all.
+fn in_turn(lines: &[&str], most: usize) -> (usize, usize, bool) {
+    let search = Question::of_file(&file(lines)).unwrap().all_models(most);
+    (search.found, search.tried, search.complete)
+}
+
+#[test]
+fn every_smallest_heap_is_tried_once() {
+    // One field. With one class there is nothing more to choose. With two there
+    // are two orders, two values of dty, and two of typ for each reference: 8
+    // for `nul` alone, 16 with a reference more. That one is allocated or not:
+    // 1 + 8 + 2 * (1 + 16) = 43 heaps, 17 of them with something allocated.
+    let terms = ["T,all,0,0,0,0", "T,emp,0,0,0,0"];
+    assert_eq!(in_turn(&terms, 1_000), (43, 43, true));
+    let nothing = [&terms[..], &["A,eq,1,2,0,0"]].concat();
+    assert_eq!(in_turn(&nothing, 1_000), (26, 43, true));
+    let something = [&terms[..], &["A,ne,1,2,0,0"]].concat();
+    assert_eq!(in_turn(&something, 1_000), (17, 43, true));
+    // u has one value or two, r two where something is allocated: 9 + 17 * 2 +
+    // 17 * 4 tried, and u is in r for one of the last four.
+    let lines = ["T,rfv,1,0,0,0", "T,rgv,1,0,0,0", "A,in,1,2,0,0"];
+    assert_eq!(in_turn(&lines, 1_000), (17, 111, true));
+    // h has one value, or four.
+    assert_eq!(in_turn(&["T,arv,1,0,0,0"], 1_000), (145, 145, true));
+    // At most so many of the 1, 8, 2 and 32.
+    assert_eq!(in_turn(&terms, 32), (43, 43, true));
+    assert_eq!(in_turn(&terms, 31), (42, 42, false));
+    assert_eq!(in_turn(&terms, 5), (13, 13, false));
+}
+
+#[test]
+fn random_heaps_are_of_each_kind() {
+    let nothing = ["T,all,0,0,0,0", "T,emp,0,0,0,0", "A,eq,1,2,0,0"];
+    let something = ["T,all,0,0,0,0", "T,emp,0,0,0,0", "A,ne,1,2,0,0"];
+    for lines in [nothing, something] {
+        let question = Question::of_file(&file(&lines)).unwrap();
+        let found = question.random_models(1_000, &mut Random::new(1));
+        assert!(found > 300, "{found}");
+    }
 }

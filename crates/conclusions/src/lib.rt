@@ -37,7 +37,6 @@ fn by_rule(
         Rule::Eqr => set_rules::eqr(p, q, terms),
         Rule::Eql => set_rules::eql(p, q, terms),
         Rule::Ext => set_rules::ext(p, w, fresh, terms),
-        Rule::Fir => member_rules::fir(w, fresh, terms, chains),
         Rule::Cpe => set_rules::cpe(p, terms),
         Rule::Cpi => set_rules::cpi(p, q, t, terms),
         Rule::Cue => set_rules::cue(p, terms),

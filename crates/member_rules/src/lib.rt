@@ -1,5 +1,5 @@
 // The rules of singletons, of `all` and `nul`, and the cut. Each looks at the terms that its row names and searches for those that it
-// adds: refusal 12 where what the row needs isn't so, then 13 where w is not fresh, then 14 where a term to be added is not made.
+// adds: refusal 12 where what the row needs isn't so, then 14 where a term to be added is not made.
 use packing::LiteralView;
 use packing::TermView;
 use rules::outcome;
@@ -15,27 +15,7 @@ ghost use mathlib.Core.Option.{none, some};
 ghost use Rattle.tableau.specs.declared.Rule.{Rule};
 ghost use Rattle.tableau.specs.Terms.{Table};
 ghost use Rattle.packing.specs.Packing.{Small, SmallLiteral, literalOf};
-ghost use Rattle.rules.specs.Answer.{Anywhere, HeldBy, SearchableBy, Concludes, ConcludesFresh};
-
-// w fresh gives w in all.
-pub fn fir(
-    w: TermNumber,
-    fresh: bool,
-    terms: &[u64; table::NUMBERS],
-    chains: &[u16; table::LINKS],
-) -> Outcome
-    requires { ⌜ ((table : Table) × SearchableBy (now terms) (now chains) table) ⌝ }
-    requires { ⌜ Small (w .0) ⌝ }
-    ensures { λ r. ⌜ ConcludesFresh (SearchableBy (now (terms .entry)) (now (chains .entry))) fresh Rule.Fir none none 0 (w .0) r ⌝ }
-{
-    if !fresh {
-        return Outcome::Refused(Reason::NotFresh);
-    }
-    let Found::At(a) = on_none(terms, chains, Operator::All) else {
-        return Outcome::Refused(Reason::TermNotMade);
-    };
-    outcome::adds_one(literal(Relation::In, w, a))
-}
+ghost use Rattle.rules.specs.Answer.{Anywhere, HeldBy, SearchableBy, Concludes};
 
 // u in sin(v) gives u eq v.
 pub fn sge(p: LiteralView, terms: &[u64; table::NUMBERS]) -> Outcome

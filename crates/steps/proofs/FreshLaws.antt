@@ -79,7 +79,7 @@ pub unasked-answer : (table : Table) (P Q : Option Literal) (t w : ℕ) (x : Rul
 unfolding answer ending
 unasked-answer table P Q t w x h f g = same-ending (conclude table P Q t w (rule x)) (unasked table P Q t w (rule x) h) f g
 
--- THE RULES THAT ASK are `ext`, `fir` and `wit`
-pub others-unasked : (x : Rule) → OneOf (placesBut (Rule.Ext ∷ Rule.Fir ∷ Rule.Wit ∷ [])) (placeOf x) → asksFresh x ≡ false
+-- THE RULES THAT ASK are `ext` and `wit`
+pub others-unasked : (x : Rule) → OneOf (placesBut (Rule.Ext ∷ Rule.Wit ∷ [])) (placeOf x) → asksFresh x ≡ false
 unfolding rules ruleNames rule anyFresh
-others-unasked x o = not-true _ (other-rule (λ y. not (asksFresh y)) (Rule.Ext ∷ Rule.Fir ∷ Rule.Wit ∷ []) refl refl x o)
+others-unasked x o = not-true _ (other-rule (λ y. not (asksFresh y)) (Rule.Ext ∷ Rule.Wit ∷ []) refl refl x o)

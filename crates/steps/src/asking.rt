@@ -23,7 +23,6 @@ fn asks_fresh(rule: Rule) -> bool
 {
     match rule {
         Rule::Ext => true,
-        Rule::Fir => true,
         Rule::Wit => true,
         _ => false,
     }

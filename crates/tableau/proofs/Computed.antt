@@ -1,8 +1,9 @@
--- The replies that document 01 marks, and those to the files of the old checker's failings, by computation.
+-- The replies that document 01 marks, those to the files of the old checker's failings and to those about start-up, by computation.
 use mathlib.Core.Path.{refl}
 use mathlib.Core.List.{[], _∷_}
 use Rattle.tableau.specs.Cases.{cases, AllReplies, _⊢_}
 use Rattle.tableau.specs.Failings.{incident, incidentMended, staleWitness, namesCompared, literalsKept, outsideAll, failings}
+use Rattle.tableau.specs.StartUp.{startUpCases}
 use Rattle.tableau.proofs.Evaluate.{evaluate}
 
 -- THE CASES MARKED ◆
@@ -18,3 +19,8 @@ failings-refused = refl
 pub mended-accepted : AllReplies ((incidentMended ⊢ "yes,0,0,9,4,4,3") ∷ [])
 unfolding AllReplies incidentMended evaluate
 mended-accepted = refl
+
+-- no rule gives an allocated reference that is not assumed
+pub start-up-replies : AllReplies startUpCases
+unfolding AllReplies startUpCases evaluate
+start-up-replies = refl

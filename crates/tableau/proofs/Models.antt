@@ -1,6 +1,6 @@
 -- The meaning is not empty: a finite heap, and values of the variables that make all assumed literals of a file true in it.
-use mathlib.Core.Path.{refl, ap, _∙_}
-use mathlib.Core.Bool.{cond, not}
+use mathlib.Core.Path.{_≡_, refl, ap, _∙_}
+use mathlib.Core.Bool.{Bool, false, cond, not}
 use mathlib.Core.List.{List, []}
 use Prim.Native.Nat.{ℕ}
 use lib.Dec.{eqb, lit<}
@@ -8,54 +8,70 @@ use native.Mathlib.Decide.{Fin·val-path}
 use native.Mathlib.Omega.{arith}
 use borrow.Author.Tests.{eqb-true, eq-eqb}
 use Rattle.tableau.specs.Terms.{Name, at}
-use Rattle.tableau.specs.Meaning.{_and_, _or_, same, any, FiniteHeap, Ref, within, asRef, operation, Values, valueOf, AllTrue}
+use Rattle.tableau.specs.Meaning.{_and_, _or_, Below, same, any, FiniteHeap, Ref, region, within, asRef, operation, Values, valueOf, AllTrue}
 use Rattle.tableau.specs.Claims.{termsIn, literalsIn, termsOf, assumedOf, Model}
 use Rattle.tableau.specs.Cases.{fileOf}
 use Rattle.tableau.specs.Failings.{incident, staleWitness, namesCompared, literalsKept, outsideAll, failings, AllHaveModels}
+use Rattle.tableau.specs.StartUp.{startUp, allocationUnsaid, StartUpModel, StartUpModels}
 use Rattle.tableau.proofs.Evaluate.{evaluate}
+use Rattle.tableau.proofs.Values.{region-path}
 
--- A FINITE HEAP of two references, `nul` (0) and one that is allocated (1). It has one field and two classes, and each class is `le`
--- itself alone. `typ` of the allocated reference is the class 0, as is `dty` of the field; `typ` of `nul` is the class 1.
-abbrev twoReferences : FiniteHeap
-twoReferences = record {
+-- Two references.
+abbrev nul : Below 2
+nul = (0, lit< tt)
+
+abbrev one : Below 2
+one = (1, lit< tt)
+
+-- A FINITE HEAP of these, in which those are allocated that pass the test. It has one field and two classes, and each class is `le` itself
+-- alone. `typ` of `one` is the class 0, as is `dty` of the field; `typ` of `nul` is the class 1.
+abbrev twoReferences : (test : Below 2 → Bool) → test nul ≡ false → FiniteHeap
+twoReferences test not-nul = record {
   references = 2;
   fields = 1;
   classes = 2;
-  nul = (0, lit< tt);
+  nul = nul;
   aField = (0, lit< tt);
   aClass = (0, lit< tt);
   le = same;
   le-refl = λ c. eq-eqb (c .0) (c .0) refl;
   le-trans = λ b c d p q. eq-eqb (b .0) (d .0) (eqb-true (b .0) (c .0) p ∙ eqb-true (c .0) (d .0) q);
   le-anti = λ b c p q. Fin·val-path {i = b} {j = c} (eqb-true (b .0) (c .0) p);
-  all = λ x. eqb (x .0) 1;
-  all-nul = refl;
-  allocated = ((1, lit< tt), refl);
+  all = test;
+  all-nul = not-nul;
   typ = λ x. cond (eqb (x .0) 1) (0, lit< tt) (1, lit< tt);
   dty = λ f. (0, lit< tt);
 }
 
-open FiniteHeap twoReferences using (nul, aField, aClass, allocated)
+abbrev oneAllocated : FiniteHeap
+oneAllocated = twoReferences (same one) refl
 
--- VALUES of the variables: `rfv` a is the allocated reference and any other `rfv` is `nul`; `rgv` e is the empty region and any other
--- `rgv` is `all`; each heap value gives x everywhere. (No variable has the name 0.)
-abbrev valuesWith : Name → Name → Ref twoReferences → Values twoReferences
-valuesWith a e x = record {
-  rfv = λ n. cond (eqb n a) (allocated .0) nul;
-  rgv = λ n. within twoReferences (λ y. not (eqb n e));
+abbrev nothingAllocated : FiniteHeap
+nothingAllocated = twoReferences (λ x. false) refl
+
+-- VALUES of the variables: `rfv` a is the reference u and any other `rfv` is `nul`; `rgv` e is the empty region and any other `rgv` is
+-- `all`; each heap value gives x everywhere. (No variable has the name 0.)
+abbrev valuesWith : (H : FiniteHeap) → Name → Ref H → Name → Ref H → Values H
+valuesWith H a u e x = record {
+  rfv = λ n. cond (eqb n a) u (H .nul);
+  rgv = λ n. within H (λ y. not (eqb n e));
   arv = λ n y f. x;
-  fnv = λ n. aField;
-  clv = λ n. aClass;
+  fnv = λ n. H .aField;
+  clv = λ n. H .aClass;
 }
 
 -- they make all assumed literals of a file true; to unfold this is to unfold all that it is computed from
-unfoldable AssumedTrue : Name → Name → Ref twoReferences → List ℕ → Type 0
+unfoldable AssumedTrue : (H : FiniteHeap) → Name → Ref H → Name → Ref H → List ℕ → Type 0
 unfolding evaluate termsIn literalsIn operation valueOf any _and_ _or_
-AssumedTrue a e x file = AllTrue (valuesWith a e x) (at (termsOf file)) (assumedOf file)
+AssumedTrue H a u e x file = AllTrue (valuesWith H a u e x) (at (termsOf file)) (assumedOf file)
 
-model : {file : List ℕ} (a e : Name) (x : Ref twoReferences) → AssumedTrue a e x file → Model file
+modelIn : (H : FiniteHeap) {file : List ℕ} (a : Name) (u : Ref H) (e : Name) (x : Ref H) → AssumedTrue H a u e x file → Model file
 unfolding AssumedTrue
-model a e x h = record { finiteHeap = twoReferences; values = valuesWith a e x; allTrue = h }
+modelIn H a u e x h = record { finiteHeap = H; values = valuesWith H a u e x; allTrue = h }
+
+-- where `rfv` a is the allocated reference
+abbrev model : {file : List ℕ} (a e : Name) (x : Ref oneAllocated) → AssumedTrue oneAllocated a one e x file → Model file
+model a e x h = modelIn oneAllocated a one e x h
 
 -- the last-jog record is `nul`, and so in no region
 pub incident-model : Model (fileOf incident)
@@ -65,7 +81,7 @@ incident-model = model 1 0 nul (refl, (refl, (refl, tt)))
 -- u is what its field holds, and w is `nul`
 stale-witness-model : Model (fileOf staleWitness)
 unfolding AssumedTrue staleWitness
-stale-witness-model = model 1 0 (allocated .0) (refl, (refl, tt))
+stale-witness-model = model 1 0 one (refl, (refl, tt))
 
 -- both regions are `all`, and one of the two references is `nul`
 names-compared-model : Model (fileOf namesCompared)
@@ -91,3 +107,16 @@ failings-have-models = (incident-model, (stale-witness-model, (names-compared-mo
 pub nothing-assumed : Model []
 unfolding AssumedTrue
 nothing-assumed = model 0 0 nul tt
+
+-- BEFORE THE FIRST ALLOCATION there is one region
+one-region : (f g : Below 2 → Bool) → region (within nothingAllocated f) ≡ region (within nothingAllocated g)
+unfolding _and_
+one-region f g = ap region (region-path (within nothingAllocated f) (within nothingAllocated g) (λ x. refl))
+
+start-up-model : {file : List ℕ} → AssumedTrue nothingAllocated 0 nul 0 nul file → StartUpModel file
+unfolding modelIn
+start-up-model h = record { model = modelIn nothingAllocated 0 nul 0 nul h; noneAllocated = λ x. refl }
+
+pub start-up-models : StartUpModels
+unfolding AssumedTrue startUp allocationUnsaid
+start-up-models = (start-up-model (one-region _ _, tt), start-up-model (refl, (one-region _ _, (one-region _ _, tt))))

@@ -50,10 +50,6 @@ module _ (H : FiniteHeap) where
     tt,
   )
 
-  fir : RuleSound H Rule.Fir
-  unfolding rule ruleFields operation
-  fir = (λ φ _ _ k. k (H .allocated .0) (and-i refl (and-i (H .allocated .1) refl)), tt)
-
   cpe : RuleSound H Rule.Cpe
   unfolding rule ruleFields operation arguments
   cpe = (λ φ _ _ _ _ i k. let h = and-r _ _ (and-r _ _ i) in k (and-i (and-l _ _ i) (and-l _ _ h)) (and-i (and-l _ _ i) (and-r _ _ h)), tt)
@@ -221,13 +217,12 @@ module _ (H : FiniteHeap) where
   unfolding rule ruleFields operation
   emp = (λ φ _ _ _ _ i. false≢true (and-r _ _ (and-r _ _ i)), tt)
 
-  -- THE THIRTY (`sub` and `rep` are no rows: see StepSound)
+  -- EVERY RULE (`sub` and `rep` are no rows: see StepSound)
   pub rules-sound : (x : Rule) → RuleSound H x
   unfolding rule
   rules-sound Rule.Eqr = eqr
   rules-sound Rule.Eql = eql
   rules-sound Rule.Ext = ext
-  rules-sound Rule.Fir = fir
   rules-sound Rule.Cpe = cpe
   rules-sound Rule.Cpi = cpi
   rules-sound Rule.Cue = cue

@@ -57,7 +57,7 @@ termsOf file = termsIn (linesOf file)
 abbrev pub assumedOf : List ℕ → List Literal
 assumedOf file = literalsIn (linesOf file)
 
--- "no finite heap and no values of the variables make all assumed literals true"
+-- "no finite heap and no values of the variables make all assumed literals true", and "speaks of empty heaps too"
 unfoldable pub NoHeap : List ℕ → Type 0
 NoHeap file = (H : FiniteHeap) (ρ : Values H) → AllTrue ρ (at (termsOf file)) (assumedOf file) → ⊥
 

@@ -86,12 +86,11 @@ pub record RuleFields : Type 0 where
 abbrev pub fields : PlaceField → PlaceField → ThirdField → TermField → RuleFields
 fields p′ q′ t′ w′ = record { p = p′; q = q′; t = t′; w = w′ }
 
--- "Which fields each rule uses is one fixed table of thirty rows."
+-- "Which fields each rule uses is one fixed table of [twenty-nine] rows."
 unfoldable pub ruleFields : Rule → RuleFields
 ruleFields Rule.Eqr = fields place place unused unused
 ruleFields Rule.Eql = fields place place unused unused
 ruleFields Rule.Ext = fields place unused unused term
-ruleFields Rule.Fir = fields unused unused unused term
 ruleFields Rule.Cpe = fields place unused unused unused
 ruleFields Rule.Cpi = fields place place term unused
 ruleFields Rule.Cue = fields place unused unused unused
@@ -119,6 +118,7 @@ ruleFields Rule.Rdm = fields unused unused term unused
 ruleFields Rule.Cls = fields place place unused unused
 ruleFields Rule.Emp = fields place unused unused unused
 
+-- the fields of a rule, as uses
 abbrev pub placeUse : PlaceField → Use
 placeUse unused = unused
 placeUse place = place

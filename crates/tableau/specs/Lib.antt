@@ -1,4 +1,4 @@
--- The specification, in the order of document 01.
+-- The specification, in the order of document 01; StartUp is from document 02.
 pub mod Basics
 pub mod File
 pub mod Words
@@ -12,4 +12,5 @@ pub mod Reply
 pub mod Claims
 pub mod Cases
 pub mod Failings
+pub mod StartUp
 pub mod Shams

@@ -38,7 +38,7 @@ any zero f = false
 any (suc n) f = f (n, lt-suc-self n) or any n (λ x. f (widen x))
 
 -- "A finite heap has a finite set of references with `nul` in it, non-empty finite sets of fields and classes, and a partial order
--- `le` on classes. `all` is a set of references without `nul`; at least one reference is allocated. `typ` and `dty` are total."
+-- `le` on classes. `all` is a set of references without `nul`[.] `typ` and `dty` are total."
 pub record FiniteHeap : Type 0 where
   pub references : ℕ
   pub fields : ℕ
@@ -52,7 +52,7 @@ pub record FiniteHeap : Type 0 where
   pub le-anti : (b c : Below classes) → le b c ≡ true → le c b ≡ true → b ≡ c
   pub all : Below references → Bool
   pub all-nul : all nul ≡ false
-  pub allocated : (x : Below references) × (all x ≡ true)
+  -- nothing need be allocated
   pub typ : Below references → Below classes
   pub dty : Below fields → Below classes
 

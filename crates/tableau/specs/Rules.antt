@@ -1,4 +1,4 @@
--- 'The rules': a row for each of the thirty, in the order of document 01. Nothing here knows of replies.
+-- 'The rules': a row for each of the twenty-nine, in the order of document 01. Nothing here knows of replies.
 use mathlib.Core.Bool.{Bool, true, false}
 use mathlib.Core.List.{List, [], _∷_}
 use Prim.Native.Nat.{ℕ}
@@ -204,7 +204,6 @@ unfoldable pub rule : Rule → Kind
 rule Rule.Eqr = rows (p∶ (r ≈ s) ∷ isRegion r ∷ isRegion s ∷ q∶ (u ∈ r) ∷ [] ⟶ only ⟨ u ∈ s ⟩)
 rule Rule.Eql = rows (p∶ (r ≈ s) ∷ isRegion r ∷ isRegion s ∷ q∶ (u ∈ s) ∷ [] ⟶ only ⟨ u ∈ r ⟩)
 rule Rule.Ext = rows (p∶ (r ≉ s) ∷ isRegion r ∷ isRegion s ∷ [] ；w-fresh⟶ w ∈ r ﹐ ⟨ w ∉ s ⟩ ∥ only (w ∉ r ﹐ ⟨ w ∈ s ⟩))
-rule Rule.Fir = rows ([] ；w-fresh⟶ only ⟨ w ∈ all ⟩)
 rule Rule.Cpe = rows (p∶ (u ∈ cap r s) ∷ [] ⟶ only (u ∈ r ﹐ ⟨ u ∈ s ⟩))
 rule Rule.Cpi = rows (p∶ (u ∈ r) ∷ q∶ (u ∈ s) ∷ t≐ (cap r s) ∷ [] ⟶ only ⟨ u ∈ t ⟩)
 rule Rule.Cue = rows (p∶ (u ∈ cup r s) ∷ [] ⟶ ⟨ u ∈ r ⟩ ∥ only ⟨ u ∈ s ⟩)
@@ -231,3 +230,5 @@ rule Rule.Rdh = rows (t≐ (rea (wri h u f v) u f) ∷ [] ⟶ only ⟨ t ≈ v �
 rule Rule.Rdm = rows (t≐ (rea (wri h u f v) y g) ∷ [] ⟶ u ≈ y ﹐ ⟨ f ≈ g ⟩ ∥ only ⟨ t ≈ rea h y g ⟩)
 rule Rule.Cls = rows ((p∶ (a ∈ b) ∷ q∶ (a ∉ b) ∷ [] ⟶ closes) or (p∶ (a ≈ b) ∷ q∶ (a ≉ b) ∷ [] ⟶ closes) or (p∶ (a ⊑ b) ∷ q∶ (a ⋢ b) ∷ [] ⟶ closes))
 rule Rule.Emp = rows (p∶ (u ∈ emp) ∷ [] ⟶ closes)
+
+-- What `sub` and `rep` need and add is in Steps.antt.

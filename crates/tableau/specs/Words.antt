@@ -49,7 +49,6 @@ ruleNames =
     ("eqr" ↣ Rule.Eqr) ∷
     ("eql" ↣ Rule.Eql) ∷
     ("ext" ↣ Rule.Ext) ∷
-    ("fir" ↣ Rule.Fir) ∷
     ("cpe" ↣ Rule.Cpe) ∷
     ("cpi" ↣ Rule.Cpi) ∷
     ("cue" ↣ Rule.Cue) ∷

@@ -48,12 +48,11 @@ pub enum Relation {
     Nl,
 }
 
-// The words of S lines: the thirty rules.
+// The words of S lines: the rules.
 pub enum Rule {
     Eqr,
     Eql,
     Ext,
-    Fir,
     Cpe,
     Cpi,
     Cue,

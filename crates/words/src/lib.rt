@@ -78,14 +78,13 @@ const RELATIONS: [Relation; RELATION_COUNT] = [
     Relation::Nl,
 ];
 
-const RULE_COUNT: usize = 30;
+const RULE_COUNT: usize = 29;
 
-// "Which fields each rule uses is one fixed table of thirty rows."
+// "Which fields each rule uses is one fixed table of [twenty-nine] rows."
 const RULES: [RuleUses; RULE_COUNT] = [
     RuleUses(Rule::Eqr, Mask::P | Mask::Q),
     RuleUses(Rule::Eql, Mask::P | Mask::Q),
     RuleUses(Rule::Ext, Mask::P | Mask::W),
-    RuleUses(Rule::Fir, Mask::W),
     RuleUses(Rule::Cpe, Mask::P),
     RuleUses(Rule::Cpi, Mask::P | Mask::Q | Mask::T),
     RuleUses(Rule::Cue, Mask::P),
@@ -172,7 +171,7 @@ pub fn rule_of(word: usize) -> RuleFound
 {
     let index = search(
         word,
-        b"eqr eql ext fir cpe cpi cue cui dfe dfi sge sgi cut all nul sep img wit ref sym trn sub rep ler let lea rdh rdm cls emp ",
+        b"eqr eql ext cpe cpi cue cui dfe dfi sge sgi cut all nul sep img wit ref sym trn sub rep ler let lea rdh rdm cls emp ",
     );
     if index < RULE_COUNT {
         let row = RULES[index];

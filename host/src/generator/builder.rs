@@ -4,7 +4,7 @@
 use crate::random::Random;
 
 use super::derivations;
-use super::draft::{Draft, Sort, TermId, MOST_TERMS, MOST_WAITING};
+use super::draft::{lit, Draft, Literal, Place, Sort, TermId, MOST_TERMS, MOST_WAITING};
 use super::refutations;
 
 /// Room kept free below the limits, so that a refutation under way fits.
@@ -220,8 +220,14 @@ impl<'a> Builder<'a> {
         }
     }
 
-    /// Closes the branch by one refutation.
+    /// Closes the branch by one refutation, or by a member of `emp` that a step
+    /// has added.
     fn refute(&mut self, depth: usize) {
+        if let Some(place) = self.derived_in_empty() {
+            if self.random.chance(1, 2) {
+                return self.draft.empty(place);
+            }
+        }
         let crowded = self.draft.waiting() + SPARE_WAITING > MOST_WAITING
             || self.draft.assumptions.len() > ENOUGH_ASSUMPTIONS
             || self.many_terms();
@@ -230,6 +236,14 @@ impl<'a> Builder<'a> {
         }
         let depth = if self.spent() { 0 } else { depth };
         refutations::any(self, depth);
+    }
+
+    fn derived_in_empty(&self) -> Option<Place> {
+        let mut places = self.draft.places_with(&["in"]).into_iter();
+        places.find(|place| {
+            let (_, region) = self.draft.sides(*place, "in");
+            matches!(place, Place::Derived(_)) && self.draft.word(region) == "emp"
+        })
     }
 
     /// Splits until so many alternatives wait.
@@ -258,15 +272,34 @@ impl<'a> Builder<'a> {
                     self.draft.lea(p, p);
                 }
             }
-            2 => {
-                let w = self.fresh();
-                self.draft.fir(w);
-            }
+            2 => self.idle_member(),
             3..=6 => self.idle_split(),
             7 => self.idle_equation(),
             8 => self.idle_substitution(),
             9 => self.idle_read(),
             _ => self.idle_membership(),
+        }
+    }
+
+    /// A fresh member of `all`, which is assumed not to be empty. The
+    /// alternative that has it in `emp` waits, or comes first and is closed.
+    fn idle_member(&mut self) {
+        let all = self.draft.term("all", &[]);
+        let emp = self.draft.term("emp", &[]);
+        if self.may_split() && self.random.chance(1, 2) {
+            let (p, w) = (self.found_or_assumed(lit(all, "ne", emp)), self.fresh());
+            self.draft.ext(p, w);
+        } else if self.draft.waiting() < MOST_WAITING {
+            let (p, w) = (self.found_or_assumed(lit(emp, "ne", all)), self.fresh());
+            let in_empty = self.draft.ext(p, w);
+            self.draft.empty(in_empty);
+        }
+    }
+
+    fn found_or_assumed(&mut self, literal: Literal) -> Place {
+        match self.draft.find(literal) {
+            Some(place) => place,
+            None => self.draft.assume(literal),
         }
     }
 

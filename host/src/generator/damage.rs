@@ -4,12 +4,13 @@
 use crate::random::Random;
 
 use super::exact_damage::{words_of, EXACT};
+use super::planted;
 use super::tableau::{text, Entry, Line, Tableau};
 use super::{Expected, Sample};
 
 type Blind = fn(&Tableau, &mut Random) -> Vec<u8>;
 
-const BLIND: [(&str, Blind); 13] = [
+const BLIND: [(&str, Blind); 14] = [
     ("a number changed", number_changed),
     ("a number changed", number_changed),
     ("two fields exchanged", fields_exchanged),
@@ -19,6 +20,7 @@ const BLIND: [(&str, Blind); 13] = [
     ("two lines exchanged", lines_exchanged),
     ("a line moved", line_moved),
     ("two alternatives exchanged", alternatives_exchanged),
+    ("a variable taken at random", variable_at_random),
     ("a byte changed", byte_changed),
     ("a byte dropped", byte_dropped),
     ("a byte doubled", byte_doubled),
@@ -134,6 +136,10 @@ fn alternatives_exchanged(tableau: &Tableau, random: &mut Random) -> Vec<u8> {
     };
     lines.splice(place..place, moved);
     text(&lines)
+}
+
+fn variable_at_random(tableau: &Tableau, random: &mut Random) -> Vec<u8> {
+    planted::variable_at_random(tableau, random).unwrap_or_else(|| word_changed(tableau, random))
 }
 
 const BYTES: &[u8] = b"TAS,,,\n\n0123456789abcdefghilmnprstuwy -\r\0\xff";

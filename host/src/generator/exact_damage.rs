@@ -14,7 +14,7 @@ use super::Expected;
 pub type Damaged = Option<(Vec<u8>, Expected)>;
 pub type Damage = fn(&Tableau, &mut Random) -> Damaged;
 
-pub const EXACT: [(&str, Damage); 26] = [
+pub const EXACT: [(&str, Damage); 27] = [
     ("last closing dropped", last_closing_dropped),
     ("last closing doubled", last_closing_doubled),
     ("a line misshapen", misshapen),
@@ -41,6 +41,7 @@ pub const EXACT: [(&str, Damage); 26] = [
     ("w inside a right side", planted::inside_on_the_right),
     ("w inside both sides", planted::inside_on_both_sides),
     ("w as a left side", planted::on_the_left),
+    ("a step by fir", planted::former_rule),
 ];
 
 /// A random line that is as asked.
@@ -149,12 +150,14 @@ const TERM_WORDS: [&str; 17] = [
     "fnv", "clv", "typ", "dty",
 ];
 const LITERAL_WORDS: [&str; 6] = ["in", "ni", "eq", "ne", "le", "nl"];
-/// The thirty rules.
-pub const RULES: [&str; 30] = [
-    "eqr", "eql", "ext", "fir", "cpe", "cpi", "cue", "cui", "dfe", "dfi", "sge", "sgi", "cut",
-    "all", "nul", "sep", "img", "wit", "ref", "sym", "trn", "sub", "rep", "ler", "let", "lea",
-    "rdh", "rdm", "cls", "emp",
+/// The twenty-nine rules.
+pub const RULES: [&str; 29] = [
+    "eqr", "eql", "ext", "cpe", "cpi", "cue", "cui", "dfe", "dfi", "sge", "sgi", "cut", "all",
+    "nul", "sep", "img", "wit", "ref", "sym", "trn", "sub", "rep", "ler", "let", "lea", "rdh",
+    "rdm", "cls", "emp",
 ];
+/// A rule in older files; now no letter has the word.
+pub const FORMER_RULE: &str = "fir";
 
 /// The words known for a letter.
 pub fn words_of(letter: char) -> &'static [&'static str] {

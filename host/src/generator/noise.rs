@@ -3,7 +3,7 @@
 
 use crate::random::Random;
 
-use super::exact_damage::{words_of, RULES};
+use super::exact_damage::{words_of, FORMER_RULE};
 use super::tableau::Tableau;
 use super::{Expected, Sample};
 
@@ -33,11 +33,19 @@ fn bytes_of_files(random: &mut Random) -> Vec<u8> {
         .collect()
 }
 
+/// A word known for the letter, now and then one that is not.
+fn some_word(letter: char, random: &mut Random) -> &'static str {
+    if random.chance(1, 30) {
+        return FORMER_RULE;
+    }
+    random.pick(words_of(letter))
+}
+
 fn random_lines(random: &mut Random) -> Vec<u8> {
     let mut text = String::new();
     for letter in ['T', 'A', 'S'] {
         for _ in 0..random.below(6) {
-            let word = random.pick(words_of(letter));
+            let word = some_word(letter, random);
             let used = random.below(5);
             let mut numbers = [0; 4];
             for number in numbers.iter_mut().take(used) {
@@ -65,12 +73,12 @@ fn random_steps(tableau: &Tableau, random: &mut Random) -> Vec<u8> {
     text.into_bytes()
 }
 
-/// The fields p, q, t, w that a rule uses.
+/// The fields p, q, t, w that a rule uses, or used in older files.
 fn used_fields(rule: &str) -> [bool; 4] {
     let used = match rule {
         "eqr" | "eql" | "sep" | "trn" | "let" | "lea" | "cls" => "pq",
         "ext" | "wit" => "pw",
-        "fir" => "w",
+        FORMER_RULE => "w",
         "cpi" | "dfi" | "rep" => "pqt",
         "cui" | "img" => "pt",
         "sgi" | "ref" | "ler" | "rdh" | "rdm" => "t",
@@ -82,7 +90,7 @@ fn used_fields(rule: &str) -> [bool; 4] {
 }
 
 fn random_step(tableau: &Tableau, steps_before: usize, random: &mut Random) -> String {
-    let rule = random.pick(&RULES);
+    let rule = some_word('S', random);
     let used = used_fields(rule);
     let places = tableau.assumptions + steps_before + 1;
     let mut numbers = [0; 4];

@@ -1,10 +1,11 @@
 //! Damage by lines planted into a closed tableau: errors in freshness and in
-//! `sub` that few random changes would hit. Each is refused at a known line.
+//! `sub` that few random changes would hit, and a rule that is none any more.
+//! All but one are refused at a known line.
 
 use crate::random::Random;
 
 use super::draft::{MOST_TERMS, MOST_WAITING};
-use super::exact_damage::{some_line, Damaged};
+use super::exact_damage::{some_line, Damaged, FORMER_RULE};
 use super::refusal;
 use super::tableau::{plain_line, text, Entry, Line, Tableau};
 
@@ -16,7 +17,9 @@ const SPARE_TERMS: usize = 5;
 struct Planted {
     lines: Vec<Line>,
     terms: usize,
-    new_terms: usize,
+    assumptions: usize,
+    /// Lines planted before the steps.
+    before_steps: usize,
 }
 
 impl Planted {
@@ -25,27 +28,44 @@ impl Planted {
         room.then(|| Planted {
             lines: tableau.lines.clone(),
             terms: tableau.terms,
-            new_terms: 0,
+            assumptions: tableau.assumptions,
+            before_steps: 0,
         })
     }
 
     /// This term, which is planted as the last one if it is new.
     fn term(&mut self, word: &'static str, argument: Entry) -> Entry {
         let line = plain_line('T', word, [argument, NONE, NONE, NONE]);
-        let terms = self.terms + self.new_terms;
-        let known = self.lines[..terms].iter().position(|old| *old == line);
+        let terms = &self.lines[..self.terms];
+        let known = terms.iter().position(|old| *old == line);
         let index = known.unwrap_or_else(|| {
-            self.lines.insert(terms, line);
-            self.new_terms += 1;
-            terms
+            self.lines.insert(self.terms, line);
+            self.terms += 1;
+            self.before_steps += 1;
+            self.terms - 1
         });
         Entry::Term(index as u32 + 1)
+    }
+
+    /// Plants an assumption as the last one, so that derived literals stand one
+    /// place further on. Gives its place.
+    fn assume(&mut self, left: Entry, word: &'static str, right: Entry) -> Entry {
+        for entry in self.lines.iter_mut().flat_map(|line| &mut line.entries) {
+            if let Entry::Place(place) = entry {
+                *place += u32::from(*place > self.assumptions as u32);
+            }
+        }
+        let line = plain_line('A', word, [left, right, NONE, NONE]);
+        self.lines.insert(self.terms + self.assumptions, line);
+        self.assumptions += 1;
+        self.before_steps += 1;
+        Entry::Place(self.assumptions as u32)
     }
 
     /// Plants a step before the line that had this index. Gives the number of
     /// the planted line.
     fn step(&mut self, before: usize, rule: &'static str, entries: [Entry; 4]) -> usize {
-        let index = before + self.new_terms;
+        let index = before + self.before_steps;
         self.lines.insert(index, plain_line('S', rule, entries));
         index + 1
     }
@@ -133,4 +153,50 @@ pub fn on_the_left(tableau: &Tableau, random: &mut Random) -> Damaged {
     let all = planted.term("all", NONE);
     let line = planted.step(index, "cut", [NONE, NONE, w, all]);
     planted.refused(13, line + 1)
+}
+
+/// A step by a word that is no rule any more, with the fields that older files
+/// have or with others: among the steps, or after the last, where the tree is
+/// closed.
+pub fn former_rule(tableau: &Tableau, random: &mut Random) -> Damaged {
+    let is_variable = |line: &Line| line.letter == 'T' && line.word == "rfv";
+    let w = some_line(tableau, random, is_variable).map_or(0, |index| index as u32 + 1);
+    let mut numbers = [0, 0, 0, w];
+    for number in &mut numbers {
+        if random.chance(1, 4) {
+            *number = random.below(2) as u32 * random.digits();
+        }
+    }
+    let steps_before = if random.chance(1, 4) {
+        tableau.steps
+    } else {
+        random.below(tableau.steps)
+    };
+    let index = tableau.terms + tableau.assumptions + steps_before;
+    let mut lines = tableau.lines.clone();
+    let entries = numbers.map(Entry::Name);
+    lines.insert(index, plain_line('S', FORMER_RULE, entries));
+    Some((text(&lines), refusal(4, index + 1)))
+}
+
+/// From some step on, a branch is closed by `ext` with a variable at random, on
+/// all ne emp, which is assumed besides with its denial. So the file is still a
+/// closed tableau if the variable is fresh there; whether it is, is not known.
+pub fn variable_at_random(tableau: &Tableau, random: &mut Random) -> Option<Vec<u8>> {
+    let is_variable = |line: &Line| line.letter == 'T' && line.word == "rfv";
+    let w = Entry::Term(some_line(tableau, random, is_variable)? as u32 + 1);
+    let from = some_line(tableau, random, |line| line.letter == 'S')?;
+    let to = tableau.end_of_subtree(from);
+    let mut planted = Planted::new(tableau)?;
+    let all = planted.term("all", NONE);
+    let emp = planted.term("emp", NONE);
+    let equal = planted.assume(all, "eq", emp);
+    let unequal = planted.assume(all, "ne", emp);
+    let moved = planted.before_steps;
+    planted.lines.drain(from + moved..to + moved);
+    for _ in 0..2 {
+        planted.step(from, "cls", [equal, unequal, NONE, NONE]);
+    }
+    planted.step(from, "ext", [unequal, NONE, NONE, w]);
+    Some(text(&planted.lines))
 }

@@ -13,7 +13,7 @@ type Refutation = fn(&mut Builder, usize);
 const REFUTATIONS: [Refutation; 33] = [
     eqr,
     eql,
-    fir,
+    ext_of_all,
     cpe,
     cpi,
     cue,
@@ -125,15 +125,26 @@ fn eql(builder: &mut Builder, depth: usize) {
     builder.draft.cls(added, no_member);
 }
 
-/// Something is allocated, so `all` is not empty.
-fn fir(builder: &mut Builder, depth: usize) {
+/// `all` is not empty, but equal to a region that is.
+fn ext_of_all(builder: &mut Builder, depth: usize) {
     let all = builder.draft.term("all", &[]);
     let emp = builder.draft.term("emp", &[]);
-    let equation = obtain(builder, lit(all, "eq", emp), depth);
+    let r = region(builder);
+    let [left, right] = builder.random.pick(&[[all, emp], [emp, all]]);
+    let unequal = obtain(builder, lit(left, "ne", right), depth);
+    let to_r = obtain(builder, lit(all, "eq", r), depth);
+    let to_empty = obtain(builder, lit(r, "eq", emp), depth);
     let w = builder.fresh();
-    let member = builder.draft.fir(w);
-    let added = builder.draft.eqr(equation, member);
-    builder.draft.empty(added);
+    let added = builder.draft.ext(unequal, w);
+    // The second alternative stands where the first did; w in right comes last.
+    for (member, side) in [(added, left), (added.after(1), right)] {
+        let mut impossible = member;
+        if side == all {
+            let moved = builder.draft.eqr(to_r, member);
+            impossible = builder.draft.eqr(to_empty, moved);
+        }
+        builder.draft.empty(impossible);
+    }
 }
 
 fn cpe(builder: &mut Builder, depth: usize) {

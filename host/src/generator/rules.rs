@@ -1,5 +1,5 @@
-//! The thirty rules, as steps of a draft. Who calls one knows that its needs
-//! are met. Each gives the place of the first literal added.
+//! The twenty-nine rules, as steps of a draft. Who calls one knows that its
+//! needs are met. Each gives the place of the first literal added.
 
 use super::draft::{lit, Draft, Field, Place, TermId};
 
@@ -38,13 +38,6 @@ impl Draft {
         let left = vec![lit(w, "in", r), lit(w, "ni", s)];
         let right = vec![lit(w, "ni", r), lit(w, "in", s)];
         self.add("ext", [at(p), NONE, NONE, of(w)], vec![left, right])
-    }
-
-    pub fn fir(&mut self, w: TermId) -> Place {
-        self.take_fresh(w);
-        let all = self.all_region();
-        let added = vec![lit(w, "in", all)];
-        self.add("fir", [NONE, NONE, NONE, of(w)], vec![added])
     }
 
     pub fn cpe(&mut self, p: Place) -> Place {

@@ -44,7 +44,7 @@ impl Line {
 
     /// Whether the step takes a fresh variable.
     pub fn takes_fresh(&self) -> bool {
-        self.letter == 'S' && matches!(self.word, "ext" | "fir" | "wit")
+        self.letter == 'S' && matches!(self.word, "ext" | "wit")
     }
 }
 
@@ -109,7 +109,9 @@ impl Tableau {
         found
     }
 
-    fn end_of_subtree(&self, start: usize) -> usize {
+    /// Where the branch that a step goes on with, and all that it splits into,
+    /// has been closed.
+    pub fn end_of_subtree(&self, start: usize) -> usize {
         let mut open = 1;
         let mut index = start;
         while open > 0 {

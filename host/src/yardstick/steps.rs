@@ -58,7 +58,6 @@ impl Checker {
             rule::EQR => self.eqr(fields),
             rule::EQL => self.eql(fields),
             rule::EXT => self.ext(fields),
-            rule::FIR => self.fir(fields),
             rule::CPE => self.cpe(fields),
             rule::CPI => self.cpi(fields),
             rule::CUE => self.cue(fields),

@@ -32,9 +32,9 @@ pub mod relation {
 
 pub mod rule {
     words! {
-        EQR "eqr", EQL "eql", EXT "ext", FIR "fir", CPE "cpe", CPI "cpi", CUE "cue", CUI "cui",
-        DFE "dfe", DFI "dfi", SGE "sge", SGI "sgi", CUT "cut", ALL "all", NUL "nul", SEP "sep",
-        IMG "img", WIT "wit", REF "ref", SYM "sym", TRN "trn", SUB "sub", REP "rep", LER "ler",
-        LET "let", LEA "lea", RDH "rdh", RDM "rdm", CLS "cls", EMP "emp",
+        EQR "eqr", EQL "eql", EXT "ext", CPE "cpe", CPI "cpi", CUE "cue", CUI "cui", DFE "dfe",
+        DFI "dfi", SGE "sge", SGI "sgi", CUT "cut", ALL "all", NUL "nul", SEP "sep", IMG "img",
+        WIT "wit", REF "ref", SYM "sym", TRN "trn", SUB "sub", REP "rep", LER "ler", LET "let",
+        LEA "lea", RDH "rdh", RDM "rdm", CLS "cls", EMP "emp",
     }
 }

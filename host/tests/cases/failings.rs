@@ -92,10 +92,12 @@ fn w_inside_a_larger_term() -> Vec<Case> {
         "T,rea,4,1,5,0", // 8
         "T,typ,8,0,0,0", // 9
         "A,eq,2,2,0,0",  // 1
-        "A,eq,6,7,0,0",  // 2: all eq emp
-        "S,fir,0,0,0,1", // 3: w in all
-        "S,eqr,2,3,0,0", // 4: w in emp
-        "S,emp,4,0,0,0",
+        "A,ne,6,7,0,0",  // 2: all ne emp
+        "A,eq,6,7,0,0",  // 3: all eq emp
+        "S,ext,2,0,0,1", // 4: w in all, 5: w ni emp
+        "S,eqr,3,4,0,0", // 6: w in emp
+        "S,emp,6,0,0,0", // 4: w ni all, 5: w in emp
+        "S,emp,5,0,0,0",
     ];
     let rows = [
         ("T,rea,4,1,5,0", "T,typ,8,0,0,0"),
@@ -118,24 +120,24 @@ fn w_inside_a_larger_term() -> Vec<Case> {
         case(
             "failings: typ(v) on the branch",
             with_lines(&base, &[(9, "T,typ,2,0,0,0"), (10, "A,eq,9,9,0,0")]),
-            "yes,0,0,9,2,3,1",
+            "yes,0,0,9,3,4,2",
         ),
         case(
             "failings: typ(w) on the branch",
             with_lines(&base, &[(9, "T,typ,1,0,0,0"), (10, "A,eq,9,9,0,0")]),
-            "no,13,12,0,0,0,0",
+            "no,13,13,0,0,0,0",
         ),
     ];
     for (inner, outer) in rows {
         cases.push(case(
             &format!("failings: w in {inner}, then {outer}, in the table"),
             with_lines(&base, &[(8, inner), (9, outer)]),
-            "yes,0,0,9,2,3,1",
+            "yes,0,0,9,3,4,2",
         ));
         cases.push(case(
             &format!("failings: w in {inner}, then {outer}, on the branch"),
             with_lines(&base, &[(8, inner), (9, outer), (10, "A,eq,9,9,0,0")]),
-            "no,13,12,0,0,0,0",
+            "no,13,13,0,0,0,0",
         ));
     }
     cases

@@ -1,6 +1,6 @@
 //! Each limit reached by an accepted file, and its neighbours above.
 
-use super::{case, lines, runs, with_line, with_more, Case, ALL, R, U};
+use super::{case, lines, runs, with_line, with_more, Case, R, U};
 
 const IN: &str = "A,in,1,2,0,0";
 const NI: &str = "A,ni,1,2,0,0";
@@ -103,15 +103,16 @@ fn terms() -> Vec<Case> {
     ]
 }
 
-/// Each term from 5 on holds the one before it twice, so that term 600 holds
+/// Each term from 3 on holds the one before it twice, so that term 600 holds
 /// term 2 on more paths than can be walked.
 fn shared_terms() -> Vec<Case> {
-    let mut file: Vec<String> = [U, R, ALL, "T,cup,2,2,0,0"].map(String::from).to_vec();
-    file.extend((4..=599).map(|part| format!("T,cup,{part},{part},0,0")));
+    let mut file: Vec<String> = [U, R].map(String::from).to_vec();
+    file.extend((2..=599).map(|part| format!("T,cup,{part},{part},0,0")));
     let rest = [
         "A,eq,600,600,0,0", // 1
         "A,ne,600,600,0,0", // 2
-        "S,fir,0,0,0,1",    // 3: w in all
+        "S,ext,2,0,0,1",    // 3: w in term 600, 4: w ni term 600
+        CLS,                // 3: w ni term 600, 4: w in term 600
         CLS,
     ];
     file.extend(rest.map(String::from));
@@ -119,7 +120,7 @@ fn shared_terms() -> Vec<Case> {
         case(
             "limits: w not in a much shared term",
             lines(&file),
-            "yes,0,0,600,2,2,1",
+            "yes,0,0,600,2,3,2",
         ),
         case(
             "limits: w in a much shared term",

@@ -1,10 +1,11 @@
 //! Files for the checker, each with the reply that it must get.
 //!
-//! Every reply is worked out by hand from the scope document. In comments
-//! `3: u in r` says that place 3 of the branch now holds that literal; beside a
-//! closing it is what the next alternative adds. A number beside a T line is
-//! the number of the term.
+//! Every reply is worked out by hand from the scope document, its rule `fir`
+//! struck. In comments `3: u in r` says that place 3 of the branch now holds
+//! that literal; beside a closing it is what the next alternative adds. A number
+//! beside a T line is the number of the term.
 
+mod allocated;
 mod failings;
 mod limits;
 mod marked;
@@ -29,6 +30,7 @@ pub fn all() -> Vec<Case> {
         rules_refuse::cases(),
         failings::cases(),
         tree::cases(),
+        allocated::cases(),
     ];
     topics.into_iter().flatten().collect()
 }

@@ -2,7 +2,8 @@
 //! lines that break two checks. The examples of 12 and 17 are marked cases.
 
 use super::{
-    case, lines, runs, with_line, with_lines, with_more, Case, EMP, F, FIELD, G, HEAP, NUL, R, U,
+    case, lines, runs, with_line, with_lines, with_more, Case, ALL, EMP, F, FIELD, G, HEAP, NUL, R,
+    S, U, V,
 };
 
 pub fn cases() -> Vec<Case> {
@@ -14,6 +15,7 @@ pub fn cases() -> Vec<Case> {
         letters_out_of_order(),
         words_of_other_letters(),
         words_of_no_letter(),
+        fir_is_no_rule(),
         after_the_last_closing(),
         unused_fields(),
         terms_not_made(),
@@ -24,6 +26,7 @@ pub fn cases() -> Vec<Case> {
         terms_nearly_the_same(),
         left_open(),
         two_checks_broken(),
+        two_checks_broken_by_w(),
         two_checks_broken_by_term_601(),
         two_checks_broken_by_literal_1001(),
         first_bad_line(),
@@ -53,6 +56,14 @@ fn examples() -> Vec<Case> {
     terms.push("T,rfv,601,0,0,0".into());
     let a_lines = [(1, U), (1, R), (1001, "A,in,1,2,0,0")];
     let cuts = [(1, U), (1, R), (201, "S,cut,0,0,1,2")];
+    let w_reused = [
+        U,               // 1, w
+        R,               // 2
+        S,               // 3
+        "A,ne,2,3,0,0",  // 1: r ne s
+        "S,ext,1,0,0,1", // 2: w in r, 3: w ni s
+        "S,ext,1,0,0,1",
+    ];
     vec![
         case("numbers: 1", vec![b'\n'; 60_001], "no,1,0,0,0,0,0"),
         f_with(1, "T,nul,0,0,0", "no,2,1,0,0,0,0"),
@@ -65,7 +76,7 @@ fn examples() -> Vec<Case> {
         case("numbers: 9", lines(&region_first), "no,9,2,0,0,0,0"),
         case("numbers: 10", lines(&[EMP, EMP]), "no,10,2,0,0,0,0"),
         f_with(7, "S,emp,0,0,0,0", "no,11,7,0,0,0,0"),
-        f_with(7, "S,fir,0,0,0,1", "no,13,7,0,0,0,0"),
+        case("numbers: 13", lines(&w_reused), "no,13,6,0,0,0,0"),
         f_with(7, "S,all,1,0,0,0", "no,14,7,0,0,0,0"),
         case("numbers: 15", runs(&a_lines), "no,15,1003,0,0,0,0"),
         case("numbers: 16", runs(&cuts), "no,16,203,0,0,0,0"),
@@ -277,8 +288,8 @@ fn words_of_other_letters() -> Vec<Case> {
     let terms_and_rules = ["nul", "emp", "all", "img"];
     let literals = ["in", "ni", "eq", "ne", "le", "nl"];
     let rules = [
-        "eqr", "eql", "ext", "fir", "cpe", "cpi", "cue", "cui", "dfe", "dfi", "sge", "sgi", "cut",
-        "sep", "wit", "ref", "sym", "trn", "sub", "rep", "ler", "let", "lea", "rdh", "rdm", "cls",
+        "eqr", "eql", "ext", "cpe", "cpi", "cue", "cui", "dfe", "dfi", "sge", "sgi", "cut", "sep",
+        "wit", "ref", "sym", "trn", "sub", "rep", "ler", "let", "lea", "rdh", "rdm", "cls",
     ];
     let mut cases = Vec::new();
     for word in [&literals[..], &rules].concat() {
@@ -295,16 +306,128 @@ fn words_of_other_letters() -> Vec<Case> {
 
 fn words_of_no_letter() -> Vec<Case> {
     let mut cases = Vec::new();
-    for word in ["xyz", "aa", "rf", "fv", "nu", "ul", "rfa", "xfv", "zzz"] {
+    for word in [
+        "xyz", "aa", "rf", "fv", "nu", "ul", "rfa", "xfv", "zzz", "fir",
+    ] {
         cases.push(f_with(1, &format!("T,{word},1,0,0,0"), "no,4,1,0,0,0,0"));
     }
-    for word in ["xy", "xyz", "im", "on", "ein", "inn", "ins", "eqq"] {
+    for word in [
+        "xy", "xyz", "im", "on", "ein", "inn", "ins", "eqq", "fir", "fi", "ir",
+    ] {
         cases.push(f_with(5, &format!("A,{word},1,4,0,0"), "no,4,5,0,0,0,0"));
     }
-    for word in ["xyz", "cp", "pe", "cpx", "cxe", "xpe"] {
+    for word in ["xyz", "cp", "pe", "cpx", "cxe", "xpe", "fir", "fi", "ir"] {
         cases.push(f_with(7, &format!("S,{word},1,0,0,0"), "no,4,7,0,0,0,0"));
     }
     cases
+}
+
+/// In older files `fir` is a rule that takes a fresh w and adds w in `all`. Now
+/// it is a word like any other that no letter has: whatever its fields hold, it
+/// gets 4, unless the line meets 2 or 3.
+fn fir_is_no_rule() -> Vec<Case> {
+    let mut cases = Vec::new();
+    // 2, also where the tree is closed.
+    for (number, line) in [
+        (1, "T,fir,01,0,0,0"),
+        (5, "A,fir,1,4,0"),
+        (7, "S,fir,0,0,0"),
+        (7, "S,fir,0,0,0,"),
+        (7, "S,fir,0,0,0,1,0"),
+        (7, "S,fir,0,0,0,01"),
+        (7, "S,fir,0,0,0,00"),
+        (7, "S,fir,0,0,0,10000"),
+        (7, "S,fir,0,0,0,-1"),
+        (7, "S,fir,0,0,0,1 "),
+        (7, "S,fir ,0,0,0,1"),
+        (7, "S,fir,0,0,0,1\r"),
+        (7, "S,firr,0,0,0,1"),
+        (7, "S,f,0,0,0,1"),
+        (7, "S,Fir,0,0,0,1"),
+        (7, "S,FIR,0,0,0,1"),
+        (7, "s,fir,0,0,0,1"),
+    ] {
+        let reply = match number {
+            1 => "no,2,1,0,0,0,0",
+            5 => "no,2,5,0,0,0,0",
+            _ => "no,2,7,0,0,0,0",
+        };
+        cases.push(f_with(number, line, reply));
+    }
+    cases.extend([
+        f_with(9, "S,fir,0,0,0", "no,2,9,0,0,0,0"),
+        f_with(9, "S,fir,0,0,0,01", "no,2,9,0,0,0,0"),
+        // 3 is for T and A lines alone.
+        f_with(6, "T,fir,1,0,0,0", "no,3,6,0,0,0,0"),
+        f_with(8, "T,fir,1,0,0,0", "no,3,8,0,0,0,0"),
+        f_with(8, "A,fir,1,2,0,0", "no,3,8,0,0,0,0"),
+        f_with(9, "A,fir,1,2,0,0", "no,3,9,0,0,0,0"),
+    ]);
+    // Fields for which a rule would get 6, 8, 11, 12 or 13.
+    for fields in [
+        "0,0,0,1", // u is on the branch: not fresh
+        "0,0,0,2", // r is no rfv
+        "0,0,0,0",
+        "0,0,0,5",
+        "0,0,0,9999",
+        "0,1,0,1",
+        "0,0,1,1",
+        "1,0,0,1", // the fields of ext, where place 1 is no ne
+        "3,0,0,1", // there is no place 3
+        "1,1,1,1",
+        "3,2,0,0", // the fields of the closing
+        "9999,9999,9999,9999",
+    ] {
+        let line = format!("S,fir,{fields}");
+        cases.push(f_with(7, &line, "no,4,7,0,0,0,0"));
+        // After the last closing, where any rule gets 5.
+        cases.push(f_with(9, &line, "no,4,9,0,0,0,0"));
+    }
+    cases.extend(fir_elsewhere());
+    cases
+}
+
+fn fir_elsewhere() -> Vec<Case> {
+    let step = "S,fir,0,0,0,1";
+    let unended = [lines(&F[..6]), step.into()].concat();
+    let unended_when_closed = [lines(&F), step.into()].concat();
+    let rows = [
+        ("first of all", lines(&[step]), "no,4,1,0,0,0,0"),
+        ("without LF", unended, "no,2,7,0,0,0,0"),
+        ("without LF, closed", unended_when_closed, "no,2,9,0,0,0,0"),
+        ("after G", with_more(&G, &[step]), "no,4,11,0,0,0,0"),
+        // w is fresh. `all` stands in the table, or does not.
+        ("w fresh", lines(&[U, ALL, step]), "no,4,3,0,0,0,0"),
+        ("w fresh, no all", lines(&[U, step]), "no,4,2,0,0,0,0"),
+        ("twice", lines(&[U, ALL, step, step]), "no,4,3,0,0,0,0"),
+        (
+            "instead of the last closing",
+            with_line(&F, 8, step),
+            "no,4,8,0,0,0,0",
+        ),
+        // Of 14 bytes each: 59,990 and 60,004.
+        ("4,285 times", runs(&[(4285, step)]), "no,4,1,0,0,0,0"),
+        ("4,286 times", runs(&[(4286, step)]), "no,1,0,0,0,0,0"),
+        // Of two bad lines the first counts.
+        (
+            "12 on the next line",
+            with_lines(&F, &[(7, step), (8, "S,cls,2,3,0,0")]),
+            "no,4,7,0,0,0,0",
+        ),
+        (
+            "12 on the line before",
+            with_lines(&F, &[(7, "S,cpe,2,0,0,0"), (8, step)]),
+            "no,12,7,0,0,0,0",
+        ),
+        (
+            "10 on line 3",
+            with_lines(&F, &[(3, F[1]), (7, step)]),
+            "no,10,3,0,0,0,0",
+        ),
+    ];
+    rows.into_iter()
+        .map(|(what, file, reply)| case(&format!("numbers: fir, {what}"), file, reply))
+        .collect()
 }
 
 fn after_the_last_closing() -> Vec<Case> {
@@ -575,13 +698,12 @@ fn two_checks_broken() -> Vec<Case> {
         f_with(7, "S,xyz,1,1,1,1", "no,4,7,0,0,0,0"),
         f_with(5, "A,cup,1,4,0,1", "no,4,5,0,0,0,0"),
         f_with(5, "A,sub,9,9,0,0", "no,4,5,0,0,0,0"),
-        // 5 and 6, 8, 9, 11, 12, 13, 14
+        // 5 and 6, 8, 9, 11, 12, 14
         f_with(9, "S,ref,1,0,1,0", "no,5,9,0,0,0,0"),
         f_with(9, "S,ref,0,0,9,0", "no,5,9,0,0,0,0"),
         f_with(9, "S,ler,0,0,1,0", "no,5,9,0,0,0,0"),
         f_with(9, "S,emp,0,0,0,0", "no,5,9,0,0,0,0"),
         f_with(9, "S,cls,2,3,0,0", "no,5,9,0,0,0,0"),
-        f_with(9, "S,fir,0,0,0,1", "no,5,9,0,0,0,0"),
         f_with(9, "S,all,1,0,0,0", "no,5,9,0,0,0,0"),
         // 6 and 8
         f_with(1, "T,rfv,0,0,0,1", "no,6,1,0,0,0,0"),
@@ -591,11 +713,10 @@ fn two_checks_broken() -> Vec<Case> {
         f_with(4, "T,sin,2,1,0,0", "no,6,4,0,0,0,0"),
         f_with(5, "A,in,4,1,0,1", "no,6,5,0,0,0,0"),
         f_with(7, "S,ler,0,1,1,0", "no,6,7,0,0,0,0"),
-        // 6 and 10, 11, 12, 13, 14
+        // 6 and 10, 11, 12, 14
         f_with(3, "T,rgv,1,0,0,1", "no,6,3,0,0,0,0"),
         f_with(7, "S,cpe,3,1,0,0", "no,6,7,0,0,0,0"),
         f_with(8, "S,cls,2,3,0,1", "no,6,8,0,0,0,0"),
-        f_with(7, "S,fir,1,0,0,1", "no,6,7,0,0,0,0"),
         f_with(7, "S,all,1,0,1,0", "no,6,7,0,0,0,0"),
         // 8 and 9
         f_with(4, "T,cap,1,4,0,0", "no,8,4,0,0,0,0"),
@@ -622,9 +743,67 @@ fn two_checks_broken() -> Vec<Case> {
         f_with(7, "S,all,2,0,0,0", "no,12,7,0,0,0,0"),
         f_with(7, "S,nul,2,0,0,0", "no,12,7,0,0,0,0"),
         f_with(7, "S,sgi,0,0,4,0", "no,12,7,0,0,0,0"),
-        // 13 and 14
-        f_with(7, "S,fir,0,0,0,2", "no,13,7,0,0,0,0"),
     ]
+}
+
+/// A w that is not fresh, or is no rfv, beside another check. The step is on
+/// line 9, or on line 10 where the file has one line more before it.
+fn two_checks_broken_by_w() -> Vec<Case> {
+    let base = [
+        U,               // 1
+        R,               // 2
+        HEAP,            // 3
+        FIELD,           // 4
+        "T,img,3,2,4,0", // 5, and no typ(u), dty(f), rea(h,u,f)
+        "A,in,1,5,0,0",  // 1: u in img(h,r,f)
+        "A,ne,2,2,0,0",  // 2: r ne r
+        "A,eq,2,2,0,0",  // 3: r eq r
+    ];
+    let closing = "S,cls,3,2,0,0";
+    let rows = [
+        // 13 and nothing else
+        ("S,ext,2,0,0,1", "no,13,9,0,0,0,0"),
+        ("S,ext,2,0,0,2", "no,13,9,0,0,0,0"),
+        // 6 and 13
+        ("S,ext,2,1,0,1", "no,6,9,0,0,0,0"),
+        ("S,ext,2,0,1,1", "no,6,9,0,0,0,0"),
+        ("S,wit,1,1,0,1", "no,6,9,0,0,0,0"),
+        ("S,wit,1,0,1,1", "no,6,9,0,0,0,0"),
+        // 11 and 13
+        ("S,ext,4,0,0,1", "no,11,9,0,0,0,0"),
+        ("S,wit,0,0,0,1", "no,11,9,0,0,0,0"),
+        // 12 and 13
+        ("S,ext,3,0,0,1", "no,12,9,0,0,0,0"),
+        ("S,wit,2,0,0,1", "no,12,9,0,0,0,0"),
+        // 13 and 14
+        ("S,wit,1,0,0,1", "no,13,9,0,0,0,0"),
+        ("S,wit,1,0,0,2", "no,13,9,0,0,0,0"),
+    ];
+    let mut cases: Vec<Case> = rows
+        .iter()
+        .map(|&(step, reply)| {
+            case(
+                &format!("numbers: {step}"),
+                with_more(&base, &[step]),
+                reply,
+            )
+        })
+        .collect();
+    // 5 and 13
+    for step in ["S,ext,2,0,0,1", "S,ext,2,0,0,2", "S,wit,1,0,0,1"] {
+        cases.push(case(
+            &format!("numbers: {step} after the last closing"),
+            with_more(&base, &[closing, step]),
+            "no,5,10,0,0,0,0",
+        ));
+    }
+    // 14 alone: v is fresh, but there is no typ(v).
+    cases.push(case(
+        "numbers: wit with a fresh w",
+        lines(&[&base[..5], &[V], &base[5..], &["S,wit,1,0,0,6"]].concat()),
+        "no,14,10,0,0,0,0",
+    ));
+    cases
 }
 
 fn two_checks_broken_by_term_601() -> Vec<Case> {

@@ -59,16 +59,6 @@ fn regions() -> Vec<Case> {
         "S,cpi,5,4,4,0", // 6: w in cap(r,s)
         "S,cls,6,2,0,0",
     ];
-    // Something is allocated, so `all` isn't empty.
-    let fir = [
-        U,
-        ALL,
-        EMP,
-        "A,eq,2,3,0,0",  // 1: all eq emp
-        "S,fir,0,0,0,1", // 2: w in all
-        "S,eqr,1,2,0,0", // 3: w in emp
-        "S,emp,3,0,0,0",
-    ];
     let eql = [
         (5, "A,in,1,3,0,0"),  // 2: u in s
         (6, "A,ni,1,2,0,0"),  // 3: u ni r
@@ -87,7 +77,6 @@ fn regions() -> Vec<Case> {
             lines(&ext_caps),
             "yes,0,0,5,1,7,2",
         ),
-        case("accept: fir", lines(&fir), "yes,0,0,3,1,3,1"),
     ]
 }
 

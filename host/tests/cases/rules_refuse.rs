@@ -106,6 +106,7 @@ fn closed(step: &'static str, alternatives: usize) -> Vec<&'static str> {
 }
 
 // The step is on line 35 + 37 + 1.
+const N4: &str = "no,4,73,0,0,0,0";
 const N6: &str = "no,6,73,0,0,0,0";
 const N8: &str = "no,8,73,0,0,0,0";
 const N9: &str = "no,9,73,0,0,0,0";
@@ -120,7 +121,6 @@ pub fn cases() -> Vec<Case> {
         eqr(),
         eql(),
         ext(),
-        fir(),
         cpe(),
         cpi(),
         cue(),
@@ -147,6 +147,7 @@ pub fn cases() -> Vec<Case> {
         rdm(),
         cls(),
         emp(),
+        fir(),
         tree_closed(),
         term_missing(),
         branch_full(),
@@ -155,6 +156,7 @@ pub fn cases() -> Vec<Case> {
         waiting_fills(),
         two_checks_on_a_full_branch(),
         two_checks_with_200_waiting(),
+        fir_at_the_limits(),
     ];
     groups.into_iter().flatten().collect()
 }
@@ -173,11 +175,10 @@ fn refused(rows: &[(&'static str, &'static str)]) -> Vec<Case> {
 
 /// A right step of each rule that adds, its longest alternative, and the count
 /// of its alternatives.
-const ADDING: [(&str, usize, usize); 28] = [
+const ADDING: [(&str, usize, usize); 27] = [
     ("S,eqr,8,1,0,0", 1, 1),
     ("S,eql,8,3,0,0", 1, 1),
     ("S,ext,9,0,0,6", 2, 2),
-    ("S,fir,0,0,0,6", 1, 1),
     ("S,cpe,10,0,0,0", 2, 1),
     ("S,cpi,1,3,15,0", 1, 1),
     ("S,cue,12,0,0,0", 1, 2),
@@ -300,23 +301,6 @@ fn ext() -> Vec<Case> {
         ("S,ext,9,0,0,4", N13),  // u is at a side
         ("S,ext,9,0,0,35", N13), // z is at a right side
         ("S,ext,9,0,0,33", N13), // x is inside typ(x)
-    ])
-}
-
-// 6, 8, 13, 14, 15.
-fn fir() -> Vec<Case> {
-    refused(&[
-        ("S,fir,1,0,0,6", N6),
-        ("S,fir,0,1,0,6", N6),
-        ("S,fir,0,0,1,6", N6),
-        ("S,fir,0,0,0,0", N8),
-        ("S,fir,0,0,0,36", N8),
-        ("S,fir,0,0,0,1", N13),
-        ("S,fir,0,0,0,7", N13),
-        ("S,fir,0,0,0,26", N13),
-        ("S,fir,0,0,0,4", N13),
-        ("S,fir,0,0,0,35", N13),
-        ("S,fir,0,0,0,33", N13),
     ])
 }
 
@@ -787,6 +771,33 @@ fn emp() -> Vec<Case> {
     ])
 }
 
+/// No rule: 4, where a rule with these fields would be right or get another
+/// number.
+fn fir() -> Vec<Case> {
+    refused(&[
+        ("S,fir,0,0,0,6", N4), // w is fresh
+        ("S,fir,1,0,0,6", N4), // more fields than w
+        ("S,fir,0,1,0,6", N4),
+        ("S,fir,0,0,1,6", N4),
+        ("S,fir,0,0,0,0", N4), // no term
+        ("S,fir,0,0,0,36", N4),
+        ("S,fir,0,0,0,1", N4), // not fresh
+        ("S,fir,0,0,0,7", N4),
+        ("S,fir,0,0,0,26", N4),
+        ("S,fir,0,0,0,4", N4),
+        ("S,fir,0,0,0,35", N4),
+        ("S,fir,0,0,0,33", N4),
+        ("S,fir,9,0,0,6", N4),  // right for ext
+        ("S,fir,38,0,0,6", N4), // 11 for ext
+        ("S,fir,8,0,0,6", N4),  // 12 for ext
+        ("S,fir,9,0,0,4", N4),  // 13 for ext
+        ("S,fir,18,0,0,6", N4), // right for wit
+        ("S,fir,1,2,0,0", N4),  // right for cls
+        ("S,fir,0,0,4,7", N4),  // right for cut
+        ("S,fir,0,0,0,9999", N4),
+    ])
+}
+
 /// A right step of each rule after the closing on line 73.
 fn tree_closed() -> Vec<Case> {
     let closing = [CLOSE, "S,emp,20,0,0,0"];
@@ -805,7 +816,6 @@ fn tree_closed() -> Vec<Case> {
 /// The line of a term that no other line uses, made another term.
 fn term_missing() -> Vec<Case> {
     let rows = [
-        ("S,fir,0,0,0,6", 3),
         ("S,sgi,0,0,20,0", 3),
         ("S,all,1,0,0,0", 3),
         ("S,nul,1,0,0,0", 1),
@@ -933,7 +943,8 @@ fn two_checks_on_a_full_branch() -> Vec<Case> {
         ("S,ler,0,0,4,0", "no,9,1036,0,0,0,0"),
         ("S,cpe,1001,0,0,0", "no,11,1036,0,0,0,0"),
         ("S,cpe,11,0,0,0", "no,12,1036,0,0,0,0"),
-        ("S,fir,0,0,0,4", "no,13,1036,0,0,0,0"),
+        ("S,ext,9,0,0,4", "no,13,1036,0,0,0,0"),
+        ("S,wit,18,0,0,33", "no,13,1036,0,0,0,0"),
         ("S,rdm,0,0,31,0", "no,14,1036,0,0,0,0"),
     ];
     rows.iter()
@@ -971,5 +982,45 @@ fn two_checks_with_200_waiting() -> Vec<Case> {
                 reply,
             )
         })
+        .collect()
+}
+
+/// 4 comes before 5 and 14 to 16, too.
+fn fir_at_the_limits() -> Vec<Case> {
+    let step = "S,fir,0,0,0,6";
+    let rows = [
+        (
+            "closed",
+            lines(&bench(37, 0, &[CLOSE, step])),
+            "no,4,74,0,0,0,0",
+        ),
+        (
+            "without all",
+            with_line(&bench(37, 0, &[step]), 3, "T,rgv,99,0,0,0"),
+            N4,
+        ),
+        (
+            "999 places",
+            lines(&bench(999, 0, &[step, CLOSE])),
+            "no,4,1035,0,0,0,0",
+        ),
+        (
+            "1,000 places",
+            lines(&bench(1000, 0, &[step])),
+            "no,4,1036,0,0,0,0",
+        ),
+        (
+            "200 waiting",
+            lines(&bench(37, 200, &[step])),
+            "no,4,273,0,0,0,0",
+        ),
+        (
+            "1,000 places, 200 waiting",
+            lines(&bench(800, 200, &[step])),
+            "no,4,1036,0,0,0,0",
+        ),
+    ];
+    rows.into_iter()
+        .map(|(what, file, reply)| case(&format!("bench, fir, {what}"), file, reply))
         .collect()
 }

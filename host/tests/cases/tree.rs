@@ -2,9 +2,7 @@
 //! and what is fresh.
 
 use super::rules_accept::IMG;
-use super::{
-    case, lines, with_line, with_lines, with_more, Case, ALL, EMP, FIELD, G, HEAP, R, S, U, V,
-};
+use super::{case, lines, with_line, with_lines, with_more, Case, FIELD, G, HEAP, R, S, U, V};
 
 pub fn cases() -> Vec<Case> {
     let groups = [
@@ -13,6 +11,7 @@ pub fn cases() -> Vec<Case> {
         splits_in_img(),
         second_alternative_checked(),
         fresh_again(),
+        fresh_again_after_a_larger_term(),
         fresh_beside_a_waiting_alternative(),
     ];
     groups.into_iter().flatten().collect()
@@ -158,57 +157,132 @@ fn fresh_again() -> Vec<Case> {
     let file = [
         U,
         V,               // 2, w
-        ALL,             // 3
-        EMP,             // 4
-        R,               // 5
-        "A,eq,3,4,0,0",  // 1: all eq emp
-        "S,cut,0,0,1,5", // 7, 2: u in r
-        "S,fir,0,0,0,2", // 8, 3: w in all
-        "S,eqr,1,3,0,0", // 9, 4: w in emp
-        "S,emp,4,0,0,0", // 10, 2: u ni r
-        "S,fir,0,0,0,2", // 11, 3: w in all
-        "S,eqr,1,3,0,0", // 12, 4: w in emp
-        "S,emp,4,0,0,0", // 13
+        R,               // 3
+        S,               // 4
+        "A,ne,3,3,0,0",  // 1: r ne r
+        "S,cut,0,0,1,4", // 6, 2: u in s
+        "S,ext,1,0,0,2", // 7, 3: w in r, 4: w ni r
+        "S,cls,3,4,0,0", // 8, 3: w ni r, 4: w in r
+        "S,cls,4,3,0,0", // 9, 2: u ni s
+        "S,ext,1,0,0,2", // 10, 3: w in r, 4: w ni r
+        "S,cls,3,4,0,0", // 11, 3: w ni r, 4: w in r
+        "S,cls,4,3,0,0", // 12
     ];
-    // w in all stands before the split, so it stays.
+    let changed = |what: &str, number, line, reply| {
+        case(
+            &format!("tree: {what}"),
+            with_line(&file, number, line),
+            reply,
+        )
+    };
+    // w in r and w ni r stand before the split, so they stay.
     let before = [
-        &file[..6],
-        &["S,fir,0,0,0,2", "S,cut,0,0,1,5", "S,fir,0,0,0,2"],
+        &file[..5],
+        &["S,ext,1,0,0,2", "S,cut,0,0,1,4", "S,ext,1,0,0,2"],
     ]
     .concat();
     let closed_once = [
-        &file[..6],
+        &file[..5],
         &[
-            "S,fir,0,0,0,2", // 7, 2: w in all
-            "S,cut,0,0,1,5", // 8, 3: u in r
-            "S,eqr,1,2,0,0", // 9, 4: w in emp
-            "S,emp,4,0,0,0", // 10, 3: u ni r
-            "S,fir,0,0,0,2", // 11
+            "S,ext,1,0,0,2", // 6, 2: w in r, 3: w ni r
+            "S,cut,0,0,1,4", // 7, 4: u in s
+            "S,cls,2,3,0,0", // 8, 4: u ni s
+            "S,ext,1,0,0,2", // 9
         ],
     ]
     .concat();
     vec![
-        case("tree: w fresh again", lines(&file), "yes,0,0,5,1,7,2"),
-        case(
-            "tree: w used twice in an alternative",
-            with_line(&file, 9, "S,fir,0,0,0,2"),
+        case("tree: w fresh again", lines(&file), "yes,0,0,4,1,7,4"),
+        changed(
+            "w used twice in an alternative",
+            8,
+            "S,ext,1,0,0,2",
+            "no,13,8,0,0,0,0",
+        ),
+        changed(
+            "w used again in the second alternative of ext",
+            9,
+            "S,ext,1,0,0,2",
             "no,13,9,0,0,0,0",
         ),
-        case(
-            "tree: u of the cut in the second alternative",
-            with_line(&file, 11, "S,fir,0,0,0,1"),
+        changed(
+            "w used twice in the second alternative",
+            11,
+            "S,ext,1,0,0,2",
             "no,13,11,0,0,0,0",
+        ),
+        changed(
+            "u of the cut in the second alternative",
+            10,
+            "S,ext,1,0,0,1",
+            "no,13,10,0,0,0,0",
         ),
         case(
             "tree: w used before the split",
             lines(&before),
-            "no,13,9,0,0,0,0",
+            "no,13,8,0,0,0,0",
         ),
         case(
             "tree: w used before the split, second alternative",
             lines(&closed_once),
-            "no,13,11,0,0,0,0",
+            "no,13,9,0,0,0,0",
         ),
+    ]
+}
+
+/// sin(w) comes in with a cut, and is gone when both its alternatives are
+/// closed. In both z is taken as fresh, so that w has been looked for there.
+fn fresh_again_after_a_larger_term() -> Vec<Case> {
+    let file = [
+        U,
+        V,               // 2, w
+        R,               // 3
+        "T,sin,2,0,0,0", // 4, sin(w)
+        "T,rfv,3,0,0,0", // 5, z
+        "A,eq,3,3,0,0",  // 1: r eq r
+        "A,ne,3,3,0,0",  // 2: r ne r
+        "S,cut,0,0,1,3", // 8, 3: u in r
+        "S,cut,0,0,1,4", // 9, 4: u in sin(w)
+        "S,ext,2,0,0,5", // 10, 5: z in r, 6: z ni r
+        "S,cls,1,2,0,0", // 11, 5: z ni r, 6: z in r
+        "S,cls,1,2,0,0", // 12, 4: u ni sin(w)
+        "S,ext,2,0,0,5", // 13, 5: z in r, 6: z ni r
+        "S,cls,1,2,0,0", // 14, 5: z ni r, 6: z in r
+        "S,cls,1,2,0,0", // 15, 3: u ni r
+        "S,ext,2,0,0,2", // 16, 4: w in r, 5: w ni r
+        "S,cls,1,2,0,0", // 17, 4: w ni r, 5: w in r
+        "S,cls,1,2,0,0", // 18
+    ];
+    let changed = |what: &str, number, line, reply| {
+        case(
+            &format!("tree: sin(w), {what}"),
+            with_line(&file, number, line),
+            reply,
+        )
+    };
+    vec![
+        case("tree: sin(w) closed", lines(&file), "yes,0,0,5,2,11,6"),
+        // Then line 9 adds w in r, w ni r, and line 12 leads to w ni r, w in r.
+        changed(
+            "ext in place of its cut",
+            9,
+            "S,ext,2,0,0,2",
+            "yes,0,0,5,2,11,6",
+        ),
+        changed(
+            "w in the first alternative",
+            10,
+            "S,ext,2,0,0,2",
+            "no,13,10,0,0,0,0",
+        ),
+        changed("z twice", 11, "S,ext,2,0,0,5", "no,13,11,0,0,0,0"),
+        changed(
+            "w in the second alternative",
+            13,
+            "S,ext,2,0,0,2",
+            "no,13,13,0,0,0,0",
+        ),
+        changed("u not fresh", 16, "S,ext,2,0,0,1", "no,13,16,0,0,0,0"),
     ]
 }
 
@@ -224,17 +298,16 @@ fn fresh_beside_a_waiting_alternative() -> Vec<Case> {
         "T,wri,4,1,5,2",  // 7, wri(h,u,f,w)
         "T,rea,7,3,6,0",  // 8, rea(wri(h,u,f,w),y,g)
         "T,rea,4,3,6,0",  // 9, rea(h,y,g)
-        ALL,              // 10
-        EMP,              // 11
-        "T,rfv,4,0,0,0",  // 12, z
-        "A,eq,10,11,0,0", // 1: all eq emp
-        "S,rdm,0,0,8,0",  // 14, 2: u eq y, 3: f eq g
-        "S,fir,0,0,0,2",  // 15, 4: w in all
-        "S,eqr,1,4,0,0",  // 16, 5: w in emp
-        "S,emp,5,0,0,0",  // 17, 2: term 8 eq term 9
-        "S,fir,0,0,0,12", // 18, 3: z in all
-        "S,eqr,1,3,0,0",  // 19, 4: z in emp
-        "S,emp,4,0,0,0",  // 20
+        R,                // 10
+        "T,rfv,4,0,0,0",  // 11, z
+        "A,ne,10,10,0,0", // 1: r ne r
+        "S,rdm,0,0,8,0",  // 13, 2: u eq y, 3: f eq g
+        "S,ext,1,0,0,2",  // 14, 4: w in r, 5: w ni r
+        "S,cls,4,5,0,0",  // 15, 4: w ni r, 5: w in r
+        "S,cls,5,4,0,0",  // 16, 2: term 8 eq term 9
+        "S,ext,1,0,0,11", // 17, 3: z in r, 4: z ni r
+        "S,cls,3,4,0,0",  // 18, 3: z ni r, 4: z in r
+        "S,cls,4,3,0,0",  // 19
     ];
     let changed = |what: &str, number, line, reply| {
         case(
@@ -247,21 +320,21 @@ fn fresh_beside_a_waiting_alternative() -> Vec<Case> {
         case(
             "tree: w only in a waiting alternative",
             lines(&file),
-            "yes,0,0,12,1,7,2",
+            "yes,0,0,11,1,7,4",
         ),
         changed(
             "z in both alternatives",
-            15,
-            "S,fir,0,0,0,12",
-            "yes,0,0,12,1,7,2",
+            14,
+            "S,ext,1,0,0,11",
+            "yes,0,0,11,1,7,4",
         ),
         changed(
             "w not waiting any more",
-            18,
-            "S,fir,0,0,0,2",
-            "no,13,18,0,0,0,0",
+            17,
+            "S,ext,1,0,0,2",
+            "no,13,17,0,0,0,0",
         ),
-        changed("u on the branch", 15, "S,fir,0,0,0,1", "no,13,15,0,0,0,0"),
-        changed("y on the branch", 15, "S,fir,0,0,0,3", "no,13,15,0,0,0,0"),
+        changed("u on the branch", 14, "S,ext,1,0,0,1", "no,13,14,0,0,0,0"),
+        changed("y on the branch", 14, "S,ext,1,0,0,3", "no,13,14,0,0,0,0"),
     ]
 }

@@ -30,10 +30,6 @@ ext : (c : tie.After-ext) → Answers (c .before .before .before) (c .ext .resul
 unfolding ruleFields
 ext c = infers-fresh {y = Rule.Ext} (cc) (c .before .before .before .pre .1 .2) (λ table S. S .entries) (c .ext .ensures)
 
-fir : (c : tie.After-fir) → Answers (c .before .before .before) (c .fir .result)
-unfolding ruleFields
-fir c = infers-fresh {y = Rule.Fir} (cc) (c .before .before .before .pre .1 .2) (λ table S. S) (c .fir .ensures)
-
 cpe : (c : tie.After-cpe) → Answers (c .before .before .before) (c .cpe .result)
 unfolding ruleFields
 cpe c = infers {y = Rule.Cpe} (cc) (c .before .before .before .pre .1 .2) (λ table S. S .entries) (c .cpe .ensures)
@@ -146,8 +142,6 @@ by-rule-spec =
     (λ c. search needs)
     (λ c κs. let s = c .before .before in ((s .pre .0 .0, s .pre .0 .1 .entries), (s .pre .1 .0, rule-given s Rule.Ext (cc) .fourth)))
     (λ c. search needs)
-    (λ c κs. let s = c .before .before in (s .pre .0, rule-given s Rule.Fir (cc) .fourth))
-    (λ c. search needs)
     (λ c κs. let s = c .before .before in ((s .pre .0 .0, s .pre .0 .1 .entries), s .pre .1 .0))
     (λ c. search needs)
     (λ c κs. let s = c .before .before in ((s .pre .0 .0, s .pre .0 .1 .entries), (s .pre .1 .0, s .pre .1 .1, rule-given s Rule.Cpi (cc) .third)))
@@ -201,7 +195,6 @@ by-rule-spec =
     eqr
     eql
     ext
-    fir
     cpe
     cpi
     cue

@@ -49,17 +49,6 @@ pub fn wit() -> Tableau {
     })
 }
 
-pub fn fir() -> Tableau {
-    let mut made = Closable::new();
-    made.draft.term("all", &[]);
-    let witnesses = witnesses(&mut made.draft, 2, |draft, w| {
-        draft.term("typ", &[w]);
-    });
-    made.fill_with(round(1, 1, &witnesses), |made, number| {
-        made.draft.fir(witnesses[number]);
-    })
-}
-
 /// A round takes one witness of its branch.
 fn round(steps: usize, places: usize, witnesses: &[TermId]) -> Round {
     Round {
@@ -70,16 +59,20 @@ fn round(steps: usize, places: usize, witnesses: &[TermId]) -> Round {
 }
 
 /// A variable is taken as fresh beside a region that holds many others, and
-/// one more from level to level; the closing takes both off the branch.
-pub fn deep_terms() -> Tableau {
+/// one more from level to level. The closings of its two alternatives take it
+/// off the branch, so that it is fresh again in a later round.
+pub fn ext_deep_terms() -> Tableau {
     let mut made = Closable::new();
-    made.draft.term("all", &[]);
+    let r = made.r;
+    let s = made.draft.variable("rgv", 2);
     let regions = nested_regions(&mut made, WITNESSES);
     let witnesses = witnesses(&mut made.draft, 1, |_, _| ());
-    made.fill_with(Round::of(3, 1), |made, number| {
+    let differ = made.draft.assume(lit(r, "ne", s));
+    made.fill_with(Round::of(4, 1), |made, number| {
         let region = regions[regions.len() - 1 - number % regions.len()];
         made.draft.cut(made.u, region);
-        made.draft.fir(witnesses[number % witnesses.len()]);
+        made.draft.ext(differ, witnesses[number % witnesses.len()]);
+        made.cls();
         made.cls();
     })
 }

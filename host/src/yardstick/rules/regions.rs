@@ -51,15 +51,6 @@ impl Checker {
     }
 
     #[inline(always)]
-    pub fn fir(&mut self, [p, q, t, w]: Fields) -> Step {
-        unused([p, q, t])?;
-        let variable = self.terms.named(w)?;
-        self.ensure_fresh(w, variable)?;
-        let all = self.terms.find(ALL, [])?;
-        self.tree.add([literal(w, In, all)])
-    }
-
-    #[inline(always)]
     pub fn cpe(&mut self, [p, q, t, w]: Fields) -> Step {
         unused([q, t, w])?;
         let (u, region) = sides(self.tree.at(p)?, In)?;

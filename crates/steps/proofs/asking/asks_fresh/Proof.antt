@@ -1,4 +1,4 @@
--- Three rules ask for a fresh w.
+-- Two rules ask for a fresh w.
 use mathlib.Core.Path.{sym, ap}
 use Rattle.tableau.specs.Words.{ruleNames}
 use Rattle.tableau.specs.Rules.{rule}
@@ -18,12 +18,8 @@ unfolding rule anyFresh
 returns-2 c = sym (ap asksFresh (c .enum-told2 .given .1))
 
 returns-3 : tie.Need-returns-3
-unfolding rule anyFresh
-returns-3 c = sym (ap asksFresh (c .enum-told3 .given .1))
-
-returns-4 : tie.Need-returns-4
 unfolding rules ruleNames
-returns-4 c = sym (others-unasked (c .before .args .rule) (c .match .keys4))
+returns-3 c = sym (others-unasked (c .before .args .rule) (c .match .keys3))
 
 pub asks-fresh-spec : {M : Type 1} → statement M
-asks-fresh-spec = tie.close (tie.spec (λ c. search needs) (λ c. search needs) (λ c. search needs) returns returns-2 returns-3 returns-4)
+asks-fresh-spec = tie.close (tie.spec (λ c. search needs) (λ c. search needs) returns returns-2 returns-3)
