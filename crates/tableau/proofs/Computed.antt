@@ -20,7 +20,7 @@ pub mended-accepted : AllReplies ((incidentMended ⊢ "yes,0,0,9,4,4,3") ∷ [])
 unfolding AllReplies incidentMended evaluate
 mended-accepted = refl
 
--- no rule gives an allocated reference that is not assumed
+-- the start-up file is refused at its step by `fir`; one that assumes `all` ne `emp` and opens it by `ext` is accepted
 pub start-up-replies : AllReplies startUpCases
 unfolding AllReplies startUpCases evaluate
 start-up-replies = refl
