@@ -4,6 +4,7 @@ use growth::Progress;
 use line_checks::check_line;
 use lines::Cursor;
 use lines::LineRead;
+use lines::lines_end;
 use lines::read_line;
 use reply::Verdict;
 use tableau::Reason;
@@ -11,8 +12,9 @@ use tree::Extent;
 use tree::Tree;
 ghost use mathlib.Core.Path.{_≡_};
 ghost use mathlib.Core.List.{[]};
-ghost use Prim.Native.Nat.{_≤_};
+ghost use Prim.Native.Nat.{_+_, _<_, _≤_};
 ghost use lib.ListN.{length};
+ghost use Rattle.tableau.specs.declared.Reason.{Reason};
 ghost use Rattle.tableau.specs.File.{maxBytes};
 ghost use Rattle.tableau.specs.Tree.{passed, root};
 ghost use Rattle.tableau.specs.Reply.{start};
@@ -20,6 +22,7 @@ ghost use Rattle.packing.specs.Packing.{unpackLiteral};
 ghost use Rattle.terms.specs.Arrays.{arrays, Held};
 ghost use Rattle.freshness.specs.Prefixes.{PrefixRows};
 ghost use Rattle.tree.specs.State.{treeOf, Within};
+ghost use Rattle.reply.specs.declared.Verdict.{Verdict};
 ghost use Rattle.reply.specs.Verdict.{verdictOf};
 ghost use Rattle.running.specs.Running.{verdictFrom};
 ghost use Rattle.file_run.specs.Reached.{Stopped};
@@ -43,6 +46,14 @@ impl Run {
         Ran { tree, verdict }
     }
 
+    // Check 2, of the line behind so many.
+    fn ends_at_bad_shape(self, lines: usize) -> Ran
+        requires { ⌜ lines < maxBytes ⌝ }
+        ensures { λ r. ⌜ (r .verdict ≡ Verdict.Refused Reason.BadShape (lines + 1)) × (r .tree ≡ self .tree) ⌝ }
+    {
+        self.ends(Verdict::Refused(Reason::BadShape, lines + 1))
+    }
+
     // From an empty tree, with arrays that hold no term and no row. The loop stands inside the method: called for each step, it would
     // copy the tree.
     pub fn run(
@@ -59,11 +70,11 @@ impl Run {
         ensures { λ r. ⌜ Stopped (now (file .entry)) (r .tree) ⌝ }
     {
         let mut progress = Progress::start();
+        let end = lines_end(file);
         let mut at = 0;
-        while at < file.len() {
+        while at < end {
             let LineRead::Line(f) = read_line(file, Cursor { at }) else {
-                let line = progress.lines + 1;
-                return self.ends(Verdict::Refused(Reason::BadShape, line));
+                return self.ends_at_bad_shape(progress.lines);
             };
             let len = self.tree.len;
             let count = self.tree.count;
@@ -91,6 +102,9 @@ impl Run {
                 }
             }
             at = f.next.at;
+        }
+        if at < file.len() {
+            return self.ends_at_bad_shape(progress.lines);
         }
         let verdict = progress.end();
         self.ends(verdict)

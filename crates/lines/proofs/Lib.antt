@@ -1,3 +1,5 @@
-pub mod Remaining
-pub mod FieldBytes
-pub mod LineShape
+pub mod Pieces
+pub mod OnePass
+pub mod PackedWord
+pub mod FileSteps
+pub mod Bytes

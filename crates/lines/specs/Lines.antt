@@ -1,8 +1,9 @@
 -- What reading a line of a file gives: the specification's own cut at LF and its own shape of a line, with the word packed in one number.
 use mathlib.Core.List.{List, [], _∷_}
 use mathlib.Core.Option.{Option, none, some}
-use Prim.Native.Nat.{ℕ, _+_, _*_}
-use lib.ListN.{length, drop}
+use mathlib.Core.Path.{_≡_}
+use Prim.Native.Nat.{ℕ, _+_, _*_, _<_, _≤_}
+use lib.ListN.{length, drop, getD}
 use Rattle.tableau.specs.Basics.{Four, four}
 use Rattle.tableau.specs.File.{LF, split, Line, shape}
 use Rattle.lines.specs.declared.LineFields.{LineFields}
@@ -28,19 +29,27 @@ lineRead next′ (some l) =
       next = record { at = next′ };
     })
 
--- The first of the pieces of a text that is cut at a byte, with the position after that byte. No such byte follows the last piece.
-abbrev pub firstPiece : {R : Type 0} → R → (ℕ → List ℕ → R) → ℕ → List (List ℕ) → R
-firstPiece bad read at [] = bad
-firstPiece bad read at (p ∷ []) = bad
-firstPiece bad read at (p ∷ q ∷ ps) = read (at + length p + 1) p
-
--- the same of lines; the last piece has no LF, and is no line
+-- The first of a text's lines, with the position after its LF. No LF follows the last piece of a text that is cut at LF, which is no line.
 abbrev pub firstLine : (ℕ → List ℕ → LineRead) → ℕ → List (List ℕ) → LineRead
-firstLine read at ls = firstPiece LineRead.BadShape read at ls
+firstLine read at [] = LineRead.BadShape
+firstLine read at (l ∷ []) = LineRead.BadShape
+firstLine read at (l ∷ m ∷ ls) = read (at + length l + 1) l
 
 -- the line that begins at a position of the file
 unfoldable pub lineAt : List ℕ → ℕ → LineRead
 lineAt file at = firstLine (λ next′ l. lineRead next′ (shape l)) at (split LF (drop at file))
+
+-- An LF stands at the position or behind it: the line that begins there has an end.
+pub record LFAhead (file : List ℕ) (at : ℕ) : Type 0 where
+  pub position : ℕ
+  pub behind : at ≤ position
+  pub inside : position < length file
+  pub isLF : getD file position 0 ≡ LF
+
+-- the position behind the last LF, 0 where there is none
+pub record LinesEnd (file : List ℕ) (end : ℕ) : Type 0 where
+  pub ahead : (at : ℕ) → at < end → LFAhead file at
+  pub last : (i : ℕ) → end ≤ i → i < length file → getD file i 0 ≡ LF → ⊥
 
 -- fields 3 to 6 of a line that was read
 abbrev pub numbersOf : LineFields → Four ℕ

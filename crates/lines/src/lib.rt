@@ -1,12 +1,12 @@
-// A line of the file, from its bytes to its six fields: each byte is looked at once, in order.
+// A line of the file, from its bytes to its six fields, in one pass: a step gets one byte and the field read so far.
 ghost use mathlib.Core.Path.{_≡_};
 ghost use mathlib.Core.List.{[], _∷_};
 ghost use Prim.Native.Nat.{_<_, _^_};
 ghost use Rattle.tableau.specs.Basics.{lookup};
-ghost use Rattle.tableau.specs.File.{letters, comma, number};
-ghost use Rattle.lines.specs.Lines.{lineAt};
-ghost use Rattle.lines.specs.Fields.{letterFound, letterAt, valueAt, packedWord, digitsFrom};
-ghost use Rattle.lines.specs.Fields.{WordFits, DigitsFit, nextLetter, firstDigit, nextDigit};
+ghost use Rattle.tableau.specs.File.{letters};
+ghost use Rattle.lines.specs.Lines.{lineAt, LFAhead, LinesEnd};
+ghost use Rattle.lines.specs.ByteSteps.{letterFound, nextLetter, firstDigit, nextDigit, LettersFit, DigitsFit};
+ghost use Rattle.lines.specs.ByteSteps.{LetterSteps, WordSteps, DigitsSteps, NumberSteps};
 use tableau::Letter;
 
 // A position in the file.
@@ -59,10 +59,9 @@ enum ByteStep {
     Bad,
 }
 
-// No digit follows a first digit 0.
+// A number's first digit, and how many may follow it: none after a 0.
 enum FirstDigit {
-    Zero,
-    Digit(usize),
+    Digit(usize, usize),
     Bad,
 }
 
@@ -89,18 +88,13 @@ fn letter_of(x: u8) -> LetterFound
 }
 
 fn read_letter(file: &[u8], at: usize) -> LetterRead
-    ensures { λ r. ⌜ r ≡ letterAt (now (file .entry)) at ⌝ }
+    requires { ⌜ LFAhead (now file) at ⌝ }
+    ensures { λ r. ⌜ LetterSteps (now (file .entry)) at r ⌝ }
 {
-    if file.len() <= at {
-        return LetterRead::Bad;
-    }
     let LetterFound::Known(letter) = letter_of(file[at]) else {
         return LetterRead::Bad;
     };
     let i = at + 1;
-    if file.len() <= i {
-        return LetterRead::Bad;
-    }
     if file[i] == b',' {
         return LetterRead::Read(letter, i + 1);
     }
@@ -123,7 +117,7 @@ fn unit(count: usize) -> usize
 
 // One byte more of a word, of which count letters make value.
 fn next_letter(value: usize, count: usize, x: u8) -> ByteStep
-    requires { ⌜ WordFits value count ⌝ }
+    requires { ⌜ LettersFit value count ⌝ }
     ensures { λ r. ⌜ r ≡ nextLetter value count x ⌝ }
 {
     if x < b'a' {
@@ -144,12 +138,13 @@ fn next_letter(value: usize, count: usize, x: u8) -> ByteStep
 }
 
 fn read_word(file: &[u8], at: usize) -> ValueRead
-    ensures { λ r. ⌜ r ≡ valueAt packedWord comma (now (file .entry)) at ⌝ }
+    requires { ⌜ LFAhead (now file) at ⌝ }
+    ensures { λ r. ⌜ WordSteps (now (file .entry)) at r ⌝ }
 {
     let mut i = at;
     let mut value = 0;
     let mut count = 0;
-    while i < file.len() {
+    loop {
         let step = next_letter(value, count, file[i]);
         i += 1;
         match step {
@@ -165,33 +160,34 @@ fn read_word(file: &[u8], at: usize) -> ValueRead
             }
         }
     }
-    ValueRead::Bad
 }
 
 fn first_digit(x: u8) -> FirstDigit
     ensures { λ r. ⌜ r ≡ firstDigit x ⌝ }
 {
-    if x == b'0' {
-        return FirstDigit::Zero;
-    }
     if x < b'0' {
         return FirstDigit::Bad;
     }
     if b'9' < x {
         return FirstDigit::Bad;
     }
-    FirstDigit::Digit(wide(x) - 48)
+    let value = wide(x) - 48;
+    if value == 0 {
+        return FirstDigit::Digit(0, 0);
+    }
+    FirstDigit::Digit(value, MAX_DIGITS - 1)
 }
 
-// One byte more of a number whose digits so far make value, where left more may follow. The byte that ends it is below the digits.
+// One byte more of a number whose digits so far make value, where left more may follow. The byte that ends it is below the digits; most
+// numbers are short, so it is asked for first.
 fn next_digit(value: usize, left: usize, x: u8, end: u8) -> ByteStep
     requires { ⌜ (end < 48) × DigitsFit value left ⌝ }
     ensures { λ r. ⌜ r ≡ nextDigit value left x end ⌝ }
 {
+    if x == end {
+        return ByteStep::End;
+    }
     if x < b'0' {
-        if x == end {
-            return ByteStep::End;
-        }
         return ByteStep::Bad;
     }
     if b'9' < x {
@@ -205,13 +201,13 @@ fn next_digit(value: usize, left: usize, x: u8, end: u8) -> ByteStep
 
 // A number from its second digit on, where first is its first digit and at most max more may follow.
 fn read_digits(file: &[u8], at: usize, first: usize, max: usize, end: u8) -> ValueRead
-    requires { ⌜ (end < 48) × DigitsFit first max ⌝ }
-    ensures { λ r. ⌜ r ≡ valueAt (digitsFrom first max) end (now (file .entry)) at ⌝ }
+    requires { ⌜ (end < 48) × DigitsFit first max × LFAhead (now file) at ⌝ }
+    ensures { λ r. ⌜ DigitsSteps first max end (now (file .entry)) at r ⌝ }
 {
     let mut i = at;
     let mut value = first;
     let mut left = max;
-    while i < file.len() {
+    loop {
         let step = next_digit(value, left, file[i], end);
         i += 1;
         match step {
@@ -227,26 +223,37 @@ fn read_digits(file: &[u8], at: usize, first: usize, max: usize, end: u8) -> Val
             }
         }
     }
-    ValueRead::Bad
 }
 
 fn read_number(file: &[u8], at: usize, end: u8) -> ValueRead
-    requires { ⌜ end < 48 ⌝ }
-    ensures { λ r. ⌜ r ≡ valueAt number end (now (file .entry)) at ⌝ }
+    requires { ⌜ (end < 48) × LFAhead (now file) at ⌝ }
+    ensures { λ r. ⌜ NumberSteps end (now (file .entry)) at r ⌝ }
 {
-    if file.len() <= at {
-        return ValueRead::Bad;
-    }
-    let first = first_digit(file[at]);
-    match first {
-        FirstDigit::Zero => read_digits(file, at + 1, 0, 0, end),
-        FirstDigit::Digit(value) => read_digits(file, at + 1, value, MAX_DIGITS - 1, end),
+    match first_digit(file[at]) {
+        FirstDigit::Digit(value, left) => read_digits(file, at + 1, value, left, end),
         FirstDigit::Bad => ValueRead::Bad,
     }
 }
 
-// The line that begins at the cursor.
+// The position behind the last LF, 0 where there is none: what stands behind it is no line. It is looked for from the file's end, where it
+// mostly stands.
+pub fn lines_end(file: &[u8]) -> usize
+    ensures { λ r. ⌜ LinesEnd (now (file .entry)) r ⌝ }
+{
+    let mut end = file.len();
+    while 0 < end {
+        if file[end - 1] == LF {
+            return end;
+        }
+        end -= 1;
+    }
+    0
+}
+
+// The line that begins at the cursor, before the last LF. No field has an LF in it, so that no step comes upon the end of the file, and none
+// tests for it.
 pub fn read_line(file: &[u8], cursor: Cursor) -> LineRead
+    requires { ⌜ LFAhead (now file) (cursor .at) ⌝ }
     ensures { λ r. ⌜ r ≡ lineAt (now (file .entry)) (cursor .at) ⌝ }
 {
     let at = cursor.at;

@@ -66,6 +66,3 @@ bit-shifted p q l = ap (λ (x : ℕ). bitAt x q) (shl-exact 1 p 64 (omega arith)
 -- the word i of the bits of t alone
 pub own-here : (t i q : ℕ) → t / 64 ≡ i → q < 64 → bitAt (1 * 2 ^ (t % 64) % 2 ^ 64) q ≡ eqb t (i * 64 + q)
 own-here t i q e l = bit-shifted (t % 64) q (omega arith) ∙ same-test (t % 64) q t (i * 64 + q) (λ m. omega arith) (λ m. omega arith)
-
-pub own-elsewhere : (t i q : ℕ) → (t / 64 ≡ i → ⊥) → q < 64 → bitAt 0 q ≡ eqb t (i * 64 + q)
-own-elsewhere t i q ne l = bit-zero q ∙ sym (ne-eqb t (i * 64 + q) (λ e. ne (let d : t / 64 ≡ i = omega arith in d)))

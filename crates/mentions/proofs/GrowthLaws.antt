@@ -22,7 +22,7 @@ use Rattle.tableau.proofs.TableGrowth.{at-zero}
 use Rattle.syntax.specs.declared.Arguments.{Arguments}
 use Rattle.syntax.specs.declared.Term.{Term}
 use Rattle.syntax.specs.Syntax.{argumentsIn, wordIn, fieldsIn, termIn}
-use Rattle.mentions.specs.Mentions.{row, rowsLength, bitAt, isMentioned, joinedBit, termArguments, AllBelow, MentionRows, Noted}
+use Rattle.mentions.specs.Mentions.{row, rowsLength, bitAt, isMentioned, joinedBit, termArguments, argumentBits, AllBelow, MentionRows, Noted}
 use Rattle.mentions.proofs.BitLaws.{bit-zero}
 use Rattle.mentions.proofs.MentionLaws.{mentions-same, mentions-zero, mentions-variable, mentions-apply}
 
@@ -95,11 +95,9 @@ module _ (table grown : Table) (e : specification.Term) (G : Grown table grown e
   abbrev t : TermNo
   t = suc (length table)
 
-  variable-row : (s : Sort) (m : ℕ) → e ≡ variable s m
-      → (eqb t w || joinedBit rows (termArguments (variable s m)) (w / 64) (w % 64)) ≡ mentions (at grown) w t
+  variable-row : (s : Sort) (m : ℕ) → e ≡ variable s m → (eqb t w || false) ≡ mentions (at grown) w t
   variable-row s m q =
-      (λ i. eqb t w || (zero-row i || (zero-row i || (zero-row i || zero-row i)))) ∙ or-false (eqb t w)
-      ∙ sym (mentions-variable (at grown) (G .grownWellFormed) w t s m (G .last ∙ q))
+      or-false (eqb t w) ∙ sym (mentions-variable (at grown) (G .grownWellFormed) w t s m (G .last ∙ q))
 
   operation-row : (o : Operator) (k : Four TermNo) → AreArguments (length table) o k → e ≡ apply o k
       → (eqb t w || joinedBit rows k (w / 64) (w % 64)) ≡ mentions (at grown) w t
@@ -110,13 +108,13 @@ module _ (table grown : Table) (e : specification.Term) (G : Grown table grown e
 
 own-row : (table grown : Table) (term : Term) → Grown table grown (termIn term) → (rows : List ℕ) → MentionRows table rows
     → ArgumentsMade table term → (w : TermNo) → 0 < w → w < 640
-    → (eqb (suc (length table)) w || joinedBit rows (termArguments (termIn term)) (w / 64) (w % 64)) ≡ mentions (at grown) w (suc (length table))
+    → (eqb (suc (length table)) w || argumentBits rows (termIn term) (w / 64) (w % 64)) ≡ mentions (at grown) w (suc (length table))
 own-row table grown (Term.Variable s m) G rows R A w l h = variable-row table grown _ G rows R w l h s (m .0) refl
 own-row table grown (Term.Apply o k) G rows R A w l h =
     operation-row table grown _ G rows R w l h o (argumentsIn k) (are-arguments table o k A) refl
 
 pub rows-grown : (table grown : Table) (term : Term) → Grown table grown (termIn term) → (rows new : List ℕ) → MentionRows table rows
-    → ArgumentsMade table term → Noted rows new (suc (length table)) (termArguments (termIn term)) → MentionRows grown new
+    → ArgumentsMade table term → Noted rows new (suc (length table)) (argumentBits rows (termIn term)) → MentionRows grown new
 rows-grown table grown term G rows new R A N = record {
   size = N .size ∙ R .size;
   told = λ t w l first most. ⊎-elim

@@ -1,6 +1,6 @@
 -- Which terms stand in which, as rows of bits: bit w of the row of the term t says that w stands in t.
 use mathlib.Core.Path.{_≡_}
-use mathlib.Core.Bool.{Bool, _||_}
+use mathlib.Core.Bool.{Bool, false, _||_}
 use mathlib.Core.List.{List}
 use Prim.Native.Nat.{ℕ, _+_, _*_, _/_, _%_, _^_, _<_, _≤_}
 use lib.Dec.{eqb}
@@ -43,14 +43,19 @@ AllBelow t k = (k .a < t) × (k .b < t) × (k .c < t) × (k .d < t)
 abbrev pub joinedBit : List ℕ → Four TermNo → ℕ → ℕ → Bool
 joinedBit rows k i q = rowBit rows (k .a) i q || (rowBit rows (k .b) i q || (rowBit rows (k .c) i q || rowBit rows (k .d) i q))
 
+-- the same of a term's arguments; a variable has none
+abbrev pub argumentBits : List ℕ → Term → ℕ → ℕ → Bool
+argumentBits rows (variable s n) i q = false
+argumentBits rows (apply o k) i q = joinedBit rows k i q
+
 -- the first i words of the row t are filled with the bits of f, and no row before it is changed
 pub record Filled (old new : List ℕ) (t : ℕ) (f : ℕ → ℕ → Bool) (i : ℕ) : Type 0 where
   pub size : length new ≡ length old
   pub below : (j : ℕ) → j < t * row → getD new j 0 ≡ getD old j 0
   pub words : (j q : ℕ) → j < i → q < 64 → rowBit new t j q ≡ f j q
 
--- what the rows say once a term t with the arguments k is noted
-pub record Noted (old new : List ℕ) (t : TermNo) (k : Four TermNo) : Type 0 where
+-- what the rows say once a term t is noted, where f has the bits of its arguments
+pub record Noted (old new : List ℕ) (t : TermNo) (f : ℕ → ℕ → Bool) : Type 0 where
   pub size : length new ≡ length old
   pub below : (s w : TermNo) → s < t → w < 640 → isMentioned new s w ≡ isMentioned old s w
-  pub own : (w : TermNo) → w < 640 → isMentioned new t w ≡ (eqb t w || joinedBit old k (w / 64) (w % 64))
+  pub own : (w : TermNo) → w < 640 → isMentioned new t w ≡ (eqb t w || f (w / 64) (w % 64))

@@ -4,12 +4,13 @@ use syntax::Arguments;
 use syntax::Term;
 use tableau::TermNumber;
 ghost use mathlib.Core.Path.{_≡_};
+ghost use mathlib.Core.Bool.{Bool, false};
+ghost use mathlib.Core.List.{List};
 ghost use Prim.Native.Nat.{ℕ, _+_, _*_, _<_, _≤_};
-ghost use lib.Dec.{eqb};
 ghost use lib.ListN.{length, getD};
 ghost use Rattle.tableau.specs.Terms.{maxTerms};
 ghost use Rattle.syntax.specs.Syntax.{argumentsIn, termIn};
-ghost use Rattle.mentions.specs.Mentions.{row, rowsLength, bitAt, joinedBit, termArguments, AllBelow, Noted};
+ghost use Rattle.mentions.specs.Mentions.{row, rowsLength, bitAt, joinedBit, termArguments, argumentBits, AllBelow, Filled, Noted};
 
 // The words of a row: a bit for each of the numbers up to 600.
 pub const ROW: usize = 10;
@@ -26,17 +27,6 @@ fn word_at(rows: &[u64; WORDS], term: TermNumber, i: usize) -> u64
     rows[t * ROW + i]
 }
 
-// Word i of the row of a term that has no argument.
-fn own_word(term: TermNumber, i: usize) -> u64
-    ensures { λ r. ⌜ ((q : ℕ) → q < 64 → bitAt r q ≡ eqb (term .0) (i * 64 + q)) ⌝ }
-{
-    let t = term.0;
-    if t / 64 == i {
-        return 1 << (t % 64);
-    }
-    0
-}
-
 // Word i of the rows of the arguments together.
 fn joined_word(rows: &[u64; WORDS], k: Arguments, i: usize) -> u64
     requires { ⌜ AllBelow (maxTerms + 1) (argumentsIn k) × (i < row) ⌝ }
@@ -46,39 +36,56 @@ fn joined_word(rows: &[u64; WORDS], k: Arguments, i: usize) -> u64
         | (word_at(rows, k.b, i) | (word_at(rows, k.c, i) | word_at(rows, k.d, i)))
 }
 
-// Fills the row of a new term: itself, and what stands in its arguments.
-fn fill(rows: &mut [u64; WORDS], term: TermNumber, k: Arguments)
-    requires { ⌜ (term .0 ≤ maxTerms) × AllBelow (term .0) (argumentsIn k) × (length (now rows) ≡ rowsLength) ⌝ }
-    ensures { λ _. ⌜ Noted (now (rows .entry)) (now (rows .exit)) (term .0) (argumentsIn k) ⌝ }
+// The row of a term that has no argument, but for its own bit.
+fn clear(rows: &mut [u64; WORDS], term: TermNumber)
+    requires { ⌜ (term .0 ≤ maxTerms) × (length (now rows) ≡ rowsLength) ⌝ }
+    ensures { λ _. ⌜ Filled (now (rows .entry)) (now (rows .exit)) (term .0) (λ i q. false) row ⌝ }
 {
     let t = term.0;
     let mut i = 0;
     while i < ROW {
-        let word = own_word(term, i) | joined_word(&*rows, k, i);
+        rows[t * ROW + i] = 0;
+        i += 1;
+    }
+}
+
+// The row of a term with what stands in its arguments, but for its own bit.
+fn join(rows: &mut [u64; WORDS], term: TermNumber, k: Arguments)
+    requires { ⌜ (term .0 ≤ maxTerms) × AllBelow (term .0) (argumentsIn k) × (length (now rows) ≡ rowsLength) ⌝ }
+    ensures { λ _. ⌜ Filled (now (rows .entry)) (now (rows .exit)) (term .0) (joinedBit (now (rows .entry)) (argumentsIn k)) row ⌝ }
+{
+    let t = term.0;
+    let mut i = 0;
+    while i < ROW {
+        let word = joined_word(&*rows, k, i);
         rows[t * ROW + i] = word;
         i += 1;
     }
 }
 
+// Sets the term's own bit in its row.
+fn set_own(rows: &mut [u64; WORDS], term: TermNumber)
+    requires { ⌜ (term .0 ≤ maxTerms) × (length (now rows) ≡ rowsLength) ⌝ }
+    ensures { λ _. ⌜ ((old : List ℕ) (f : ℕ → ℕ → Bool) → Filled old (now (rows .entry)) (term .0) f row → Noted old (now (rows .exit)) (term .0) f) ⌝ }
+{
+    let t = term.0;
+    let at = t * ROW + t / 64;
+    rows[at] = 1 << (t % 64) | rows[at];
+}
+
 // Notes what stands in the new term t: itself, and what stands in its arguments. A name is no argument.
 pub fn note(rows: &mut [u64; WORDS], t: TermNumber, term: Term)
     requires { ⌜ (t .0 ≤ maxTerms) × AllBelow (t .0) (termArguments (termIn term)) × (length (now rows) ≡ rowsLength) ⌝ }
-    ensures { λ _. ⌜ Noted (now (rows .entry)) (now (rows .exit)) (t .0) (termArguments (termIn term)) ⌝ }
+    ensures { λ _. ⌜ Noted (now (rows .entry)) (now (rows .exit)) (t .0) (argumentBits (now (rows .entry)) (termIn term)) ⌝ }
 {
     match term {
         Term::Variable(_, _) => {
-            let none = TermNumber(0);
-            fill(
-                rows,
-                t,
-                Arguments {
-                    a: none,
-                    b: none,
-                    c: none,
-                    d: none,
-                },
-            )
+            clear(rows, t);
+            set_own(rows, t)
         }
-        Term::Apply(_, k) => fill(rows, t, k),
+        Term::Apply(_, k) => {
+            join(rows, t, k);
+            set_own(rows, t)
+        }
     }
 }

@@ -23,7 +23,7 @@ use Rattle.lines.specs.declared.LineRead.{LineRead}
 use Rattle.lines.specs.Lines.{packWord, lineRead, firstLine, lineAt}
 use Rattle.lines.specs.Lines.{numbersOf}
 use Rattle.words.proofs.PackedWords.{words-packed, relations-packed, rules-packed}
-use Rattle.lines.proofs.Remaining.{pieces}
+use Rattle.lines.proofs.Pieces.{pieces}
 use Rattle.running.specs.Running.{verdictFrom, packedCommand, runFields, LineHere}
 
 -- THE CUT AT LF: behind the first piece and its LF stand the others.
@@ -145,56 +145,87 @@ bad≢line {f} e = let z : true ≡ false = cc in true≢false z
 line-injective : {f g : LineFields} → LineRead.Line f ≡ LineRead.Line g → f ≡ g
 line-injective e = cc
 
-pub line-here : (file : List ℕ) (at : ℕ) (f : LineFields) → lineAt file at ≡ LineRead.Line f → LineHere file at f
+-- A LINE THAT IS READ: its bytes, what it is, and the pieces behind it.
+pub record LinePieces (file : List ℕ) (at : ℕ) (f : LineFields) : Type 0 where
+  pub piece : List ℕ
+  pub follower : List ℕ
+  pub others : List (List ℕ)
+  pub line : Line
+  pub cut : split LF (drop at file) ≡ piece ∷ follower ∷ others
+  pub rest : split LF (drop (f .next .at) file) ≡ follower ∷ others
+  pub shaped : shape piece ≡ some line
+  pub fields : f ≡ line-fields (at + length piece + 1) line
+  pub inside : at + length piece + 1 ≤ length file
+
+pub line-pieces : (file : List ℕ) (at : ℕ) (f : LineFields) → lineAt file at ≡ LineRead.Line f → LinePieces file at f
 unfolding lineAt
-line-here file at f e = go (split LF (drop at file)) refl e
+line-pieces file at f e = go (split LF (drop at file)) refl e
   where
     here : (l m : List ℕ) (ls : List (List ℕ)) → split LF (drop at file) ≡ l ∷ m ∷ ls → (L : Line) → shape l ≡ some L
-        → LineHere file at (line-fields (at + length l + 1) L)
-    here l m ls e L s =
-        let b = behind LF (drop at file) l m ls e in
+        → LinePieces file at (line-fields (at + length l + 1) L)
+    here l m ls q L s =
+        let b = behind LF (drop at file) l m ls q in
         let n : at + suc (length l) ≡ at + length l + 1 = omega arith in
-        let d : split LF (drop (at + length l + 1) file) ≡ m ∷ ls = ap (λ (k : ℕ). split LF (drop k file)) (sym n) ∙ ap (split LF) (sym (drop-drop (suc (length l)) at file)) ∙ b .0 in
         record {
-          longer = omega arith;
+          piece = l;
+          follower = m;
+          others = ls;
+          line = L;
+          cut = q;
+          rest = ap (λ (k : ℕ). split LF (drop k file)) (sym n) ∙ ap (split LF) (sym (drop-drop (suc (length l)) at file)) ∙ b .0;
+          shaped = s;
+          fields = refl;
           inside = omega (arith, b .1, length-drop at file);
-          small = shaped (split comma l) L s .1;
-          runs = λ i σ. ap (λ ks. runLines ks i (passed σ)) e ∙ run-piece σ i l m ls ∙ ap (runLines (m ∷ ls) (suc i)) (run-shaped σ l L (at + length l + 1) s)
-              ∙ ap (λ ks. runLines ks (suc i) (runFields σ (line-fields (at + length l + 1) L))) (sym d);
         }
 
     shaped-as : (l m : List ℕ) (ls : List (List ℕ)) → split LF (drop at file) ≡ l ∷ m ∷ ls → (s : Option Line) → shape l ≡ s
-        → lineRead (at + length l + 1) s ≡ LineRead.Line f → LineHere file at f
-    shaped-as l m ls e none s h = absurd (bad≢line h)
-    shaped-as l m ls e (some L) s h = subst (LineHere file at) (line-injective h) (here l m ls e L s)
+        → lineRead (at + length l + 1) s ≡ LineRead.Line f → LinePieces file at f
+    shaped-as l m ls q none s h = absurd (bad≢line h)
+    shaped-as l m ls q (some L) s h = subst (LinePieces file at) (line-injective h) (here l m ls q L s)
 
-    go : (ls : List (List ℕ)) → split LF (drop at file) ≡ ls → firstLine (λ n l. lineRead n (shape l)) at ls ≡ LineRead.Line f → LineHere file at f
-    go [] e h = absurd (bad≢line h)
-    go (l ∷ []) e h = absurd (bad≢line h)
-    go (l ∷ m ∷ ls) e h = shaped-as l m ls e (shape l) refl h
+    go : (ls : List (List ℕ)) → split LF (drop at file) ≡ ls → firstLine (λ n l. lineRead n (shape l)) at ls ≡ LineRead.Line f → LinePieces file at f
+    go [] q h = absurd (bad≢line h)
+    go (l ∷ []) q h = absurd (bad≢line h)
+    go (l ∷ m ∷ ls) q h = shaped-as l m ls q (shape l) refl h
+
+pub line-here : (file : List ℕ) (at : ℕ) (f : LineFields) → lineAt file at ≡ LineRead.Line f → LineHere file at f
+line-here file at f e =
+    let p = line-pieces file at f e in
+    let n : at + length (p .piece) + 1 ≡ f .next .at = ap (λ (g : LineFields). g .next .at) (sym (p .fields)) in
+    record {
+      longer = omega arith;
+      inside = omega (arith, p .inside);
+      small = rw (p .fields) (shaped (split comma (p .piece)) (p .line) (p .shaped) .1);
+      runs = λ i σ. ap (λ ks. runLines ks i (passed σ)) (p .cut) ∙ run-piece σ i (p .piece) (p .follower) (p .others)
+          ∙ ap (runLines (p .follower ∷ p .others) (suc i)) (run-shaped σ (p .piece) (p .line) (at + length (p .piece) + 1) (p .shaped) ∙ ap (runFields σ) (sym (p .fields)))
+          ∙ ap (λ ks. runLines ks (suc i) (runFields σ f)) (sym (p .rest));
+    }
+
+-- A BAD LINE: bytes behind the last LF, or a line that has no shape.
+pub bad-pieces : {R : Type 0} (file : List ℕ) (at : ℕ) → at < length file → lineAt file at ≡ LineRead.BadShape
+    → ((b : ℕ) (l : List ℕ) → split LF (drop at file) ≡ (b ∷ l) ∷ [] → R)
+    → ((l m : List ℕ) (ls : List (List ℕ)) → split LF (drop at file) ≡ l ∷ m ∷ ls → shape l ≡ none → R) → R
+unfolding lineAt
+bad-pieces {R} file at before e tail unshaped = go (split LF (drop at file)) refl e
+  where
+    shaped-as : (l m : List ℕ) (ls : List (List ℕ)) → split LF (drop at file) ≡ l ∷ m ∷ ls → (s : Option Line) → shape l ≡ s
+        → lineRead (at + length l + 1) s ≡ LineRead.BadShape → R
+    shaped-as l m ls q none s h = unshaped l m ls q s
+    shaped-as l m ls q (some L) s h = absurd (bad≢line (sym h))
+
+    go : (ls : List (List ℕ)) → split LF (drop at file) ≡ ls → firstLine (λ n l. lineRead n (shape l)) at ls ≡ LineRead.BadShape → R
+    go [] q h = absurd (some-piece LF (drop at file) q)
+    go ([] ∷ []) q h = absurd (one-piece LF (drop at file) (omega (arith, before, length-drop at file)) q)
+    go ((b ∷ l) ∷ []) q h = tail b l q
+    go (l ∷ m ∷ ls) q h = shaped-as l m ls q (shape l) refl h
 
 pub bad-line : (file : List ℕ) (at : ℕ) → at < length file → lineAt file at ≡ LineRead.BadShape → (i : ℕ) (σ : State)
     → verdictFrom file at i (passed σ) ≡ refuse Reason.BadShape (suc i)
-unfolding lineAt runLines runRead
-bad-line file at before e i σ = go (split LF (drop at file)) refl e
-  where
-    unshaped : (l : List ℕ) → shape l ≡ none → runLine σ l ≡ refused Reason.BadShape
-    unshaped l s = rw s
-
-    refused-pieces : (m : List ℕ) (ls : List (List ℕ)) → runLines (m ∷ ls) (suc i) (refused Reason.BadShape) ≡ refuse Reason.BadShape (suc i)
-    refused-pieces m ls = refl
-
-    shaped-as : (l m : List ℕ) (ls : List (List ℕ)) → split LF (drop at file) ≡ l ∷ m ∷ ls → (s : Option Line) → shape l ≡ s
-        → lineRead (at + length l + 1) s ≡ LineRead.BadShape → runLines (l ∷ m ∷ ls) i (passed σ) ≡ refuse Reason.BadShape (suc i)
-    shaped-as l m ls e none s h = run-piece σ i l m ls ∙ ap (runLines (m ∷ ls) (suc i)) (unshaped l s) ∙ refused-pieces m ls
-    shaped-as l m ls e (some L) s h = absurd (bad≢line (sym h))
-
-    go : (ls : List (List ℕ)) → split LF (drop at file) ≡ ls → firstLine (λ n l. lineRead n (shape l)) at ls ≡ LineRead.BadShape
-        → runLines ls i (passed σ) ≡ refuse Reason.BadShape (suc i)
-    go [] e h = absurd (some-piece LF (drop at file) e)
-    go ([] ∷ []) e h = absurd (one-piece LF (drop at file) (omega (arith, before, length-drop at file)) e)
-    go ((b ∷ l) ∷ []) e h = refl
-    go (l ∷ m ∷ ls) e h = shaped-as l m ls e (shape l) refl h
+unfolding runLines runRead
+bad-line file at before e i σ =
+    bad-pieces file at before e
+    (λ b l q. rw q)
+    (λ l m ls q s. ap (λ ks. runLines ks i (passed σ)) q ∙ run-piece σ i l m ls ∙ rw s)
 
 pub at-end : (file : List ℕ) (at : ℕ) → length file ≤ at → (i : ℕ) (σ : State) → verdictFrom file at i (passed σ) ≡ atEnd σ (σ .status) (suc i)
 unfolding split runLines

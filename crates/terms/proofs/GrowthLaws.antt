@@ -19,7 +19,7 @@ use Rattle.syntax.specs.Syntax.{wordIn, fieldsIn, termIn}
 use Rattle.packing.specs.Packing.{packTerm, nameLimit, Packable}
 use Rattle.table.specs.Held.{hashes, hashOf, links}
 use Rattle.table.proofs.GrowthLaws.{length-grown, at-last, at-old, searchable-grown, searchable-empty}
-use Rattle.mentions.specs.Mentions.{termArguments, Noted}
+use Rattle.mentions.specs.Mentions.{argumentBits, Noted}
 use Rattle.mentions.proofs.GrowthLaws.{ArgumentsMade, arguments-below, rows-grown, rows-empty}
 use Rattle.terms.specs.Arrays.{Arrays, arrays, Held}
 use Rattle.terms.proofs.LineLaws.{written-term}
@@ -43,7 +43,7 @@ pub record Added (old new : Arrays) (n p : ℕ) (e : specification.Term) : Type 
   pub packed : p ≡ packTerm e
   pub terms : new .terms ≡ set (old .terms) (n + 1) p
   pub chains : new .chains ≡ set (set (old .chains) (hashes + (n + 1)) (getD (old .chains) (hashOf p) 0)) (hashOf p) (n + 1)
-  pub noted : Noted (old .rows) (new .rows) (n + 1) (termArguments e)
+  pub noted : Noted (old .rows) (new .rows) (n + 1) (argumentBits (old .rows) e)
 
 pub held-grown : (table : Table) (term : Term) (old new : Arrays) (n p : ℕ) → Held table old n → Passed table term
     → Added old new n p (termIn term) → Held (table ++ (termIn term ∷ [])) new (n + 1)

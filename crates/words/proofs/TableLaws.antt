@@ -1,8 +1,8 @@
 -- Laws of the word tables: the index of a word in a byte string, and a table looked up by it.
 use mathlib.Core.Bool.{Bool, true, false, cond}
 use mathlib.Core.List.{List, [], _∷_}
-use mathlib.Core.Option.{Option, none, some}
-use mathlib.Core.Path.{_≡_, refl}
+use mathlib.Core.Option.{Option, none, some, Option·some-injective}
+use mathlib.Core.Path.{_≡_, refl, ap}
 use Prim.Native.Nat.{ℕ, suc, _+_, _≤_, _<_}
 use native.Mathlib.Numerals.{add-one, add-two, add-four}
 use native.Mathlib.Omega.{arith}
@@ -78,6 +78,14 @@ module _ {A B : Type 0} (row : A → B) (P : Option A → B → Type 0) (holds :
   pub found : (t : List (Named A)) (w i : ℕ) → i ≡ indexOf w (packedTexts t) → i < length (rowsOf row t)
       → P (lookupPacked t w) (getD (rowsOf row t) i d)
   found t w i e h = rw e (at-index t w (rw e at h))
+
+-- So it is with two tables in one order: what the entries stand for, and a number of each.
+pub found-rows : {A : Type 0} (number : A → ℕ) (d : A) (t : List (Named A)) (w i : ℕ) → i ≡ indexOf w (packedTexts t) → i < length (rowsOf (λ x. x) t)
+    → i < length (rowsOf number t)
+    → (lookupPacked t w ≡ some (getD (rowsOf (λ x. x) t) i d)) × (getD (rowsOf number t) i 0 ≡ number (getD (rowsOf (λ x. x) t) i d))
+found-rows {A = A} number d t w i e h h′ =
+    let here = found (λ x. x) (λ o x. o ≡ some x) (λ x. refl) d t w i e h in
+    (here, found number (λ o n. (x : A) → o ≡ some x → n ≡ number x) (λ x y q. ap number (Option·some-injective x y q)) 0 t w i e h′ _ here)
 
 -- Past the rows there is no such entry.
 pub not-found : {A : Type 0} (t : List (Named A)) (w i : ℕ) → i ≡ indexOf w (packedTexts t) → length t ≤ i → lookupPacked t w ≡ none

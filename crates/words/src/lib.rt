@@ -37,34 +37,50 @@ pub enum RuleFound {
     Unknown,
 }
 
-// A row of a table. Its mask is a plain number: a table of structs within structs takes twice as long to prove.
-struct WordUses(Word, u8);
-
-struct RuleUses(Rule, u8);
+// Each function below takes its tables before it searches: the compiler then keeps them as constants, but for WORDS, whose variants have a
+// payload. Taken behind the search, a table would be written to the stack for each line.
 
 const WORD_COUNT: usize = 17;
 
-const WORDS: [WordUses; WORD_COUNT] = [
-    WordUses(Word::Operation(Operator::Nul), 0),
-    WordUses(Word::Variable(Sort::Reference), Mask::P),
-    WordUses(Word::Operation(Operator::Rea), Mask::P | Mask::Q | Mask::T),
-    WordUses(Word::Operation(Operator::Emp), 0),
-    WordUses(Word::Operation(Operator::All), 0),
-    WordUses(Word::Variable(Sort::Region), Mask::P),
-    WordUses(Word::Operation(Operator::Cup), Mask::P | Mask::Q),
-    WordUses(Word::Operation(Operator::Cap), Mask::P | Mask::Q),
-    WordUses(Word::Operation(Operator::Dif), Mask::P | Mask::Q),
-    WordUses(Word::Operation(Operator::Sin), Mask::P),
-    WordUses(Word::Operation(Operator::Img), Mask::P | Mask::Q | Mask::T),
-    WordUses(Word::Variable(Sort::Heap), Mask::P),
-    WordUses(
-        Word::Operation(Operator::Wri),
-        Mask::P | Mask::Q | Mask::T | Mask::W,
-    ),
-    WordUses(Word::Variable(Sort::Field), Mask::P),
-    WordUses(Word::Variable(Sort::Class), Mask::P),
-    WordUses(Word::Operation(Operator::Typ), Mask::P),
-    WordUses(Word::Operation(Operator::Dty), Mask::P),
+const WORDS: [Word; WORD_COUNT] = [
+    Word::Operation(Operator::Nul),
+    Word::Variable(Sort::Reference),
+    Word::Operation(Operator::Rea),
+    Word::Operation(Operator::Emp),
+    Word::Operation(Operator::All),
+    Word::Variable(Sort::Region),
+    Word::Operation(Operator::Cup),
+    Word::Operation(Operator::Cap),
+    Word::Operation(Operator::Dif),
+    Word::Operation(Operator::Sin),
+    Word::Operation(Operator::Img),
+    Word::Variable(Sort::Heap),
+    Word::Operation(Operator::Wri),
+    Word::Variable(Sort::Field),
+    Word::Variable(Sort::Class),
+    Word::Operation(Operator::Typ),
+    Word::Operation(Operator::Dty),
+];
+
+// The fields that each word uses, in the same order.
+const WORD_MASKS: [u8; WORD_COUNT] = [
+    0, // nul
+    Mask::P, // rfv
+    Mask::P | Mask::Q | Mask::T, // rea
+    0, // emp
+    0, // all
+    Mask::P, // rgv
+    Mask::P | Mask::Q, // cup
+    Mask::P | Mask::Q, // cap
+    Mask::P | Mask::Q, // dif
+    Mask::P, // sin
+    Mask::P | Mask::Q | Mask::T, // img
+    Mask::P, // arv
+    Mask::P | Mask::Q | Mask::T | Mask::W, // wri
+    Mask::P, // fnv
+    Mask::P, // clv
+    Mask::P, // typ
+    Mask::P, // dty
 ];
 
 const RELATION_COUNT: usize = 6;
@@ -80,37 +96,69 @@ const RELATIONS: [Relation; RELATION_COUNT] = [
 
 const RULE_COUNT: usize = 29;
 
+const RULES: [Rule; RULE_COUNT] = [
+    Rule::Eqr,
+    Rule::Eql,
+    Rule::Ext,
+    Rule::Cpe,
+    Rule::Cpi,
+    Rule::Cue,
+    Rule::Cui,
+    Rule::Dfe,
+    Rule::Dfi,
+    Rule::Sge,
+    Rule::Sgi,
+    Rule::Cut,
+    Rule::All,
+    Rule::Nul,
+    Rule::Sep,
+    Rule::Img,
+    Rule::Wit,
+    Rule::Ref,
+    Rule::Sym,
+    Rule::Trn,
+    Rule::Sub,
+    Rule::Rep,
+    Rule::Ler,
+    Rule::Let,
+    Rule::Lea,
+    Rule::Rdh,
+    Rule::Rdm,
+    Rule::Cls,
+    Rule::Emp,
+];
+
 // "Which fields each rule uses is one fixed table of [twenty-nine] rows."
-const RULES: [RuleUses; RULE_COUNT] = [
-    RuleUses(Rule::Eqr, Mask::P | Mask::Q),
-    RuleUses(Rule::Eql, Mask::P | Mask::Q),
-    RuleUses(Rule::Ext, Mask::P | Mask::W),
-    RuleUses(Rule::Cpe, Mask::P),
-    RuleUses(Rule::Cpi, Mask::P | Mask::Q | Mask::T),
-    RuleUses(Rule::Cue, Mask::P),
-    RuleUses(Rule::Cui, Mask::P | Mask::T),
-    RuleUses(Rule::Dfe, Mask::P),
-    RuleUses(Rule::Dfi, Mask::P | Mask::Q | Mask::T),
-    RuleUses(Rule::Sge, Mask::P),
-    RuleUses(Rule::Sgi, Mask::T),
-    RuleUses(Rule::Cut, Mask::T | Mask::W),
-    RuleUses(Rule::All, Mask::P),
-    RuleUses(Rule::Nul, Mask::P),
-    RuleUses(Rule::Sep, Mask::P | Mask::Q),
-    RuleUses(Rule::Img, Mask::P | Mask::T),
-    RuleUses(Rule::Wit, Mask::P | Mask::W),
-    RuleUses(Rule::Ref, Mask::T),
-    RuleUses(Rule::Sym, Mask::P),
-    RuleUses(Rule::Trn, Mask::P | Mask::Q),
-    RuleUses(Rule::Sub, Mask::P | Mask::T | Mask::W),
-    RuleUses(Rule::Rep, Mask::P | Mask::Q | Mask::T),
-    RuleUses(Rule::Ler, Mask::T),
-    RuleUses(Rule::Let, Mask::P | Mask::Q),
-    RuleUses(Rule::Lea, Mask::P | Mask::Q),
-    RuleUses(Rule::Rdh, Mask::T),
-    RuleUses(Rule::Rdm, Mask::T),
-    RuleUses(Rule::Cls, Mask::P | Mask::Q),
-    RuleUses(Rule::Emp, Mask::P),
+const RULE_MASKS: [u8; RULE_COUNT] = [
+    Mask::P | Mask::Q, // eqr
+    Mask::P | Mask::Q, // eql
+    Mask::P | Mask::W, // ext
+    Mask::P, // cpe
+    Mask::P | Mask::Q | Mask::T, // cpi
+    Mask::P, // cue
+    Mask::P | Mask::T, // cui
+    Mask::P, // dfe
+    Mask::P | Mask::Q | Mask::T, // dfi
+    Mask::P, // sge
+    Mask::T, // sgi
+    Mask::T | Mask::W, // cut
+    Mask::P, // all
+    Mask::P, // nul
+    Mask::P | Mask::Q, // sep
+    Mask::P | Mask::T, // img
+    Mask::P | Mask::W, // wit
+    Mask::T, // ref
+    Mask::P, // sym
+    Mask::P | Mask::Q, // trn
+    Mask::P | Mask::T | Mask::W, // sub
+    Mask::P | Mask::Q | Mask::T, // rep
+    Mask::T, // ler
+    Mask::P | Mask::Q, // let
+    Mask::P | Mask::Q, // lea
+    Mask::T, // rdh
+    Mask::T, // rdm
+    Mask::P | Mask::Q, // cls
+    Mask::P, // emp
 ];
 
 fn pack(a: u8, b: u8, c: u8) -> usize
@@ -139,16 +187,17 @@ fn search(word: usize, words: &[u8]) -> usize
 pub fn word_of(word: usize) -> WordFound
     ensures { λ r. ⌜ WordKnown word r ⌝ }
 {
+    let words = WORDS;
+    let masks = WORD_MASKS;
     let index = search(
         word,
         b"nul rfv rea emp all rgv cup cap dif sin img arv wri fnv clv typ dty ",
     );
     if index < WORD_COUNT {
-        let row = WORDS[index];
-        let known = row.0;
+        let known = words[index];
         return WordFound::Known(WordRow {
             word: known,
-            used: Mask(row.1),
+            used: Mask(masks[index]),
         });
     }
     WordFound::Unknown
@@ -158,9 +207,10 @@ pub fn word_of(word: usize) -> WordFound
 pub fn relation_of(word: usize) -> RelationFound
     ensures { λ r. ⌜ RelationKnown word r ⌝ }
 {
+    let relations = RELATIONS;
     let index = search(word, b"in\0 ni\0 eq\0 ne\0 le\0 nl\0 ");
     if index < RELATION_COUNT {
-        return RelationFound::Known(RELATIONS[index]);
+        return RelationFound::Known(relations[index]);
     }
     RelationFound::Unknown
 }
@@ -169,16 +219,17 @@ pub fn relation_of(word: usize) -> RelationFound
 pub fn rule_of(word: usize) -> RuleFound
     ensures { λ r. ⌜ RuleKnown word r ⌝ }
 {
+    let rules = RULES;
+    let masks = RULE_MASKS;
     let index = search(
         word,
         b"eqr eql ext cpe cpi cue cui dfe dfi sge sgi cut all nul sep img wit ref sym trn sub rep ler let lea rdh rdm cls emp ",
     );
     if index < RULE_COUNT {
-        let row = RULES[index];
-        let known = row.0;
+        let rule = rules[index];
         return RuleFound::Known(RuleRow {
-            rule: known,
-            used: Mask(row.1),
+            rule: rule,
+            used: Mask(masks[index]),
         });
     }
     RuleFound::Unknown

@@ -1,7 +1,7 @@
 -- Each test finds its letter; past them the byte is none of the letters.
 use Rattle.tableau.specs.Basics.{lookup, sameBytes, bytes}
 use Rattle.tableau.specs.File.{letters}
-use Rattle.lines.proofs.FieldBytes.{no-letter}
+use Rattle.lines.proofs.OnePass.{no-letter}
 use Rattle.lines.proofs.letter_of.Statement.{statement}
 use Rattle.lines.proofs.letter_of.Tie as tie
 

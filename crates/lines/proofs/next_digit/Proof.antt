@@ -1,12 +1,21 @@
 -- The end, another byte below the digits, one above them, one digit too many, and a digit.
 use mathlib.Core.Bool.{and-false}
+use Prim.Native.Nat.{_<_}
 use native.Mathlib.Omega.{arith}
 use borrow.Author.Needs.{needs}
 use borrow.Author.Tests.{eq-eqb, ne-eqb, le-leb, lt-leb}
-use Rattle.lines.specs.Fields.{nextDigit}
-use Rattle.lines.proofs.FieldBytes.{digits-small}
+use Rattle.lines.specs.ByteSteps.{nextDigit}
+use Rattle.lines.proofs.Bytes.{digits-small}
 use Rattle.lines.proofs.next_digit.Statement.{statement}
 use Rattle.lines.proofs.next_digit.Tie as tie
+
+-- the end is below the digits
+ends : tie.Need-returns
+unfolding nextDigit
+ends c =
+    let a = c .before .args in
+    let low : a .x < 48 = omega (arith, c .if1 .taken, c .before .pre .0) in
+    rw (lt-leb 48 (a .x) low, eq-eqb (a .x) (a .end) (c .if1 .taken))
 
 digit : tie.Need-returns-5
 unfolding nextDigit
@@ -17,9 +26,9 @@ unfolding nextDigit
 next-digit-spec =
     tie.close
     (tie.spec
-    (λ c. search (needs, lt-leb, eq-eqb))
+    ends
     (λ c. search (needs, lt-leb, ne-eqb))
-    (λ c. let a = c .before .before .args in rw (lt-leb (a .x) 57 (c .if3 .taken), and-false, ne-eqb (a .x) (a .end) (λ e. omega arith)))
+    (λ c. search (needs, lt-leb, ne-eqb, and-false))
     (λ c. search (needs, le-leb, eq-eqb))
     (λ c. omega (arith, digits-small))
     (λ c κs. tt) (λ c. search needs)

@@ -2,9 +2,9 @@
 use mathlib.Core.Bool.{and-false}
 use native.Mathlib.Omega.{arith}
 use borrow.Author.Needs.{needs}
-use borrow.Author.Tests.{eq-eqb, ne-eqb, le-leb, lt-leb}
-use Rattle.lines.specs.Fields.{nextLetter}
-use Rattle.lines.proofs.FieldBytes.{letter-small}
+use borrow.Author.Tests.{ne-eqb, le-leb, lt-leb}
+use Rattle.lines.specs.ByteSteps.{nextLetter}
+use Rattle.lines.proofs.Bytes.{letter-small, is-whole, is-short}
 use Rattle.lines.proofs.next_letter.Statement.{statement}
 use Rattle.lines.proofs.next_letter.Tie as tie
 
@@ -17,8 +17,8 @@ unfolding nextLetter
 next-letter-spec =
     tie.close
     (tie.spec
-    (λ c. search (needs, lt-leb, le-leb, eq-eqb))
-    (λ c. search (needs, lt-leb, eq-eqb))
+    (λ c. let k = c .before .before .before in rw (c .before .if2 .taken, is-whole (k .args .count) (c .if3 .taken) (k .pre .few)))
+    (λ c. rw (c .before .if2 .taken, is-short (c .before .before .before .args .count) (c .if3 .left)))
     (λ c. search (needs, lt-leb, ne-eqb))
     (λ c. let x = c .before .before .args .x in rw (lt-leb x 122 (c .if4 .taken), and-false, ne-eqb x 44 (λ e. omega arith)))
     (λ c. search (needs, le-leb))

@@ -1,6 +1,7 @@
--- No byte, no letter; after the letter no byte, the comma, another byte.
+-- No letter; after the letter the comma, another byte.
 use borrow.Author.Needs.{needs}
-use Rattle.lines.proofs.FieldBytes.{letter-found}
+use Rattle.lines.proofs.FileSteps.{ahead-here}
+use Rattle.lines.proofs.Bytes.{comma-ahead, letter-read}
 use Rattle.lines.proofs.read_letter.Statement.{statement}
 use Rattle.lines.proofs.read_letter.Tie as tie
 
@@ -8,7 +9,7 @@ pub read-letter-spec : {M : Type 1} → statement M
 read-letter-spec =
     tie.close
     (tie.spec
-    (λ c. search letter-found)
-    (λ c. search needs) (λ c κs. tt) (λ c. search needs) (λ c. search needs) (λ c. search letter-found)
-    (λ c. search needs) (λ c. search letter-found)
-    (λ c. search needs) (λ c. search needs) (λ c. search letter-found) (λ c. search letter-found))
+    (λ c. search (needs, ahead-here))
+    (λ c κs. tt) (λ c. search needs) (λ c. search needs) (λ c. search letter-read)
+    (λ c. search needs) (λ c. search (needs, ahead-here, comma-ahead))
+    (λ c. search needs) (λ c. search letter-read) (λ c. search letter-read))

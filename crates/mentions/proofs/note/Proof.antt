@@ -3,17 +3,24 @@ use borrow.Author.Needs.{needs}
 use Rattle.mentions.proofs.note.Statement.{statement}
 use Rattle.mentions.proofs.note.Tie as tie
 
-fill-requires : tie.Need-fill-requires
-fill-requires c κs = search needs
+join-requires : tie.Need-join-requires
+join-requires c κs = rw (c .before .before .term .given .1) at (c .before .before .before .before .pre)
 
-fill-requires-2 : tie.Need-fill-requires-2
-fill-requires-2 c κs = rw (c .before .before .term .given .1) at (c .before .before .before .before .pre)
+variable : tie.Need-returns
+variable c = rw (c .before .before .before .before .enum-told .given .1) (c .set-own .ensures _ _ (c .before .before .clear .ensures))
 
-returns : tie.Need-returns
-returns c = rw (c .before .before .enum-told .given .1) (c .fill .ensures)
-
-returns-2 : tie.Need-returns-2
-returns-2 c = rw (c .before .before .before .term .given .1) (c .fill2 .ensures)
+operation : tie.Need-returns-2
+operation c = rw (c .before .before .before .before .before .term .given .1) (c .set-own2 .ensures _ _ (c .before .before .join .ensures))
 
 pub note-spec : {M : Type 1} → statement M
-note-spec = tie.close (tie.spec (λ c. c .match .keys1) fill-requires (λ c. c .match .keys2) fill-requires-2 returns returns-2)
+note-spec =
+    tie.close
+    (tie.spec
+    (λ c. search needs)
+    (λ c κs. search needs)
+    (λ c κs. search needs)
+    (λ c. search needs)
+    join-requires
+    (λ c κs. search needs)
+    variable
+    operation)

@@ -4,7 +4,8 @@ use Prim.Native.Nat.{ℕ, _-_}
 use native.Mathlib.Omega.{arith}
 use lib.ListN.{length}
 use Rattle.lines.specs.declared.LineRead.{LineRead}
-use Rattle.lines.specs.Lines.{lineAt}
+use Rattle.lines.specs.Lines.{lineAt, LFAhead}
+use Rattle.lines.proofs.FileSteps.{ahead-here, no-line-behind}
 use Rattle.terms.specs.Arrays.{arrays}
 use Rattle.reply.specs.Verdict.{verdictOf}
 use Rattle.line_checks.specs.Checks.{Ready}
@@ -17,33 +18,40 @@ use Rattle.file_run.proofs.Run.run.Statement.{statement}
 use Rattle.file_run.proofs.Run.run.Tie as tie
 
 abbrev Inv-loop : tie.InvT-loop
-Inv-loop file terms₀ chains₀ rows₀ prefix₀ self₀ progress₀ at₀ terms chains rows prefix self progress at =
+Inv-loop file terms₀ chains₀ rows₀ prefix₀ self₀ progress₀ end at₀ terms chains rows prefix self progress at =
     Reached file (arrays terms chains rows) prefix (self .tree) progress at
 
 abbrev μ-loop : tie.MeasureT-loop
-μ-loop file terms₀ chains₀ rows₀ prefix₀ self₀ progress₀ at₀ terms chains rows prefix self progress at = length file - at
+μ-loop file terms₀ chains₀ rows₀ prefix₀ self₀ progress₀ end at₀ terms chains rows prefix self progress at = length file - at
 
 loop-holds : tie.Need-loop-holds Inv-loop μ-loop
 loop-holds c =
-    let p = c .before .before .pre in
-    rw (c .start .ensures) (reached-start (p .0 .0) (p .0 .1) (p .1 .0) (p .1 .1) (p .1 .2))
+    let p = c .before .before .before .pre in
+    rw (c .before .start .ensures) (reached-start (p .0 .0) (p .0 .1) (p .1 .0) (p .1 .1) (p .1 .2))
 
-add-line : tie.Need-add-line Inv-loop μ-loop
-add-line c = let l = c .before .before .before .before .before in omega (arith, l .loop .inv .lines, l .loop .inv .inside, l .loop .inv .short)
+-- in the loop an LF is ahead
+ahead : (c : tie.In-loop Inv-loop μ-loop) → LFAhead (c .before .before .before .before .before .args .file .now) (c .before .loop .at)
+ahead c = c .before .before .lines-end .ensures .ahead _ (c .loop-test .taken)
 
 -- check 2
+bad-requires : tie.Need-ends-at-bad-shape-requires Inv-loop μ-loop
+bad-requires c κs =
+    let t = c .before .before .before in
+    let R = t .before .loop .inv in
+    omega (arith, R .lines, R .short, ahead-here _ _ (ahead t))
+
 returns : tie.Need-returns Inv-loop μ-loop
 returns c =
-    let r = c .before .before .before .before in
+    let r = c .before .before .before in
     let R = r .before .before .loop .inv in
-    (ap verdictOf (c .ends .ensures .0) ∙ reached-bad R (r .before .loop-test .taken) (sym (r .read-line .ensures) ∙ c .before .before .enum-told .given .1), stopped R (c .ends .ensures .1))
+    (ap verdictOf (c .ends-at-bad-shape .ensures .0) ∙ reached-bad R (ahead-here _ _ (ahead (r .before))) (sym (r .read-line .ensures) ∙ c .before .enum-told .given .1), stopped R (c .ends-at-bad-shape .ensures .1))
 
 -- the line that is read
 abbrev begun : tie.After-known-told Inv-loop μ-loop → tie.At-loop Inv-loop μ-loop
 begun c = c .before .before .before .before .before
 
 is-line : (c : tie.After-known-told Inv-loop μ-loop)
-    → lineAt (begun c .before .before .before .args .file .now) (begun c .loop .at) ≡ LineRead.Line (c .before .f .given .0 .0)
+    → lineAt (begun c .before .before .before .before .args .file .now) (begun c .loop .at) ≡ LineRead.Line (c .before .f .given .0 .0)
 is-line c = sym (c .before .before .before .read-line .ensures) ∙ c .before .f .given .1
 
 -- the extent that the line is checked with is the tree's
@@ -59,7 +67,7 @@ check-line-requires c κs =
     let u = c .before .before .before .before .before in
     let k = told u in
     let R = begun k .loop .inv in
-    let h = k .before .before .before .before .loop-test .taken in
+    let h = ahead-here _ _ (ahead (k .before .before .before .before)) in
     ((R .table, R .held), (subst (Ready _) (extent-is u) (ready R h), R .within .branch, line-here _ _ _ (is-line k) .small))
 
 -- the other checks
@@ -71,8 +79,8 @@ returns-2 c =
     let x = c .before .before .before .before in
     let k = told (with x) in
     let R = begun k .loop .inv in (
-      ap verdictOf (c .ends2 .ensures .0) ∙ reached-refused R _ (is-line k) (extent-is (with x)) (x .check-line .ensures (R .table) (R .held) (R .rows)) (c .before .before .reason .given .1),
-      stopped R (c .ends2 .ensures .1),
+      ap verdictOf (c .ends .ensures .0) ∙ reached-refused R _ (is-line k) (extent-is (with x)) (x .check-line .ensures (R .table) (R .held) (R .rows)) (c .before .before .reason .given .1),
+      stopped R (c .ends .ensures .1),
     )
 
 -- the line passed
@@ -115,14 +123,26 @@ loop-again c =
     let D = x .check-line .ensures (R .table) (R .held) (R .rows) in
     reached-more R _ (is-line k) (extent-is (with x)) D (n .next .given .1) (record { branch = a .append .ensures; waiting = p .push .ensures })
 
-end-requires : tie.Need-end-requires Inv-loop μ-loop
-end-requires c κs = let R = c .before .loop .inv in omega (arith, R .lines, R .inside, R .short)
+-- what stands behind the last LF is a bad line
+bad-requires-2 : tie.Need-ends-at-bad-shape-requires-2 Inv-loop μ-loop
+bad-requires-2 c κs = let R = c .before .before .loop .inv in omega (arith, R .lines, R .short, c .if1 .taken)
 
 returns-3 : tie.Need-returns-3 Inv-loop μ-loop
 returns-3 c =
-    let l = c .before .before in
+    let t = c .before in
+    let l = t .before in
     let R = l .before .loop .inv in
-    (ap verdictOf (c .ends3 .ensures .0) ∙ c .before .end .ensures ∙ reached-end R (l .loop-test .left), stopped R (c .ends3 .ensures .1))
+    (ap verdictOf (c .ends-at-bad-shape2 .ensures .0) ∙ reached-bad R (t .if1 .taken) (no-line-behind _ _ _ (l .before .before .lines-end .ensures) (l .loop-test .left)), stopped R (c .ends-at-bad-shape2 .ensures .1))
+
+-- the end of the file
+end-requires : tie.Need-end-requires Inv-loop μ-loop
+end-requires c κs = let R = c .before .before .loop .inv in omega (arith, R .lines, R .inside, R .short)
+
+returns-4 : tie.Need-returns-4 Inv-loop μ-loop
+returns-4 c =
+    let e = c .before .before in
+    let R = e .before .before .loop .inv in
+    (ap verdictOf (c .ends2 .ensures .0) ∙ c .before .end .ensures ∙ reached-end R (e .if1 .left), stopped R (c .ends2 .ensures .1))
 
 pub run-spec : {M : Type 1} → statement M
 run-spec =
@@ -131,12 +151,12 @@ run-spec =
     Inv-loop
     μ-loop
     (λ c κs. search needs)
+    (λ c κs. search needs)
     loop-holds
-    (λ c κs. search needs)
+    (λ c κs. ahead c)
     (λ c. search needs)
     (λ c. search needs)
-    add-line
-    (λ c κs. search needs)
+    bad-requires
     returns
     (λ c κs. begun (c .before .before) .loop .inv .within .waiting .room)
     check-line-requires
@@ -148,6 +168,8 @@ run-spec =
     push-requires
     loop-less
     loop-again
+    bad-requires-2
+    returns-3
     end-requires
     (λ c κs. search needs)
-    returns-3)
+    returns-4)

@@ -1,0 +1,33 @@
+-- Laws of a text that is cut at a byte, by its first byte.
+use mathlib.Core.Bool.{Bool, true, false}
+use mathlib.Core.List.{List, [], _∷_}
+use mathlib.Core.Path.{_≡_, refl}
+use Prim.Native.Nat.{ℕ}
+use lib.Dec.{eqb}
+use borrow.Author.Tests.{eq-eqb, ne-eqb}
+use Rattle.tableau.specs.File.{onFirst, split}
+
+pub split-same : (c x : ℕ) (l : List ℕ) → x ≡ c → split c (x ∷ l) ≡ [] ∷ split c l
+unfolding split
+split-same c x l e = cut (eqb x c) (eq-eqb x c e)
+  where
+    cut : (b : Bool) → b ≡ true → elim b [ true ↦ [] ∷ split c l | false ↦ onFirst x (split c l) ] ≡ [] ∷ split c l
+    cut b e = rw e
+
+pub split-other : (c x : ℕ) (l : List ℕ) → (x ≡ c → ⊥) → split c (x ∷ l) ≡ onFirst x (split c l)
+unfolding split
+split-other c x l h = cut (eqb x c) (ne-eqb x c h)
+  where
+    cut : (b : Bool) → b ≡ false → elim b [ true ↦ [] ∷ split c l | false ↦ onFirst x (split c l) ] ≡ onFirst x (split c l)
+    cut b e = rw e
+
+-- there is a first piece
+pub pieces : (c : ℕ) (l : List ℕ) → (p : List ℕ) × (ps : List (List ℕ)) × (split c l ≡ p ∷ ps)
+unfolding split
+pieces c [] = ([], [], refl)
+pieces c (x ∷ l) = cut (eqb x c) (split c l) (pieces c l)
+  where
+    cut : (b : Bool) (ls : List (List ℕ)) → (p : List ℕ) × (ps : List (List ℕ)) × (ls ≡ p ∷ ps)
+        → (p : List ℕ) × (ps : List (List ℕ)) × (elim b [ true ↦ [] ∷ ls | false ↦ onFirst x ls ] ≡ p ∷ ps)
+    cut true ls h = ([], ls, refl)
+    cut false ls h = (x ∷ h .0, h .1, rw (h .2))

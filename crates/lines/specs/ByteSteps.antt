@@ -1,0 +1,181 @@
+-- A line read in one pass: what a step makes of one byte and the fields read so far, and what the steps over a line come to.
+use mathlib.Core.Bool.{Bool, true, false, cond, _||_}
+use mathlib.Core.List.{List, [], _∷_, _++_, foldl, List·Mem}
+use mathlib.Core.Option.{Option, none, some}
+use mathlib.Core.Path.{_≡_}
+use Prim.Native.Nat.{ℕ, zero, suc, _+_, _*_, _-_, _^_, _<_, _≤_}
+use lib.Dec.{eqb, leb}
+use lib.ListN.{drop, getD}
+use Rattle.tableau.specs.declared.Letter.{Letter}
+use Rattle.tableau.specs.declared.Reason.{Reason}
+use Rattle.tableau.specs.Basics.{then, lookup}
+use Rattle.tableau.specs.File.{LF, comma, letters, isSmall, isWord, isDigit, maxDigits, Line, shape}
+use Rattle.tableau.specs.Tree.{Checked, refused, passed, requireSome}
+use Rattle.lines.specs.declared.LetterFound.{LetterFound}
+use Rattle.lines.specs.declared.LetterRead.{LetterRead}
+use Rattle.lines.specs.declared.ValueRead.{ValueRead}
+use Rattle.lines.specs.declared.LineRead.{LineRead}
+use Rattle.lines.specs.declared.ByteStep.{ByteStep}
+use Rattle.lines.specs.declared.FirstDigit.{FirstDigit}
+use Rattle.lines.specs.Lines.{packWord, LFAhead}
+
+-- ONE BYTE OF A FIELD. A byte of the field's own goes on with the new value, unless the field is full; the byte that ends it does so if the field is whole.
+abbrev pub stepBy : Bool → Bool → Bool → Bool → ℕ → ByteStep
+stepBy own full ends whole value = cond own (cond full ByteStep.Bad (ByteStep.More value)) (cond ends (cond whole ByteStep.End ByteStep.Bad) ByteStep.Bad)
+
+-- a word of which count letters make value, the first byte lowest
+unfoldable pub nextLetter : ℕ → ℕ → ℕ → ByteStep
+nextLetter value count x = stepBy (isSmall x) (leb 3 count) (eqb x comma) (eqb count 2 || eqb count 3) (value + 256 ^ count * x)
+
+-- a number by its first digit: its value, and how many digits may follow, none after a 0
+unfoldable pub firstDigit : ℕ → FirstDigit
+firstDigit x = cond (isDigit x) (FirstDigit.Digit (x - 48) (cond (eqb x 48) 0 (maxDigits - 1))) FirstDigit.Bad
+
+-- a number whose digits so far make value, where left more may follow
+unfoldable pub nextDigit : ℕ → ℕ → ℕ → ℕ → ByteStep
+nextDigit value left x end = stepBy (isDigit x) (eqb left 0) (eqb x end) true (10 * value + (x - 48))
+
+-- what is read so far of a word or a number is small
+pub record LettersFit (value count : ℕ) : Type 0 where
+  pub few : count ≤ 3
+  pub small : value < 256 ^ count
+
+pub record DigitsFit (value left : ℕ) : Type 0 where
+  pub few : left < maxDigits
+  pub small : value < 10 ^ (maxDigits - left)
+
+-- ONE BYTE OF A LINE. The fields that are read to their end, the word packed in one number.
+pub record FieldsRead : Type 0 where
+  pub letter : Letter
+  pub word : ℕ
+  pub numbers : List ℕ
+
+-- What is read of a line: fields that have ended, and what there is of the one that has not.
+pub data Reading : Type 0 where
+  -- nothing
+  empty : Reading
+  -- the letter
+  afterLetter : Letter → Reading
+  -- the letter with its comma, and the word's value and count of letters so far
+  inWord : Letter → ℕ → ℕ → Reading
+  -- a number is next, and so many follow it
+  beforeNumber : ℕ → FieldsRead → Reading
+  -- the same, and the number's value so far and how many digits may follow
+  inNumber : ℕ → FieldsRead → ℕ → ℕ → Reading
+  -- six fields with their commas and LF
+  whole : FieldsRead → Reading
+  -- no line
+  bad : Reading
+
+-- the byte that ends a number which so many follow
+abbrev pub endOf : ℕ → ℕ
+endOf zero = LF
+endOf (suc n) = comma
+
+abbrev pub wordEnds : Letter → ℕ → Reading
+wordEnds l word = beforeNumber 3 (record { letter = l; word = word; numbers = [] })
+
+abbrev pub withNumber : FieldsRead → ℕ → FieldsRead
+withNumber f value = record { letter = f .letter; word = f .word; numbers = f .numbers ++ (value ∷ []) }
+
+abbrev pub numberEnds : ℕ → FieldsRead → ℕ → Reading
+numberEnds zero f value = whole (withNumber f value)
+numberEnds (suc n) f value = beforeNumber n (withNumber f value)
+
+abbrev pub letterStep : Option Letter → Reading
+letterStep none = bad
+letterStep (some l) = afterLetter l
+
+abbrev pub firstStep : ℕ → FieldsRead → FirstDigit → Reading
+firstStep n f (FirstDigit.Digit value left) = inNumber n f value left
+firstStep n f FirstDigit.Bad = bad
+
+abbrev pub byteStep : (ℕ → Reading) → Reading → ByteStep → Reading
+byteStep more done (ByteStep.More value) = more value
+byteStep more done ByteStep.End = done
+byteStep more done ByteStep.Bad = bad
+
+-- "a step gets one byte and the fields read so far, never the line"
+unfoldable pub step : Reading → ℕ → Reading
+step empty x = letterStep (lookup letters (x ∷ []))
+step (afterLetter l) x = cond (eqb x comma) (inWord l 0 0) bad
+step (inWord l value count) x = byteStep (λ v. inWord l v (count + 1)) (wordEnds l value) (nextLetter value count x)
+step (beforeNumber n f) x = firstStep n f (firstDigit x)
+step (inNumber n f value left) x = byteStep (λ v. inNumber n f v (left - 1)) (numberEnds n f value) (nextDigit value left x (endOf n))
+step (whole f) x = bad
+step bad x = bad
+
+-- WHAT THE STEPS END WITH: the fields, or number 2.
+abbrev pub ends : Reading → Checked FieldsRead
+ends empty = refused Reason.BadShape
+ends (afterLetter l) = refused Reason.BadShape
+ends (inWord l value count) = refused Reason.BadShape
+ends (beforeNumber n f) = refused Reason.BadShape
+ends (inNumber n f value left) = refused Reason.BadShape
+ends (whole f) = passed f
+ends bad = refused Reason.BadShape
+
+-- the specification's fields of a line
+abbrev pub fieldsOf : Line → FieldsRead
+fieldsOf l = record { letter = l .letter; word = packWord (l .word); numbers = l .fields .a ∷ l .fields .b ∷ l .fields .c ∷ l .fields .d ∷ [] }
+
+-- "Show that the steps over a line's bytes, in order and each once, end with exactly its fields, or with number 2 where it isn't shaped as document 01 says."
+unfoldable pub OnePass : Type 0
+OnePass = (l : List ℕ) → ends (foldl step empty (l ++ (LF ∷ []))) ≡ requireSome (then (shape l) λ k. some (fieldsOf k)) Reason.BadShape
+
+-- and from these fields the line's own can be told, though the word is packed
+unfoldable pub FieldsInjective : Type 0
+FieldsInjective = (k n : Line) → isWord (k .word) ≡ true → isWord (n .word) ≡ true → fieldsOf k ≡ fieldsOf n → k ≡ n
+
+-- bytes with no LF among them end with number 2
+unfoldable pub NoLine : Type 0
+NoLine = (l : List ℕ) → (List·Mem LF l → ⊥) → ends (foldl step empty l) ≡ refused Reason.BadShape
+
+-- THE STEPS IN A FILE. From a position on, in order and each once, up to the end of the line.
+abbrev pub lineEnd : ℕ → Checked FieldsRead → LineRead
+lineEnd at (refused r) = LineRead.BadShape
+lineEnd at (passed f) =
+    LineRead.Line
+    (record {
+      letter = f .letter;
+      word = f .word;
+      a = getD (f .numbers) 0 0;
+      b = getD (f .numbers) 1 0;
+      c = getD (f .numbers) 2 0;
+      d = getD (f .numbers) 3 0;
+      next = record { at = at };
+    })
+
+abbrev pub goesOn : Checked FieldsRead → Bool
+goesOn (refused r) = true
+goesOn (passed f) = false
+
+unfoldable pub steps : Reading → List ℕ → ℕ → LineRead
+steps r [] at = lineEnd at (ends r)
+steps r (x ∷ l) at = elim (goesOn (ends r)) [ true ↦ steps (step r x) l (at + 1) | false ↦ lineEnd at (ends r) ]
+
+unfoldable pub stepsAt : Reading → List ℕ → ℕ → LineRead
+stepsAt r file at = steps r (drop at file) at
+
+abbrev pub letterFound : Option Letter → LetterFound
+letterFound none = LetterFound.Unknown
+letterFound (some l) = LetterFound.Known l
+
+-- A FIELD IS READ: behind it the steps go on with the reading that has it, towards the LF that is ahead; or there is no line. Whatever stands before the field.
+unfoldable pub LetterSteps : List ℕ → ℕ → LetterRead → Type 0
+LetterSteps file at (LetterRead.Read l i) = (stepsAt empty file at ≡ stepsAt (inWord l 0 0) file i) × LFAhead file i
+LetterSteps file at LetterRead.Bad = stepsAt empty file at ≡ LineRead.BadShape
+
+abbrev pub ValueSteps : Reading → (ℕ → Reading) → ℕ → List ℕ → ℕ → ValueRead → Type 0
+ValueSteps r then′ end file at (ValueRead.Read value i) = (stepsAt r file at ≡ stepsAt (then′ value) file i) × (end ≡ comma → LFAhead file i)
+ValueSteps r then′ end file at ValueRead.Bad = stepsAt r file at ≡ LineRead.BadShape
+
+unfoldable pub WordSteps : List ℕ → ℕ → ValueRead → Type 0
+WordSteps file at r = (l : Letter) → ValueSteps (inWord l 0 0) (wordEnds l) comma file at r
+
+unfoldable pub NumberSteps : ℕ → List ℕ → ℕ → ValueRead → Type 0
+NumberSteps end file at r = (n : ℕ) (f : FieldsRead) → endOf n ≡ end → ValueSteps (beforeNumber n f) (numberEnds n f) end file at r
+
+-- the same of a number from its second byte on
+unfoldable pub DigitsSteps : ℕ → ℕ → ℕ → List ℕ → ℕ → ValueRead → Type 0
+DigitsSteps value left end file at r = (n : ℕ) (f : FieldsRead) → endOf n ≡ end → ValueSteps (inNumber n f value left) (numberEnds n f) end file at r
