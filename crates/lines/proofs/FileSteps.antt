@@ -20,7 +20,7 @@ use Rattle.lines.specs.declared.LineRead.{LineRead}
 use Rattle.lines.specs.Lines.{lineRead, firstLine, lineAt, LFAhead, LinesEnd}
 use Rattle.lines.specs.ByteSteps.{nextLetter, firstDigit, nextDigit, FieldsRead, Reading, empty, afterLetter, inWord, beforeNumber, inNumber, whole, bad}
 use Rattle.lines.specs.ByteSteps.{withNumber, step, ends, fieldsOf, OnePass, lineEnd, goesOn, steps, stepsAt}
-use Rattle.lines.proofs.Pieces.{pieces}
+use Rattle.lines.proofs.Pieces.{pieces, uncut}
 use Rattle.lines.proofs.OnePass.{unended, one-pass}
 
 -- A line that is whole or bad stays so.
@@ -88,19 +88,13 @@ line-steps file at = first-line empty (drop at file) at refl ∙ same (split LF 
     same (l ∷ []) = refl
     same (l ∷ m ∷ ls) = ap (lineEnd (at + length l + 1)) (one-pass l) ∙ shaped (at + length l + 1) (shape l)
 
--- A line without LF is none.
-steps-unended : (r : Reading) (l : List ℕ) (at : ℕ) → ends r ≡ refused Reason.BadShape → ((i : ℕ) → i < length l → getD l i 0 ≡ LF → ⊥) → steps r l at ≡ LineRead.BadShape
-unfolding steps
-steps-unended r [] at e h = rw e
-steps-unended r (x ∷ l) at e h =
-    steps-on r x l at e ∙ steps-unended (step r x) l (at + 1) (unended r x (h 0 (omega arith))) (λ i k. h (suc i) (omega arith))
-
+-- Bytes without LF are no line.
 pub no-line-behind : (file : List ℕ) (end at : ℕ) → LinesEnd file end → end ≤ at → lineAt file at ≡ LineRead.BadShape
-unfolding stepsAt
+unfolding lineAt
 no-line-behind file end at E h =
-    sym (line-steps file at)
-    ∙ steps-unended empty (drop at file) at refl
-    (λ i k q. E .last (at + i) (omega arith) (omega (arith, length-drop at file)) (sym (getD-drop at file i 0) ∙ q))
+    ap (firstLine (λ n l. lineRead n (shape l)) at)
+    (uncut LF (drop at file)
+    (λ i k q. E .last (at + i) (omega arith) (omega (arith, length-drop at file)) (sym (getD-drop at file i 0) ∙ q)))
 
 -- THE BYTE at a position that has an LF ahead.
 pub ahead-here : (file : List ℕ) (i : ℕ) → LFAhead file i → i < length file

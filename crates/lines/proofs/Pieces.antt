@@ -1,9 +1,11 @@
 -- Laws of a text that is cut at a byte, by its first byte.
 use mathlib.Core.Bool.{Bool, true, false}
 use mathlib.Core.List.{List, [], _∷_}
-use mathlib.Core.Path.{_≡_, refl}
-use Prim.Native.Nat.{ℕ}
+use mathlib.Core.Path.{_≡_, refl, ap, _∙_}
+use Prim.Native.Nat.{ℕ, suc, _<_}
+use native.Mathlib.Omega.{arith}
 use lib.Dec.{eqb}
+use lib.ListN.{length, getD}
 use borrow.Author.Tests.{eq-eqb, ne-eqb}
 use Rattle.tableau.specs.File.{onFirst, split}
 
@@ -31,3 +33,9 @@ pieces c (x ∷ l) = cut (eqb x c) (split c l) (pieces c l)
         → (p : List ℕ) × (ps : List (List ℕ)) × (elim b [ true ↦ [] ∷ ls | false ↦ onFirst x ls ] ≡ p ∷ ps)
     cut true ls h = ([], ls, refl)
     cut false ls h = (x ∷ h .0, h .1, rw (h .2))
+
+-- a text without the byte is one piece
+pub uncut : (c : ℕ) (l : List ℕ) → ((i : ℕ) → i < length l → getD l i 0 ≡ c → ⊥) → split c l ≡ l ∷ []
+unfolding split
+uncut c [] h = refl
+uncut c (x ∷ l) h = split-other c x l (h 0 (omega arith)) ∙ ap (onFirst x) (uncut c l (λ i k. h (suc i) (omega arith)))
