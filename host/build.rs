@@ -5,11 +5,13 @@ use std::path::Path;
 fn main() {
     let folder = Path::new(env!("CARGO_MANIFEST_DIR")).join("../target/staticlib");
     println!("cargo::rustc-link-search=native={}", folder.display());
-    if !link(&folder, "checker") {
-        println!(
-            "cargo::error={} has no libchecker.a: run `rt staticlib checker` in the repository's root first",
-            folder.display()
-        );
+    for name in ["checker", "evaluator"] {
+        if !link(&folder, name) {
+            println!(
+                "cargo::error={} has no lib{name}.a: run `rt staticlib {name}` in the repository's root first",
+                folder.display()
+            );
+        }
     }
     // Only what times and tests the reader alone needs this one.
     println!("cargo::rustc-check-cfg=cfg(reading_alone)");

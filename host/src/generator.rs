@@ -1,6 +1,7 @@
 //! Files for the checkers, made from a seed: closed tableaux that use every
 //! rule, their damaged neighbours, files at the limits, and noise. What is
-//! expected of a file comes from how it was made, never from a checker.
+//! expected of a file comes from how it was made, never from a checker. `heaps`
+//! makes pairs of files for the evaluators.
 
 mod builder;
 mod closable;
@@ -10,6 +11,7 @@ mod draft;
 mod exact_damage;
 pub mod full_tables;
 mod heap_refutations;
+pub mod heaps;
 mod identities;
 mod limits;
 mod near_misses;

@@ -103,32 +103,79 @@ pub fn call(file: &[u8], buffer: &mut [u8]) -> u32 {
 // The whole file
 // ---------------------------------------------------------------------------
 
+/// A refusal's number and its line.
+pub type Refusal = (u32, u32);
+
 /// Checks a whole file: any bytes get one reply.
 pub fn check(file: &[u8]) -> Reply {
-    // 1: "over 60,000 bytes; line 0, before any line"
-    if file.len() > MOST_BYTES {
-        return no(1, 0);
+    match closed_tree(file) {
+        Ok(state) => yes(&state),
+        Err((number, line)) => no(number, line),
     }
+}
+
+/// The state after all lines of an accepted file.
+fn closed_tree(file: &[u8]) -> Result<State, Refusal> {
+    check_length(file)?;
     let mut state = State::new();
+    let lines = each_line(file, |text| check_line(&mut state, text))?;
+    // 17: "input ends with a branch open; line is last line plus 1"
+    if !state.closed {
+        return Err((17, lines + 1));
+    }
+    Ok(state)
+}
+
+/// The terms and the assumed literals, for one who wants no steps: "Reading of
+/// the checker file stops before the first line that begins `S,`."
+pub fn read_before_steps(file: &[u8]) -> Result<(Vec<Term>, Vec<Literal>), Refusal> {
+    // "1 by its whole length, 17 never"
+    check_length(file)?;
+    let mut state = State::new();
+    each_line(before_steps(file), |text| check_line(&mut state, text))?;
+    Ok((state.terms, state.assumptions))
+}
+
+/// The bytes before the first line that begins `S,`; all, where none does.
+fn before_steps(file: &[u8]) -> &[u8] {
+    let mut length = 0;
+    for line in file.split_inclusive(|byte| *byte == b'\n') {
+        if line.starts_with(b"S,") {
+            break;
+        }
+        length += line.len();
+    }
+    &file[..length]
+}
+
+/// 1: "over 60,000 bytes; line 0, before any line"
+pub fn check_length(file: &[u8]) -> Result<(), Refusal> {
+    if file.len() > MOST_BYTES {
+        return Err((1, 0));
+    }
+    Ok(())
+}
+
+/// Checks the lines in order, each without its LF, and counts them. "The line
+/// is that of the first bad line, from 1."
+pub fn each_line(
+    file: &[u8],
+    mut check: impl FnMut(&[u8]) -> Result<(), u32>,
+) -> Result<u32, Refusal> {
     let mut rest = file;
-    // "The line is that of the first bad line, from 1."
     let mut line = 0;
     while !rest.is_empty() {
         line += 1;
         // 2: "or no LF"
         let Some((text, after)) = take_line(rest) else {
-            return no(2, line);
+            return Err((2, line));
         };
-        if let Err(number) = check_line(&mut state, text) {
-            return no(number, line);
+        if let Err(number) = check(text) {
+            return Err((number, line));
         }
         rest = after;
     }
-    // 17: "input ends with a branch open; line is last line plus 1"
-    if !state.closed {
-        return no(17, line + 1);
-    }
-    yes(&state)
+    Ok(line)
 }
 
 /// The terms and the assumed literals of a file whose T and A lines are good.
@@ -211,15 +258,32 @@ struct Line<'a> {
     numbers: [u32; 4],
 }
 
+/// The text before the LF, as a T, A or S line.
+fn shape(text: &[u8]) -> Option<Line<'_>> {
+    let fields = six_fields(text)?;
+    Some(Line {
+        letter: shape_letter(fields.letter)?,
+        word: fields.word,
+        numbers: fields.numbers,
+    })
+}
+
+/// The six fields of a line, whatever stands in the first.
+pub struct Fields<'a> {
+    pub letter: &'a [u8],
+    pub word: &'a [u8],
+    pub numbers: [u32; 4],
+}
+
 /// "Each line has six fields parted by five commas, no quoting, ended by one
 /// LF." The text is what stands before the LF.
-fn shape(text: &[u8]) -> Option<Line<'_>> {
+pub fn six_fields(text: &[u8]) -> Option<Fields<'_>> {
     let fields: Vec<&[u8]> = text.split(|byte| *byte == b',').collect();
     let [field1, field2, field3, field4, field5, field6] = fields.as_slice() else {
         return None;
     };
-    Some(Line {
-        letter: shape_letter(field1)?,
+    Some(Fields {
+        letter: field1,
         word: shape_word(field2)?,
         numbers: [
             shape_number(field3)?,
@@ -438,7 +502,7 @@ fn check_t(state: &mut State, line: &Line) -> Result<(), u32> {
 }
 
 /// "A field that the word doesn't use holds `0`."
-fn all_zero(numbers: &[u32]) -> bool {
+pub fn all_zero(numbers: &[u32]) -> bool {
     numbers.iter().all(|number| *number == 0)
 }
 

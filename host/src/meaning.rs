@@ -65,7 +65,7 @@ impl Heap {
     }
 
     /// "a partial order `le` on classes"
-    fn order_is_partial(&self) -> bool {
+    pub fn order_is_partial(&self) -> bool {
         if self.order.len() != self.classes {
             return false;
         }
@@ -178,16 +178,18 @@ impl Values {
 /// The variables on the T lines of a well formed file, in their order.
 pub fn variables(file: &[u8]) -> Option<Vec<Variable>> {
     let (terms, _) = read(file)?;
-    let mut found = Vec::new();
-    for term in &terms {
-        if takes_name(term.word) {
-            found.push(variable_of(term)?);
-        }
-    }
-    Some(found)
+    Some(variables_of(&terms))
+}
+
+/// The variables among the terms of a table, in their order.
+pub fn variables_of(terms: &[Term]) -> Vec<Variable> {
+    terms.iter().filter_map(variable_of).collect()
 }
 
 fn variable_of(term: &Term) -> Option<Variable> {
+    if !takes_name(term.word) {
+        return None;
+    }
     let [name] = term.arguments.as_slice() else {
         return None;
     };

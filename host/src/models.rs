@@ -57,12 +57,20 @@ struct Size {
     classes: usize,
 }
 
+/// The most references, fields and classes of a small heap.
+pub const SMALL: [usize; 3] = [4, 2, 3];
+
+/// A heap and a value for each variable.
+pub type Model = (Heap, Values);
+
 /// What a search through heaps came to.
 pub struct Search {
     pub found: usize,
     pub tried: usize,
     /// Whether it went through all there are.
     pub complete: bool,
+    /// The first that was found.
+    pub first: Option<Model>,
 }
 
 /// The terms and assumptions of a file.
@@ -82,14 +90,22 @@ impl Question {
     pub fn random_models(&self, tries: usize, random: &mut Random) -> usize {
         let mut found = 0;
         for _ in 0..tries {
-            let size = Size {
-                references: 1 + random.below(4),
-                fields: 1 + random.below(2),
-                classes: 1 + random.below(3),
-            };
-            found += usize::from(self.is_model(&size, random));
+            let (heap, values) = self.random(SMALL, random);
+            found += usize::from(self.holds(&heap, &values));
         }
         found
+    }
+
+    /// A heap and values at random, a model or not. There are at most so many
+    /// references, fields and classes.
+    pub fn random(&self, most: [usize; 3], random: &mut Random) -> Model {
+        let [references, fields, classes] = most;
+        let size = Size {
+            references: 1 + random.below(references),
+            fields: 1 + random.below(fields),
+            classes: 1 + random.below(classes),
+        };
+        self.chosen(&size, random)
     }
 
     /// Goes through all heaps with at most one reference beside `nul`, one
@@ -101,6 +117,7 @@ impl Question {
             found: 0,
             tried: 0,
             complete: true,
+            first: None,
         };
         for references in 1..=2 {
             for classes in 1..=2 {
@@ -118,8 +135,12 @@ impl Question {
     fn search(&self, size: &Size, most: usize, search: &mut Search) {
         let mut odometer = Odometer::default();
         for _ in 0..most {
-            search.found += usize::from(self.is_model(size, &mut odometer));
+            let (heap, values) = self.chosen(size, &mut odometer);
             search.tried += 1;
+            if self.holds(&heap, &values) {
+                search.found += 1;
+                search.first.get_or_insert((heap, values));
+            }
             if !odometer.advance() {
                 return;
             }
@@ -127,15 +148,19 @@ impl Question {
         search.complete = false;
     }
 
-    /// Whether all assumptions are true in the heap and values that the
-    /// choices make.
-    fn is_model(&self, size: &Size, choices: &mut impl Choices) -> bool {
+    /// The heap and values that the choices make.
+    fn chosen(&self, size: &Size, choices: &mut impl Choices) -> Model {
         let heap = heap(size, choices);
         let values = self.values(&heap, choices);
         assert!(heap.is_finite_heap() && values.fit(&heap));
-        let known = values_of_terms(&self.terms, &heap, &values).expect("terms have values");
+        (heap, values)
+    }
+
+    /// Whether all assumptions are true in this heap, with these values.
+    pub fn holds(&self, heap: &Heap, values: &Values) -> bool {
+        let known = values_of_terms(&self.terms, heap, values).expect("terms have values");
         self.assumptions.iter().all(|literal| {
-            literal_true(literal, &known, &heap).expect("assumptions are true or false")
+            literal_true(literal, &known, heap).expect("assumptions are true or false")
         })
     }
 

@@ -62,7 +62,7 @@ fn line(window: &Window) -> Option<Read> {
 #[inline(always)]
 fn head(window: &Window) -> Option<Read> {
     let &[letter, comma, a, b, c, d, ..] = window;
-    let known = matches!(letter, b'T' | b'A' | b'S');
+    let known = letter.is_ascii_uppercase();
     if !known || comma != b',' || !a.is_ascii_lowercase() || !b.is_ascii_lowercase() {
         return None;
     }

@@ -1,7 +1,9 @@
 //! The yardstick: an ordinary checker written for speed, which looks a term up
 //! by going through the table. It passes over the bytes once, packs a term and
-//! a literal into a number each, and changes the tree in place.
+//! a literal into a number each, and changes the tree in place. `evaluator` is
+//! the yardstick of the evaluator, with the same reader and table.
 
+pub mod evaluator;
 mod literals;
 mod mentions;
 mod packing;

@@ -1,6 +1,8 @@
 //! The files of examples/ and their damaged neighbours get the replies that
 //! examples/README.md works out by hand.
 
+mod page;
+
 use std::collections::BTreeSet;
 use std::fs;
 use std::path::{Path, PathBuf};
@@ -8,6 +10,7 @@ use std::path::{Path, PathBuf};
 use host::independent::TermWord;
 use host::meaning::{assumptions, Heap, Value, Values, Variable};
 use host::{call, independent};
+use page::edited;
 
 const PAGE: &str = include_str!("../../examples/README.md");
 
@@ -19,34 +22,23 @@ fn example(name: &str) -> String {
     fs::read_to_string(folder().join(name)).expect(name)
 }
 
-/// The rows of the page's table with these columns; the backquotes are left
-/// out.
-fn rows<const N: usize>(columns: [&str; N]) -> Vec<[String; N]> {
-    let heading = format!("| {} |\n|{}\n", columns.join(" | "), "---|".repeat(N));
-    let (_, table) = PAGE.split_once(&heading).expect(&heading);
-    let lines = table.lines().take_while(|line| line.starts_with('|'));
-    let rows: Vec<_> = lines.map(cells).collect();
-    assert!(!rows.is_empty(), "{heading}");
-    rows
-}
-
-fn cells<const N: usize>(row: &str) -> [String; N] {
-    let inner = row
-        .strip_prefix("| ")
-        .and_then(|row| row.strip_suffix(" |"));
-    let cells = inner.expect(row).split(" | ");
-    let cells: Vec<String> = cells.map(|cell| cell.replace('`', "")).collect();
-    cells.try_into().expect(row)
-}
-
-/// File, claim, reply.
+/// File, claim, reply: the files of the first table, then those of the false
+/// claims.
 fn files() -> Vec<[String; 3]> {
-    rows(["File", "Claim", "Reply"])
+    let mut files = page::rows(PAGE, ["File", "Claim", "Reply"]);
+    files.extend(false_claims().map(|[name, claim, _, reply]| [name, claim, reply]));
+    files
+}
+
+/// File, claim, the accepted file that it stands beside, reply.
+fn false_claims() -> impl Iterator<Item = [String; 4]> {
+    let columns = ["File", "Claim, which is false", "Neighbour of", "Reply"];
+    page::rows(PAGE, columns).into_iter()
 }
 
 /// File, edit, why it is refused, reply.
 fn edits() -> Vec<[String; 4]> {
-    rows(["File", "Edit", "Why it is refused", "Reply"])
+    page::rows(PAGE, ["File", "Edit", "Why it is refused", "Reply"])
 }
 
 /// The reply lines of the proved checker and of the independent one.
@@ -66,32 +58,12 @@ fn expect(file: &str, reply: &str, about: &str) {
     assert_eq!(replies(file), [reply.clone(), reply], "{about}");
 }
 
-/// What `sed` makes of the file, for the three kinds of edit that the page
-/// uses.
-fn edited(file: &str, edit: &str) -> String {
-    let digits = edit.find(|c: char| !c.is_ascii_digit()).expect(edit);
-    let (line, command) = edit.split_at(digits);
-    let at = line.parse::<usize>().expect(edit) - 1;
-    let mut lines: Vec<&str> = file.lines().collect();
-    match command {
-        "d" => {
-            lines.remove(at);
-        }
-        "p" => lines.insert(at, lines[at]),
-        _ => {
-            let new = command.strip_prefix("s/.*/");
-            lines[at] = new.and_then(|new| new.strip_suffix('/')).expect(edit);
-        }
-    }
-    lines.iter().map(|line| format!("{line}\n")).collect()
-}
-
 #[test]
 fn a_row_for_every_file_and_a_file_for_every_row() {
     let entries = fs::read_dir(folder()).unwrap();
     let mut there: Vec<String> = entries
         .map(|entry| entry.unwrap().file_name().into_string().unwrap())
-        .filter(|name| name != "README.md")
+        .filter(|name| name != "README.md" && !name.ends_with(".heap"))
         .collect();
     there.sort();
     let mut named: Vec<String> = files().into_iter().map(|[name, ..]| name).collect();
@@ -125,6 +97,21 @@ fn every_accepted_file_has_a_refused_neighbour() {
     for [name, edit, _, reply] in edits {
         assert!(reply.starts_with("no,"), "{name} {edit}");
         expect(&edited(&example(&name), &edit), &reply, &edit);
+    }
+}
+
+/// No accepted file is left out but that of the acknowledgement routine, whose
+/// neighbour stands in the first table.
+#[test]
+fn every_accepted_file_has_a_false_neighbour() {
+    let accepted = files().into_iter();
+    let accepted = accepted.filter(|[_, _, reply]| reply.starts_with("yes,"));
+    let accepted = accepted.map(|[name, ..]| name);
+    let neighbours: Vec<String> = false_claims().map(|[_, _, of, _]| of).collect();
+    let left_out: Vec<String> = accepted.filter(|name| !neighbours.contains(name)).collect();
+    assert_eq!(left_out, ["acknowledgement_spares_last_jog.tab"]);
+    for [name, _, _, reply] in false_claims() {
+        assert!(reply.starts_with("no,"), "{name}");
     }
 }
 

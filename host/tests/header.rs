@@ -1,17 +1,24 @@
-//! The C header: its numbers and words are document 01's, and C programs that
-//! include it can call the library.
+//! The C headers: their numbers and words are the papers', and C programs that
+//! include `tabcheck.h` can call the library.
 
+mod c_compiler;
 mod cases;
+mod constants;
+mod input;
 mod named;
 mod process;
 mod runner;
 
-use process::{repository, run_on, scratch};
+use c_compiler::{cc, linked, succeeded};
+use constants::constants;
+use input::run_on;
+use process::{repository, scratch};
 use std::fs::{self, File};
 use std::path::{Path, PathBuf};
-use std::process::{Command, Output};
+use std::process::Command;
 
 const HEADER: &str = include_str!("../../include/tabcheck.h");
+const EVALUATOR_HEADER: &str = include_str!("../../include/tabeval.h");
 const README: &str = include_str!("../../README.md");
 
 /// The column "When" of the refusals, from 1.
@@ -36,27 +43,21 @@ const WHEN: [&str; 18] = [
     "reply buffer not 24 bytes; returned by the call, nothing written, before 1",
 ];
 
-/// The numbers of an enum of the header, with what their comments say.
-fn constants(name: &str) -> Vec<(usize, &'static str)> {
-    let (_, rest) = HEADER.split_once(&format!("enum {name} {{\n")).expect(name);
-    let (body, _) = rest.split_once("\n};").expect(name);
-    body.lines().map(constant).collect()
-}
-
-fn constant(line: &'static str) -> (usize, &'static str) {
-    let (_, value) = line.split_once(" = ").expect(line);
-    let (number, comment) = value.split_once("/*").expect(line);
-    let number = number.trim().trim_end_matches(',');
-    let comment = comment.trim_end_matches("*/");
-    (number.parse().expect(line), comment.trim())
-}
-
 #[test]
 fn refusal_numbers_are_the_documents() {
-    let constants = constants("tabcheck_refusal");
+    let constants = constants(HEADER, "tabcheck_refusal");
     assert_eq!(constants[0].0, 0);
     let refusals: Vec<(usize, &str)> = (1..).zip(WHEN).collect();
     assert_eq!(constants[1..], refusals);
+}
+
+/// The evaluator's header has 1 to 18 by including the other.
+#[test]
+fn two_refusal_numbers_are_the_evaluators() {
+    let constants = constants(EVALUATOR_HEADER, "tabeval_refusal");
+    let numbers: Vec<usize> = constants.iter().map(|(number, _)| *number).collect();
+    assert_eq!(numbers, [0, 19, 20]);
+    assert!(EVALUATOR_HEADER.contains("#include \"tabcheck.h\"\n"));
 }
 
 #[test]
@@ -69,43 +70,32 @@ fn the_six_numbers_are_in_the_replys_order() {
         "S lines",
         "closings (cls and emp lines)",
     ];
-    let constants = constants("tabcheck_field");
+    expect_fields(HEADER, "tabcheck_field", &starts);
+}
+
+#[test]
+fn the_three_numbers_are_in_the_replys_order() {
+    let starts = [
+        "refusal number",
+        "file that is refused: 1 checker, 2 heap",
+        "line",
+    ];
+    expect_fields(EVALUATOR_HEADER, "tabeval_field", &starts);
+}
+
+fn expect_fields(header: &'static str, name: &str, starts: &[&str]) {
+    let constants = constants(header, name);
     assert_eq!(constants.len(), starts.len());
-    for (i, start) in starts.into_iter().enumerate() {
+    for (i, start) in starts.iter().enumerate() {
         assert_eq!(constants[i].0, i);
         assert!(constants[i].1.starts_with(start), "{start}");
     }
 }
 
-/// A C compiler, with the header in reach and every warning an error. Rust
-/// links with one of this name, so it is there.
-fn cc() -> Command {
-    let mut cc = Command::new("cc");
-    cc.args(["-std=c99", "-pedantic", "-Wall", "-Wextra", "-Werror", "-I"]);
-    cc.arg(repository().join("include"));
-    cc
-}
-
-fn succeeded(output: Output) -> String {
-    let stderr = String::from_utf8_lossy(&output.stderr);
-    assert!(output.status.success(), "{stderr}");
-    String::from_utf8(output.stdout).unwrap()
-}
-
-/// Compiles a program of `tests/c` and links it with the library, under a name
-/// of the test's own: tests run at the same time, and a program that runs can't
-/// be written.
+/// A program of `tests/c`, under a name of the test's own.
 fn compiled(source: &str, name: &str) -> PathBuf {
-    linked(&repository().join(format!("host/tests/c/{source}.c")), name)
-}
-
-fn linked(source: &Path, name: &str) -> PathBuf {
-    let library = repository().join("target/staticlib/libchecker.a");
-    let program = scratch(name);
-    let mut cc = cc();
-    cc.arg(source).arg(library).arg("-o").arg(&program);
-    succeeded(cc.output().unwrap());
-    program
+    let source = repository().join(format!("host/tests/c/{source}.c"));
+    linked(&source, "checker", name)
 }
 
 #[test]
@@ -139,7 +129,7 @@ fn the_c_program_of_the_readme() {
     let (text, _) = rest.split_once("```\n").unwrap();
     let source = scratch("accept.c");
     fs::write(&source, text).unwrap();
-    let program = linked(&source, "accept");
+    let program = linked(&source, "checker", "accept");
 
     let f = named::file("marked: F");
     let runs = [(&f[..], "accepted\n", 0), (b"", "refused: number 17\n", 1)];
@@ -157,26 +147,29 @@ fn a_short_buffer_of_a_c_host_is_left_alone() {
     assert_eq!(succeeded(output.unwrap()), "left alone\n");
 }
 
-/// What C++ sees of the header, with no need of a C++ compiler.
+/// What C, or C++ where `plus_plus`, sees of the headers, with no need of a C++
+/// compiler.
+fn preprocessed(plus_plus: bool) -> String {
+    let source = scratch("linkage.c");
+    let both = "#include \"tabeval.h\"\n#include \"tabcheck.h\"\n";
+    fs::write(&source, both.repeat(2)).unwrap();
+    let mut cc = cc();
+    if plus_plus {
+        cc.arg("-D__cplusplus=201103L");
+    }
+    let output = cc.args(["-E", "-P"]).arg(source).output();
+    succeeded(output.unwrap())
+}
+
 #[test]
 fn cpp_gets_c_linkage() {
-    let source = scratch("linkage.c");
-    fs::write(
-        &source,
-        "#include \"tabcheck.h\"\n#include \"tabcheck.h\"\n",
-    )
-    .unwrap();
-    let seen = |definitions: &[&str]| {
-        let output = cc()
-            .args(definitions)
-            .args(["-E", "-P"])
-            .arg(&source)
-            .output();
-        succeeded(output.unwrap())
-    };
-    assert!(!seen(&[]).contains("extern \"C\""));
-    let text = seen(&["-D__cplusplus=201103L"]);
-    let (_, linked) = text.split_once("extern \"C\" {").unwrap();
-    assert_eq!(linked.matches("uint32_t tabcheck(").count(), 1);
-    assert!(linked.trim_end().ends_with('}'));
+    assert!(!preprocessed(false).contains("extern \"C\""));
+    let text = preprocessed(true);
+    let blocks: Vec<&str> = text.split("extern \"C\" {").skip(1).collect();
+    assert_eq!(blocks.len(), 2);
+    for (block, call) in blocks.into_iter().zip(["tabcheck", "tabeval"]) {
+        let declaration = format!("uint32_t {call}(");
+        assert_eq!(block.matches(&declaration).count(), 1, "{call}");
+        assert!(block.trim_end().ends_with('}'), "{call}");
+    }
 }

@@ -1,16 +1,16 @@
-//! The proved program, through standard input and output, and the script that
-//! builds and runs it.
+//! The proved program, through standard input and output.
 
 mod cases;
+mod input;
 mod named;
 mod process;
 mod runner;
 
-use process::{repository, run_on, scratch};
-use std::fs::{self, File};
+use input::run_on;
+use process::repository;
+use std::fs::File;
 use std::io::{ErrorKind, Read, Write};
-use std::os::unix::fs::{symlink, PermissionsExt};
-use std::path::{Path, PathBuf};
+use std::path::PathBuf;
 use std::process::{Child, ChildStdin, Command, Output, Stdio};
 use std::sync::mpsc;
 use std::thread;
@@ -155,81 +155,4 @@ fn the_script_runs_the_program_from_anywhere() {
         &named::file("marked: F"),
     ));
     assert_eq!(said, F_REPLY);
-}
-
-/// A repository with nothing but the script. What the script calls is in
-/// `tools`, and so is an `rt` with this text, if any.
-fn bare_repository(name: &str, rt: Option<&str>) -> PathBuf {
-    let root = scratch(name);
-    let _ = fs::remove_dir_all(&root);
-    let tools = root.join("tools");
-    fs::create_dir_all(&tools).unwrap();
-    fs::copy(repository().join("tabcheck"), root.join("tabcheck")).unwrap();
-    for tool in ["dirname", "rm", "mkdir", "cat", "chmod"] {
-        symlink(found(tool), tools.join(tool)).unwrap();
-    }
-    if let Some(text) = rt {
-        let rt = tools.join("rt");
-        fs::write(&rt, format!("#!/bin/sh\n{text}\n")).unwrap();
-        fs::set_permissions(rt, fs::Permissions::from_mode(0o755)).unwrap();
-    }
-    root
-}
-
-fn found(tool: &str) -> PathBuf {
-    let folders = std::env::var_os("PATH").unwrap();
-    let mut paths = std::env::split_paths(&folders).map(|folder| folder.join(tool));
-    paths.find(|path| path.is_file()).expect(tool)
-}
-
-fn run_script(root: &Path) -> Output {
-    let mut command = Command::new(root.join("tabcheck"));
-    command.env("PATH", root.join("tools"));
-    let name = format!("{}.in", root.file_name().unwrap().to_str().unwrap());
-    run_on(&mut command, &name, b"the file\n")
-}
-
-/// The script failed, said why, and gave no reply.
-fn expect_failure(output: &Output, why: &str) {
-    assert!(!output.status.success());
-    assert_eq!(output.stdout, b"");
-    let stderr = String::from_utf8_lossy(&output.stderr);
-    assert!(stderr.contains(why), "{stderr}");
-}
-
-#[test]
-fn the_script_without_rt() {
-    let root = bare_repository("script_without_rt", None);
-    expect_failure(&run_script(&root), "building it needs rt");
-}
-
-/// A program is made whose trial run fails, as `rt check` can end.
-#[test]
-fn the_script_where_the_build_fails() {
-    let rt =
-        "mkdir -p target/bin && : >target/bin/tabcheck && chmod +x target/bin/tabcheck && exit 1";
-    let root = bare_repository("script_build_fails", Some(rt));
-    expect_failure(&run_script(&root), "the build failed");
-    expect_failure(&run_script(&root), "the build failed");
-}
-
-#[test]
-fn the_script_where_nothing_is_built() {
-    let root = bare_repository("script_nothing_built", Some("exit 0"));
-    expect_failure(&run_script(&root), "it is not there");
-}
-
-/// The program made here writes its input back, so what it writes shows that the
-/// build left the input alone.
-#[test]
-fn the_script_builds_once() {
-    let rt = "echo \"rt $*\" && mkdir -p target/bin && printf '#!/bin/sh\\ncat\\n' >target/bin/tabcheck && chmod +x target/bin/tabcheck";
-    let root = bare_repository("script_builds_once", Some(rt));
-    let first = run_script(&root);
-    assert!(first.status.success());
-    assert_eq!(first.stdout, b"the file\n");
-    let stderr = String::from_utf8(first.stderr).unwrap();
-    assert!(stderr.ends_with("rt check tabcheck\n"), "{stderr}");
-
-    assert_eq!(reply(run_script(&root)), "the file\n");
 }

@@ -34,6 +34,15 @@ fn words_and_numbers_are_mixed() {
     assert_eq!(read(b"S,in,0,0,0,0\nS,in,0,0,0,0\n"), 0);
 }
 
+/// Which letters a file knows is its own; a reader takes every capital.
+#[test]
+fn any_capital_is_read() {
+    for letter in ['A', 'D', 'Q', 'Z'] {
+        let file = format!("{letter},rfv,1,0,0,0\n");
+        assert_eq!(read(file.as_bytes()), 0x76_66_73, "{file}");
+    }
+}
+
 #[test]
 fn each_number_counts() {
     for numbers in ["9,0,0,0", "0,9,0,0", "0,0,9,0", "0,0,0,9"] {
@@ -70,7 +79,8 @@ fn a_bad_shape_is_found() {
         "T,rFv,1,0,0,0",
         "T,r{,1,0,0,0",
         "t,rfv,1,0,0,0",
-        "U,rfv,1,0,0,0",
+        "@,rfv,1,0,0,0",
+        "[,rfv,1,0,0,0",
         "TT,rfv,1,0,0,0",
         "T.rfv,1,0,0,0",
     ] {

@@ -2,7 +2,8 @@
 use mathlib.Core.Path.{_≡_, refl, sym, _∙_, ap}
 use mathlib.Core.Bool.{Bool, true, false}
 use mathlib.Core.List.{List, _++_}
-use Prim.Native.Nat.{ℕ, _+_, _<_, _≤_}
+use Prim.Native.Nat.{ℕ, _<_, _≤_}
+use native.Mathlib.Numerals.{add-one}
 use native.Mathlib.Omega.{arith}
 use lib.ListN.{length, getD}
 use borrow.Author.Tests.{le-leb, lt-leb, eq-eqb, ne-eqb}
@@ -11,20 +12,38 @@ use Rattle.tableau.specs.Basics.{bytes}
 use Rattle.tableau.specs.Claims.{BeginsWithYes, NoHeap, Demand3}
 use Rattle.tableau.specs.File.{maxBytes}
 use Rattle.tableau.specs.Tree.{passed}
-use Rattle.tableau.specs.Reply.{start, refuse, Verdict, verdict, Reply, replyOf, reply, reasonNumber, sixNumbers, replyBytes}
+use Rattle.tableau.specs.Reply.{start, stopped, refuse, atEnd, verdictOn, Verdict, verdict, Reply, replyOf, reply, reasonNumber, sixNumbers, replyBytes}
 use Rattle.tableau.specs.Reply.{commaNumbers, yesOrNo, replyLine, call, bufferLength}
 use Rattle.tableau.proofs.Counts.{number-in-range}
 use Rattle.tableau.proofs.Soundness.{demand3}
-use Rattle.running.specs.Running.{verdictFrom}
+use Rattle.running.specs.Running.{checkFrom}
+use Rattle.packing.specs.Packing.{unpackLiteral}
+use Rattle.terms.specs.Arrays.{Arrays}
+use Rattle.tree.specs.declared.Tree.{Tree}
+use Rattle.tree.specs.State.{treeOf}
+use Rattle.growth.specs.declared.Progress.{Progress}
+use Rattle.growth.specs.Progress.{statusOf, stateAt, verdictIf, verdictAtEnd}
+use Rattle.file_run.specs.Reached.{Finished}
 
 -- CHECK 1
 pub too-long : (file : List ℕ) → maxBytes < length file → refuse Reason.TooLong 0 ≡ verdict file
 unfolding verdict
 too-long file h = rw (lt-leb (length file) maxBytes h, verdict)
 
-pub short-enough : (file : List ℕ) → length file ≤ maxBytes → verdictFrom file 0 0 (passed start) ≡ verdict file
+short-enough : (file : List ℕ) → length file ≤ maxBytes → verdictOn (checkFrom file 0 0 (passed start)) ≡ verdict file
 unfolding verdict
 short-enough file h = rw (le-leb (length file) maxBytes h, verdict)
+
+-- THE LINES: one is refused, or all pass
+pub lines-stop : (file : List ℕ) → length file ≤ maxBytes → (r : Reason) (i : ℕ) → checkFrom file 0 0 (passed start) ≡ stopped r i → refuse r i ≡ verdict file
+lines-stop file h r i e = sym (ap verdictOn e) ∙ short-enough file h
+
+pub lines-end : (file : List ℕ) → length file ≤ maxBytes → {A : Arrays} {t : Tree} {g : Progress} → Finished file A t g → verdictAtEnd g ≡ verdict file
+lines-end file h {t = t} {g = g} F = go (g .closed) ∙ sym (ap verdictOn (F .runs)) ∙ short-enough file h
+  where
+    go : (b : Bool) → verdictIf b g ≡ atEnd (stateAt (F .table) (treeOf unpackLiteral t) g) (statusOf b (treeOf unpackLiteral t)) (g .lines)
+    go true = refl
+    go false = ap (refuse Reason.BranchOpen) (add-one (g .lines))
 
 -- THE REPLY
 pub replied : (file : List ℕ) (v : Verdict) {r : Reply} → v ≡ verdict file → r ≡ replyOf v → r ≡ reply file

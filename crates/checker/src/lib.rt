@@ -1,6 +1,8 @@
 // The checker: the lines of a whole file, the build host's call, the reply line.
 use file_run::Run;
+use file_run::RunEnd;
 use reply::Reply;
+use reply::Text;
 use reply::Verdict;
 use tableau::Reason;
 use tree::Tree;
@@ -9,17 +11,11 @@ ghost use Prim.Native.Nat.{_≤_};
 ghost use lib.ListN.{length};
 ghost use Rattle.tableau.specs.Claims.{BeginsWithYes, NoHeap};
 ghost use Rattle.tableau.specs.Reply as specification;
+ghost use Rattle.reply.specs.Text.{textOf};
 ghost use Rattle.reply.specs.Verdict.{verdictOf};
-ghost use Rattle.checker.specs.Text.{textOf};
 
 // A file has at most so many bytes (check 1).
 pub const FILE_BYTES: usize = 60000;
-
-// The reply line: the first `len` of its bytes.
-pub struct Text {
-    pub bytes: [u8; Reply::LINE_BYTES],
-    pub len: usize,
-}
 
 // The verdict on a file.
 fn check(file: &[u8]) -> Verdict
@@ -36,8 +32,11 @@ fn check(file: &[u8]) -> Verdict
         tree: Tree::empty(),
     };
     let ran = run.run(file, &mut terms, &mut chains, &mut rows, &mut prefix);
-    let verdict = ran.verdict;
-    verdict
+    let end = ran.end;
+    match end {
+        RunEnd::Stopped(reason, line) => Verdict::Refused(reason, line),
+        RunEnd::Ended(progress) => progress.end(),
+    }
 }
 
 // The call of a build host: the refusal number, 0 after a yes; the six numbers in the buffer, or the buffer untouched where its

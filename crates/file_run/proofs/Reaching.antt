@@ -1,6 +1,5 @@
 -- The run over a file: its start, a bad line, a line refused, a line more, the end.
 use mathlib.Core.Path.{_≡_, refl, sym, _∙_, ap, subst}
-use mathlib.Core.Bool.{Bool, true, false}
 use mathlib.Core.List.{List, []}
 use Prim.Native.Nat.{ℕ, suc, _+_, _<_, _≤_}
 use native.Mathlib.Omega.{arith}
@@ -11,7 +10,7 @@ use Rattle.tableau.specs.declared.Reason.{Reason}
 use Rattle.tableau.specs.File.{maxBytes}
 use Rattle.tableau.specs.Tree as specification
 use Rattle.tableau.specs.Tree.{passed, root}
-use Rattle.tableau.specs.Reply.{start, refuse, atEnd}
+use Rattle.tableau.specs.Reply.{runLine, stopped}
 use Rattle.lines.specs.declared.LineFields.{LineFields}
 use Rattle.lines.specs.declared.LineRead.{LineRead}
 use Rattle.lines.specs.Lines.{lineAt}
@@ -27,11 +26,12 @@ use Rattle.tree.specs.Change.{extentOf, Fits, Stored}
 use Rattle.tree.proofs.Changes.{stored-tree, stored-within}
 use Rattle.growth.specs.declared.Progress.{Progress}
 use Rattle.growth.specs.declared.LineResult.{LineResult}
-use Rattle.growth.specs.Progress.{statusOf, stateAt, atStart, verdictIf, verdictAtEnd}
+use Rattle.growth.specs.Progress.{stateAt, atStart}
 use Rattle.line_checks.specs.Checks.{Ready, Done, HeldAfter, LineDone}
-use Rattle.running.specs.Running.{verdictFrom}
-use Rattle.running.proofs.Lines.{line-here, bad-line, refused-here, at-end}
-use Rattle.file_run.specs.Reached.{Reached, Stopped}
+use Rattle.running.specs.Running.{checkFrom}
+use Rattle.running.proofs.Lines.{check-fields, line-here, bad-line, refused-here, at-end}
+use Rattle.file_run.specs.declared.RunEnd.{RunEnd}
+use Rattle.file_run.specs.Reached.{Reached, Finished, RunsTo}
 
 -- what is appended behind a cut leaves what stands before it
 front-kept : {b more b′ : List ℕ} {cut n : ℕ} → Appended b cut more b′ n → cut ≤ length b → (m : ℕ) → m ≤ cut → take m b′ ≡ take m b
@@ -51,7 +51,7 @@ reached-start {file} H P w q s = record {
   lines = omega arith;
   inside = omega arith;
   short = s;
-  runs = ap (λ (τ : specification.Tree). verdictFrom file 0 0 (passed (stateAt [] τ atStart))) (sym q);
+  runs = ap (λ (τ : specification.Tree). checkFrom file 0 0 (passed (stateAt [] τ atStart))) (sym q);
 }
 
 module _ {file : List ℕ} {A : Arrays} {prefix : List ℕ} {t : Tree} {g : Progress} {at : ℕ} (R : Reached file A prefix t g at) where
@@ -63,18 +63,22 @@ module _ {file : List ℕ} {A : Arrays} {prefix : List ℕ} {t : Tree} {g : Prog
     noted = R .noted;
   }
 
-  pub stopped : {t′ : Tree} → t′ ≡ t → Stopped file t′
-  stopped e = subst (Stopped file) (sym e) (record { arrays = A; prefix = prefix; progress = g; at = at; reached = R })
+  -- the run as it is handed back
+  pub reached-bad : (t′ : Tree) {e : RunEnd} → e ≡ RunEnd.Stopped Reason.BadShape (g .lines + 1) → at < length file → lineAt file at ≡ LineRead.BadShape → RunsTo file A t′ e
+  reached-bad t′ q h e = subst (RunsTo file A t′) (sym q) (rw (add-one (g .lines)) (R .runs ∙ bad-line check-fields file at h e (g .lines) _))
 
-  pub reached-bad : at < length file → lineAt file at ≡ LineRead.BadShape → refuse Reason.BadShape (g .lines + 1) ≡ verdictFrom file 0 0 (passed start)
-  reached-bad h e = rw (add-one (g .lines)) (sym (R .runs ∙ bad-line file at h e (g .lines) _))
-
-  pub reached-end : length file ≤ at → verdictAtEnd g ≡ verdictFrom file 0 0 (passed start)
-  reached-end h = go (g .closed) refl ∙ sym (R .runs ∙ at-end file at h (g .lines) _)
-    where
-      go : (b : Bool) → g .closed ≡ b → verdictIf b g ≡ atEnd (stateAt (R .table) (treeOf unpackLiteral t) g) (statusOf b (treeOf unpackLiteral t)) (suc (g .lines))
-      go true e = refl
-      go false e = ap (refuse Reason.BranchOpen) (add-one (g .lines))
+  pub reached-end : {t′ : Tree} {e : RunEnd} → e ≡ RunEnd.Ended g → t′ ≡ t → length file ≤ at → RunsTo file A t′ e
+  reached-end {t′} q p h =
+      subst (RunsTo file A t′) (sym q)
+      (subst (λ (u : Tree). Finished file A u g) (sym p)
+      (record {
+        table = R .table;
+        held = R .held;
+        within = R .within;
+        counted = R .counted;
+        lines = omega (arith, R .lines, R .inside, R .short);
+        runs = R .runs ∙ at-end runLine file at h (g .lines) _;
+      }))
 
   -- a line with fields f, checked with the tree's extent: its result is y
   module _ (f : LineFields) (e : lineAt file at ≡ LineRead.Line f) {x : Extent} (q : extentOf t ≡ x) {A′ : Arrays} {prefix′ : List ℕ} {y : LineResult}
@@ -82,12 +86,13 @@ module _ {file : List ℕ} {A : Arrays} {prefix : List ℕ} {t : Tree} {g : Prog
     done : {r : LineResult} → y ≡ r → Done (R .table) (D .after) g x f t r
     done z = subst (Done (R .table) (D .after) g x f t) z (D .done t (R .within) q refl)
 
-    pub reached-refused : {r : Reason} {i : ℕ} → y ≡ LineResult.Refused r i → refuse r i ≡ verdictFrom file 0 0 (passed start)
-    reached-refused {r} z =
+    pub reached-refused : (t′ : Tree) {r : Reason} {i : ℕ} {end : RunEnd} → end ≡ RunEnd.Stopped r i → y ≡ LineResult.Refused r i → RunsTo file A′ t′ end
+    reached-refused t′ {r} p z =
         let d = done z in
-        ap (refuse r) (d .follows ∙ add-one (g .lines))
-        ∙ sym (R .runs ∙ line-here file at f e .runs (g .lines) _ ∙ ap (verdictFrom file (f .next .at) (suc (g .lines))) (d .runs)
-        ∙ refused-here file (f .next .at) (suc (g .lines)) r)
+        subst (RunsTo file A′ t′) (sym p)
+        (R .runs ∙ line-here check-fields file at f e .runs (g .lines) _ ∙ ap (checkFrom file (f .next .at) (suc (g .lines))) (d .runs)
+        ∙ refused-here runLine file (f .next .at) (suc (g .lines)) r
+        ∙ ap (stopped r) (sym (d .follows ∙ add-one (g .lines))))
 
     module _ {g′ : Progress} {c : Change} (z : y ≡ LineResult.Passed g′ c) where
       pub fits : Fits x c
@@ -112,7 +117,7 @@ module _ {file : List ℕ} {A : Arrays} {prefix : List ℕ} {t : Tree} {g : Prog
           let d = done z in
           let n = d .follows in
           let h = subst (HeldAfter (D .after) (t .branch) A′ prefix′) z (D .held) in
-          let l = line-here file at f e in
+          let l = line-here check-fields file at f e in
           let i : suc (g .lines) ≡ g′ .lines = omega (arith, n .lines) in
           record {
             table = D .after;
@@ -124,6 +129,6 @@ module _ {file : List ℕ} {A : Arrays} {prefix : List ℕ} {t : Tree} {g : Prog
             lines = omega (arith, n .lines, R .lines, l .longer);
             inside = l .inside;
             short = R .short;
-            runs = R .runs ∙ l .runs (g .lines) _ ∙ ap (verdictFrom file (f .next .at) (suc (g .lines))) (d .runs)
-                ∙ (λ j. verdictFrom file (f .next .at) (i j) (passed (stateAt (D .after) (sym (stored-tree S unpackLiteral) j) g′)));
+            runs = R .runs ∙ l .runs (g .lines) _ ∙ ap (checkFrom file (f .next .at) (suc (g .lines))) (d .runs)
+                ∙ (λ j. checkFrom file (f .next .at) (i j) (passed (stateAt (D .after) (sym (stored-tree S unpackLiteral) j) g′)));
           }

@@ -6,7 +6,6 @@ use lines::Cursor;
 use lines::LineRead;
 use lines::lines_end;
 use lines::read_line;
-use reply::Verdict;
 use tableau::Reason;
 use tree::Extent;
 use tree::Tree;
@@ -16,42 +15,45 @@ ghost use Prim.Native.Nat.{_+_, _<_, _≤_};
 ghost use lib.ListN.{length};
 ghost use Rattle.tableau.specs.declared.Reason.{Reason};
 ghost use Rattle.tableau.specs.File.{maxBytes};
-ghost use Rattle.tableau.specs.Tree.{passed, root};
-ghost use Rattle.tableau.specs.Reply.{start};
+ghost use Rattle.tableau.specs.Tree.{root};
 ghost use Rattle.packing.specs.Packing.{unpackLiteral};
 ghost use Rattle.terms.specs.Arrays.{arrays, Held};
 ghost use Rattle.freshness.specs.Prefixes.{PrefixRows};
 ghost use Rattle.tree.specs.State.{treeOf, Within};
-ghost use Rattle.reply.specs.declared.Verdict.{Verdict};
-ghost use Rattle.reply.specs.Verdict.{verdictOf};
-ghost use Rattle.running.specs.Running.{verdictFrom};
-ghost use Rattle.file_run.specs.Reached.{Stopped};
+ghost use Rattle.file_run.specs.declared.RunEnd.{RunEnd};
+ghost use Rattle.file_run.specs.Reached.{RunsTo};
 
 // A run over a file, with its tree.
 pub struct Run {
     pub tree: Tree,
 }
 
-// The tree where the run ended, and the verdict.
+// Where the lines lead: to the first that is refused, with its number, or past all of them.
+pub enum RunEnd {
+    Stopped(Reason, usize),
+    Ended(Progress),
+}
+
+// The tree where the run ended.
 pub struct Ran {
     pub tree: Tree,
-    pub verdict: Verdict,
+    pub end: RunEnd,
 }
 
 impl Run {
-    fn ends(self, verdict: Verdict) -> Ran
-        ensures { λ r. ⌜ (r .verdict ≡ verdict) × (r .tree ≡ self .tree) ⌝ }
+    fn ends(self, end: RunEnd) -> Ran
+        ensures { λ r. ⌜ (r .end ≡ end) × (r .tree ≡ self .tree) ⌝ }
     {
         let tree = self.tree;
-        Ran { tree, verdict }
+        Ran { tree, end }
     }
 
     // Check 2, of the line behind so many.
     fn ends_at_bad_shape(self, lines: usize) -> Ran
         requires { ⌜ lines < maxBytes ⌝ }
-        ensures { λ r. ⌜ (r .verdict ≡ Verdict.Refused Reason.BadShape (lines + 1)) × (r .tree ≡ self .tree) ⌝ }
+        ensures { λ r. ⌜ (r .end ≡ RunEnd.Stopped Reason.BadShape (lines + 1)) × (r .tree ≡ self .tree) ⌝ }
     {
-        self.ends(Verdict::Refused(Reason::BadShape, lines + 1))
+        self.ends(RunEnd::Stopped(Reason::BadShape, lines + 1))
     }
 
     // From an empty tree, with arrays that hold no term and no row. The loop stands inside the method: called for each step, it would
@@ -66,8 +68,7 @@ impl Run {
     ) -> Ran
         requires { ⌜ Held [] (arrays (now terms) (now chains) (now rows)) 0 × PrefixRows [] (self .tree .branch) (now prefix) 0 ⌝ }
         requires { ⌜ Within (self .tree) × (treeOf unpackLiteral (self .tree) ≡ root) × (length (now file) ≤ maxBytes) ⌝ }
-        ensures { λ r. ⌜ verdictOf (r .verdict) ≡ verdictFrom (now (file .entry)) 0 0 (passed start) ⌝ }
-        ensures { λ r. ⌜ Stopped (now (file .entry)) (r .tree) ⌝ }
+        ensures { λ r. ⌜ RunsTo (now (file .entry)) (arrays (now (terms .exit)) (now (chains .exit)) (now (rows .exit))) (r .tree) (r .end) ⌝ }
     {
         let mut progress = Progress::start();
         let end = lines_end(file);
@@ -91,7 +92,7 @@ impl Run {
                 prefix,
             ) {
                 LineResult::Refused(reason, line) => {
-                    return self.ends(Verdict::Refused(reason, line));
+                    return self.ends(RunEnd::Stopped(reason, line));
                 }
                 LineResult::Passed(next, change) => {
                     let adds = change.adds;
@@ -106,7 +107,6 @@ impl Run {
         if at < file.len() {
             return self.ends_at_bad_shape(progress.lines);
         }
-        let verdict = progress.end();
-        self.ends(verdict)
+        self.ends(RunEnd::Ended(progress))
     }
 }

@@ -1,12 +1,14 @@
--- A line of any letter, by check 3 and the lines of each letter.
+-- A line of any letter, by check 2 of the letter, check 3 and the lines of each letter.
 use mathlib.Core.Path.{_≡_, refl, sym, subst}
 use mathlib.Core.Bool.{true, false}
-use mathlib.Core.List.{List}
+use mathlib.Core.List.{List, [], _∷_}
+use mathlib.Core.Option.{none, some}
 use Prim.Native.Nat.{ℕ, _+_, _<_, _≤_}
 use borrow.Author.Tests.{le-leb, lt-leb}
 use Rattle.tableau.specs.declared.Letter.{Letter}
 use Rattle.tableau.specs.declared.Reason.{Reason}
-use Rattle.tableau.specs.File.{rank, inOrder}
+use Rattle.tableau.specs.Basics.{lookup}
+use Rattle.tableau.specs.File.{letters, rank, inOrder}
 use Rattle.tableau.specs.Terms.{Table}
 use Rattle.lines.specs.declared.LineFields.{LineFields}
 use Rattle.terms.specs.Arrays.{Arrays, Held}
@@ -15,7 +17,7 @@ use Rattle.freshness.proofs.PrefixLaws.{prefix-less, prefix-restart}
 use Rattle.tree.specs.declared.Extent.{Extent}
 use Rattle.growth.specs.declared.Progress.{Progress}
 use Rattle.growth.specs.declared.LineResult.{LineResult}
-use Rattle.running.proofs.Lines.{run-disordered}
+use Rattle.running.proofs.Lines.{run-unlettered, run-disordered}
 use Rattle.line_checks.specs.Checks.{TermDone, MadeAfter, AssumptionDone, KeptAfter, HeldAfter, LineDone}
 
 -- check 3 compares the places of the letters
@@ -26,8 +28,12 @@ pub disordered : (last k : Letter) {m n : ℕ} → m ≡ rank last → n ≡ ran
 disordered last k p q h = lt-leb (rank last) (rank k) (rw (sym p, sym q) h)
 
 module _ (table : Table) (g : Progress) (e : Extent) (f : LineFields) (codes prefix : List ℕ) where
-  pub out-of-order : (A : Arrays) → inOrder (g .letter) (f .letter) ≡ false → LineDone table codes g e f A prefix (LineResult.Refused Reason.LetterOrder (g .lines + 1))
-  out-of-order A h = record { after = table; held = tt; done = λ t w q b. record { follows = refl; runs = run-disordered _ f refl h } }
+  pub no-letter : (A : Arrays) → lookup letters (f .letter ∷ []) ≡ none → LineDone table codes g e f A prefix (LineResult.Refused Reason.BadShape (g .lines + 1))
+  no-letter A h = record { after = table; held = tt; done = λ t w q b. record { follows = refl; runs = run-unlettered _ f h } }
+
+  pub out-of-order : (A : Arrays) (k : Letter) → lookup letters (f .letter ∷ []) ≡ some k → inOrder (g .letter) k ≡ false
+      → LineDone table codes g e f A prefix (LineResult.Refused Reason.LetterOrder (g .lines + 1))
+  out-of-order A k l h = record { after = table; held = tt; done = λ t w q b. record { follows = refl; runs = run-disordered _ f l h } }
 
   -- a T line leaves no row of the table before
   made : (A : Arrays) (T : Table) → PrefixRows table codes prefix (g .noted) → (r : LineResult) → MadeAfter T A r → HeldAfter T codes A prefix r

@@ -12,8 +12,8 @@ use borrow.Author.Tests.{le-leb}
 use Rattle.tableau.specs.declared.Letter.{Letter}
 use Rattle.tableau.specs.declared.Reason.{Reason}
 use Rattle.tableau.specs.declared.Relation.{Relation}
-use Rattle.tableau.specs.Basics.{Four, every}
-use Rattle.tableau.specs.File.{rank, inOrder}
+use Rattle.tableau.specs.Basics.{Four, every, lookup}
+use Rattle.tableau.specs.File.{letters, rank, inOrder}
 use Rattle.tableau.specs.Words.{relations, assume, some-of}
 use Rattle.tableau.specs.Fields.{sides}
 use Rattle.tableau.specs.Terms.{Table, maxTerms}
@@ -76,7 +76,7 @@ module _ (τ : specification.Tree) (l : terms.Literal) (room : length (τ .waiti
   pub stays-open : passed isClosed ≡ grown τ ((l ∷ []) ∷ []) → ⊥
   stays-open e = not-closed (leb (suc (length (τ .branch))) maxPlaces) (sym (e ∙ one-more (leb (suc (length (τ .branch))) maxPlaces) refl .0))
 
-module _ (table : Table) (g : Progress) (e : Extent) (f : LineFields) (W : Ready g e) (k : f .letter ≡ Letter.A) (o : inOrder (g .letter) Letter.A ≡ true) where
+module _ (table : Table) (g : Progress) (e : Extent) (f : LineFields) (W : Ready g e) (k : lookup letters (f .letter ∷ []) ≡ some Letter.A) (o : inOrder (g .letter) Letter.A ≡ true) where
   opened : g .closed ≡ false
   unfolding rank
   opened = open-before (W .counted) Letter.A refl o

@@ -1,7 +1,7 @@
 -- S lines in the specification's run.
 use mathlib.Core.Path.{_≡_, refl, sym, _∙_, ap, ap₂, subst}
 use mathlib.Core.Bool.{Bool, true, false, cond}
-use mathlib.Core.List.{List}
+use mathlib.Core.List.{List, [], _∷_}
 use mathlib.Core.Option.{none, some}
 use Prim.Native.Nat.{ℕ, suc, _+_, _≤_}
 use native.Mathlib.Omega.{arith}
@@ -9,8 +9,8 @@ use native.Mathlib.Numerals.{add-one}
 use Rattle.tableau.specs.declared.Letter.{Letter}
 use Rattle.tableau.specs.declared.Reason.{Reason}
 use Rattle.tableau.specs.declared.Rule.{Rule}
-use Rattle.tableau.specs.Basics.{Four, every}
-use Rattle.tableau.specs.File.{rank, inOrder}
+use Rattle.tableau.specs.Basics.{Four, every, lookup}
+use Rattle.tableau.specs.File.{letters, rank, inOrder}
 use Rattle.tableau.specs.Words.{ruleNames, infer, some-of}
 use Rattle.tableau.specs.Fields.{ruleUses}
 use Rattle.tableau.specs.Rules.{rule}
@@ -116,7 +116,7 @@ module _ (table : Table) (g : Progress) (e : Extent) (W : Ready g e) where
           }
 
   -- AN S LINE
-  module _ (f : LineFields) (k : f .letter ≡ Letter.S) (codes : List ℕ) (A : Arrays) (prefix : List ℕ) where
+  module _ (f : LineFields) (k : lookup letters (f .letter ∷ []) ≡ some Letter.S) (codes : List ℕ) (A : Arrays) (prefix : List ℕ) where
     -- the line is refused
     refusal : (r : Reason) → ((τ : specification.Tree) → runFields (stateAt table τ g) f ≡ refused r)
         → LineDone table codes g e f A prefix (LineResult.Refused r (g .lines + 1))

@@ -9,8 +9,8 @@ use native.Mathlib.Numerals.{add-one}
 use Rattle.tableau.specs.declared.Letter.{Letter}
 use Rattle.tableau.specs.declared.Reason.{Reason}
 use Rattle.tableau.specs.declared.Word.{Word}
-use Rattle.tableau.specs.Basics.{Four, every}
-use Rattle.tableau.specs.File.{rank, inOrder}
+use Rattle.tableau.specs.Basics.{Four, every, lookup}
+use Rattle.tableau.specs.File.{letters, rank, inOrder}
 use Rattle.tableau.specs.Words.{words, make, some-of}
 use Rattle.tableau.specs.Fields.{wordFields}
 use Rattle.tableau.specs.Terms.{Table}
@@ -41,7 +41,7 @@ use Rattle.running.proofs.Lines.{run-unknown, run-known}
 use Rattle.line_checks.specs.Checks.{Ready, TermDone}
 use Rattle.line_checks.proofs.Results.{open-before, unchanged}
 
-module _ (table : Table) (g : Progress) (e : Extent) (f : LineFields) (W : Ready g e) (k : f .letter ≡ Letter.T) (o : inOrder (g .letter) Letter.T ≡ true) where
+module _ (table : Table) (g : Progress) (e : Extent) (f : LineFields) (W : Ready g e) (k : lookup letters (f .letter ∷ []) ≡ some Letter.T) (o : inOrder (g .letter) Letter.T ≡ true) where
   opened : g .closed ≡ false
   unfolding rank
   opened = open-before (W .counted) Letter.T refl o

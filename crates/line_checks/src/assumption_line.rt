@@ -11,9 +11,12 @@ use tree::Alternative;
 use tree::Extent;
 use words::RelationFound;
 ghost use mathlib.Core.Bool.{true};
+ghost use mathlib.Core.List.{[], _∷_};
+ghost use mathlib.Core.Option.{some};
 ghost use mathlib.Core.Path.{_≡_};
 ghost use lib.ListN.{length};
-ghost use Rattle.tableau.specs.File.{inOrder};
+ghost use Rattle.tableau.specs.Basics.{lookup};
+ghost use Rattle.tableau.specs.File.{letters, inOrder};
 ghost use Rattle.tableau.specs.Terms.{Table};
 ghost use Rattle.table.specs.Held.{Entries};
 ghost use Rattle.line_checks.specs.Checks.{Ready, AssumptionDone};
@@ -26,7 +29,7 @@ pub fn check(
     terms: &[u64; table::NUMBERS],
 ) -> LineResult
     requires { ⌜ ((table : Table) × Entries table (now terms) × (length table ≡ progress .counts .terms)) ⌝ }
-    requires { ⌜ Ready progress extent × (f .letter ≡ Letter.A) × (inOrder (progress .letter) Letter.A ≡ true) ⌝ }
+    requires { ⌜ Ready progress extent × (lookup letters (f .letter ∷ []) ≡ some Letter.A) × (inOrder (progress .letter) Letter.A ≡ true) ⌝ }
     ensures { λ r. ⌜ ((table : Table) → Entries table (now (terms .entry)) → length table ≡ progress .counts .terms
         → AssumptionDone table progress extent f r) ⌝ }
 {

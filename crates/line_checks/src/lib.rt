@@ -6,6 +6,7 @@ use tableau::Letter;
 use tableau::Reason;
 use tree::Extent;
 use tree::Tree;
+use words::LetterFound;
 ghost use mathlib.Core.Path.{_≡_};
 ghost use Prim.Native.Nat.{_<_};
 ghost use Rattle.tableau.specs.File.{rank as rankOf};
@@ -31,7 +32,7 @@ fn rank(letter: Letter) -> usize
     }
 }
 
-// Check 3, then those of the line's letter. The branch has extent.len literals.
+// Check 2 of the letter, check 3, then those of the line's letter. The branch has extent.len literals.
 pub fn check_line(
     progress: Progress,
     extent: Extent,
@@ -49,7 +50,10 @@ pub fn check_line(
         → LineDone table (now (branch .entry)) progress extent f (arrays (now (terms .exit)) (now (chains .exit)) (now (rows .exit)))
         (now (prefix .exit)) r) ⌝ }
 {
-    let letter = f.letter;
+    let byte = f.letter;
+    let LetterFound::Known(letter) = words::letter_of(byte) else {
+        return LineResult::Refused(Reason::BadShape, progress.lines + 1);
+    };
     let last = progress.letter;
     if rank(letter) < rank(last) {
         return LineResult::Refused(Reason::LetterOrder, progress.lines + 1);

@@ -12,7 +12,11 @@ use tableau::Reason;
 use tree::Extent;
 use tree::Tree;
 use words::RuleFound;
+ghost use mathlib.Core.List.{[], _∷_};
+ghost use mathlib.Core.Option.{some};
 ghost use mathlib.Core.Path.{_≡_};
+ghost use Rattle.tableau.specs.Basics.{lookup};
+ghost use Rattle.tableau.specs.File.{letters};
 ghost use Rattle.tableau.specs.Terms.{Table};
 ghost use Rattle.syntax.specs.Syntax.{WellTaken};
 ghost use Rattle.terms.specs.Arrays.{arrays, Held};
@@ -61,7 +65,7 @@ pub fn check(
     prefix: &mut [u64; freshness::PREFIX_WORDS],
 ) -> LineResult
     requires { ⌜ ((table : Table) × Held table (arrays (now terms) (now chains) (now rows)) (progress .counts .terms)) ⌝ }
-    requires { ⌜ Ready progress extent × IsBranch (now branch) (extent .len) × (f .letter ≡ Letter.S) ⌝ }
+    requires { ⌜ Ready progress extent × IsBranch (now branch) (extent .len) × (lookup letters (f .letter ∷ []) ≡ some Letter.S) ⌝ }
     ensures { λ r. ⌜ ((table : Table) → Held table (arrays (now (terms .entry)) (now (chains .entry)) (now (rows .entry))) (progress .counts .terms)
         → PrefixRows table (now (branch .entry)) (now (prefix .entry)) (progress .noted)
         → LineDone table (now (branch .entry)) progress extent f (arrays (now (terms .entry)) (now (chains .entry)) (now (rows .entry)))

@@ -10,9 +10,12 @@ use terms::make_term;
 use tree::Extent;
 use words::WordFound;
 ghost use mathlib.Core.Bool.{true};
+ghost use mathlib.Core.List.{[], _∷_};
+ghost use mathlib.Core.Option.{some};
 ghost use mathlib.Core.Path.{_≡_};
 ghost use Prim.Native.Nat.{_<_};
-ghost use Rattle.tableau.specs.File.{inOrder};
+ghost use Rattle.tableau.specs.Basics.{lookup};
+ghost use Rattle.tableau.specs.File.{letters, inOrder};
 ghost use Rattle.tableau.specs.Terms.{Table};
 ghost use Rattle.terms.specs.Arrays.{arrays, Held};
 ghost use Rattle.running.specs.Running.{numberLimit};
@@ -28,7 +31,7 @@ pub fn check(
     rows: &mut [u64; mentions::WORDS],
 ) -> LineResult
     requires { ⌜ ((table : Table) × Held table (arrays (now terms) (now chains) (now rows)) (progress .counts .terms)) ⌝ }
-    requires { ⌜ Ready progress extent × (f .letter ≡ Letter.T) × (inOrder (progress .letter) Letter.T ≡ true) × (f .a < numberLimit) ⌝ }
+    requires { ⌜ Ready progress extent × (lookup letters (f .letter ∷ []) ≡ some Letter.T) × (inOrder (progress .letter) Letter.T ≡ true) × (f .a < numberLimit) ⌝ }
     ensures { λ r. ⌜ ((table : Table) → Held table (arrays (now (terms .entry)) (now (chains .entry)) (now (rows .entry))) (progress .counts .terms)
         → TermDone table progress extent f (arrays (now (terms .exit)) (now (chains .exit)) (now (rows .exit))) r) ⌝ }
 {

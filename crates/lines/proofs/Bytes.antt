@@ -1,7 +1,7 @@
 -- The laws by which the reader's functions are proved: what a byte, and then a field, makes of the steps in a file.
-use mathlib.Core.Bool.{Bool, true, false, cond, _||_, true≢false}
-use mathlib.Core.List.{List, [], _∷_}
-use mathlib.Core.Option.{Option, none, some}
+use mathlib.Core.Bool.{Bool, true, false, cond, _||_, and-false, true≢false}
+use mathlib.Core.List.{List, []}
+use mathlib.Core.Option.{none}
 use mathlib.Core.Path.{_≡_, refl, sym, ap, subst, _∙_}
 use Prim.Native.Nat.{ℕ, suc, _+_, _*_, _-_, _^_, _≤_, _<_}
 use native.Mathlib.Nat.{lt-of-lt-of-le, mul-le-mul-left, pow-le-pow-right, pow-suc}
@@ -9,14 +9,11 @@ use native.Mathlib.Numerals.{add-one}
 use native.Mathlib.Omega.{arith}
 use lib.Dec.{eqb, leb, lit<}
 use lib.ListN.{drop, getD}
-use borrow.Author.Tests.{eq-eqb, ne-eqb, eqb-false, leb-true, leb-false}
-use Rattle.tableau.specs.declared.Letter.{Letter}
+use borrow.Author.Tests.{eq-eqb, ne-eqb, le-leb, lt-leb, eqb-false, leb-true, leb-false}
 use Rattle.tableau.specs.declared.Reason.{Reason}
-use Rattle.tableau.specs.Basics.{bytes, sameBytes, lookup}
-use Rattle.tableau.specs.File.{LF, comma, letters, isSmall, isDigit, maxDigits}
+use Rattle.tableau.specs.File.{LF, comma, isSmall, isDigit, maxDigits}
 use Rattle.tableau.specs.Tree.{refused, passed}
 use Rattle.tableau.proofs.Bools.{both-true}
-use Rattle.lines.specs.declared.LetterFound.{LetterFound}
 use Rattle.lines.specs.declared.LetterRead.{LetterRead}
 use Rattle.lines.specs.declared.ValueRead.{ValueRead}
 use Rattle.lines.specs.declared.ByteStep.{ByteStep}
@@ -24,17 +21,9 @@ use Rattle.lines.specs.declared.FirstDigit.{FirstDigit}
 use Rattle.lines.specs.declared.LineRead.{LineRead}
 use Rattle.lines.specs.ByteSteps.{FieldsRead, Reading, empty, afterLetter, inWord, beforeNumber, inNumber, whole, endOf, wordEnds, numberEnds}
 use Rattle.lines.specs.ByteSteps.{stepBy, nextLetter, firstDigit, nextDigit, LettersFit, DigitsFit, firstStep, byteStep, step, ends, lineEnd, stepsAt}
-use Rattle.lines.specs.ByteSteps.{letterFound, LetterSteps, ValueSteps, WordSteps, DigitsSteps, NumberSteps}
-use Rattle.lines.specs.Lines.{lineAt, LFAhead}
+use Rattle.lines.specs.ByteSteps.{LetterSteps, ValueSteps, WordSteps, DigitsSteps, NumberSteps}
+use Rattle.lines.specs.Lines.{isCapital, lineAt, LFAhead}
 use Rattle.lines.proofs.FileSteps.{steps-whole, line-steps, ahead-next, a-byte, no-line-at}
-
--- NO FIELD HAS AN LF IN IT: a step over one goes on with none.
-letter-no-LF : (x : ℕ) (r : LetterFound) (l : Letter) → r ≡ letterFound (lookup letters (x ∷ [])) → r ≡ LetterFound.Known l → x ≡ LF → ⊥
-unfolding lookup letters sameBytes bytes
-letter-no-LF x r l is known q =
-    let e : LetterFound.Known l ≡ LetterFound.Unknown = sym known ∙ is ∙ ap (λ (y : ℕ). letterFound (lookup letters (y ∷ []))) q in
-    let z : true ≡ false = cc in
-    true≢false z
 
 bad≢more : {v : ℕ} → ByteStep.More v ≡ ByteStep.Bad → ⊥
 bad≢more e = let z : true ≡ false = cc in true≢false z
@@ -46,31 +35,26 @@ end≢more : {v : ℕ} → ByteStep.More v ≡ ByteStep.End → ⊥
 end≢more e = let z : true ≡ false = cc in true≢false z
 
 -- THE LETTER, and the comma after it.
-module _ (file : List ℕ) (i : ℕ) (ahead : LFAhead file i) (r : LetterFound) (is : r ≡ letterFound (lookup letters (getD file i 0 ∷ []))) where
-  abbrev AfterFound : LetterFound → Type 0
-  AfterFound (LetterFound.Known l) = stepsAt empty file i ≡ stepsAt (afterLetter l) file (i + 1)
-  AfterFound LetterFound.Unknown = stepsAt empty file i ≡ LineRead.BadShape
+module _ (file : List ℕ) (i : ℕ) (ahead : LFAhead file i) where
+  no-capital : isCapital (getD file i 0) ≡ false → LetterSteps file i LetterRead.Bad
+  unfolding LetterSteps step
+  no-capital e = a-byte empty file i refl ahead ∙ rw e (no-line-at file (i + 1))
 
-  found : (s : LetterFound) → r ≡ s → AfterFound s
-  unfolding step
-  found s e = rw (sym e ∙ is) (which (lookup letters (getD file i 0 ∷ [])) refl)
-    where
-      which : (m : Option Letter) → lookup letters (getD file i 0 ∷ []) ≡ m → AfterFound (letterFound m)
-      which none q = a-byte empty file i refl ahead ∙ rw q (no-line-at file (i + 1))
-      which (some l) q = a-byte empty file i refl ahead ∙ rw q
+  pub below-capitals : getD file i 0 < 65 → LetterSteps file i LetterRead.Bad
+  below-capitals h = no-capital (rw (lt-leb 65 (getD file i 0) h))
 
-  pub letter-unknown : r ≡ LetterFound.Unknown → LetterSteps file i LetterRead.Bad
-  unfolding LetterSteps
-  letter-unknown = found LetterFound.Unknown
+  pub above-capitals : 90 < getD file i 0 → LetterSteps file i LetterRead.Bad
+  above-capitals h = no-capital (rw (lt-leb (getD file i 0) 90 h, and-false))
 
-  module _ (l : Letter) (known : r ≡ LetterFound.Known l) where
+  module _ (low : 65 ≤ getD file i 0) (high : getD file i 0 ≤ 90) where
     pub comma-ahead : LFAhead file (i + 1)
-    comma-ahead = ahead-next file i ahead (letter-no-LF (getD file i 0) r l is known)
+    comma-ahead = ahead-next file i ahead (λ q. omega (arith, q))
 
-    after : stepsAt empty file i ≡ stepsAt (step (afterLetter l) (getD file (i + 1) 0)) file (i + 1 + 1)
-    after = found (LetterFound.Known l) known ∙ a-byte (afterLetter l) file (i + 1) refl comma-ahead
+    after : stepsAt empty file i ≡ stepsAt (step (afterLetter (getD file i 0)) (getD file (i + 1) 0)) file (i + 1 + 1)
+    unfolding step
+    after = a-byte empty file i refl ahead ∙ rw (le-leb 65 (getD file i 0) low, le-leb (getD file i 0) 90 high) (a-byte (afterLetter (getD file i 0)) file (i + 1) refl comma-ahead)
 
-    pub comma-read : getD file (i + 1) 0 ≡ comma → LetterSteps file i (LetterRead.Read l (i + 1 + 1))
+    pub comma-read : getD file (i + 1) 0 ≡ comma → LetterSteps file i (LetterRead.Read (getD file i 0) (i + 1 + 1))
     unfolding LetterSteps step
     comma-read e = (after ∙ rw e, ahead-next file (i + 1) comma-ahead (λ q. omega (arith, e, q)))
 
@@ -78,7 +62,7 @@ module _ (file : List ℕ) (i : ℕ) (ahead : LFAhead file i) (r : LetterFound) 
     unfolding LetterSteps step
     comma-bad e = after ∙ rw (ne-eqb (getD file (i + 1) 0) comma e) (no-line-at file (i + 1 + 1))
 
-pub ruleset letter-read = (letter-unknown, comma-read, comma-bad)
+pub ruleset letter-read = (below-capitals, above-capitals, comma-read, comma-bad)
 
 -- A BYTE OF A WORD OR OF A NUMBER, where the steps so far come to w.
 abbrev AfterByte : LineRead → (ℕ → Reading) → Reading → List ℕ → ℕ → ByteStep → Type 0
@@ -127,7 +111,7 @@ letter-small value count unit x fits few e h =
 
 -- after count letters, which make value, the steps go on from i
 unfoldable pub WordSoFar : List ℕ → ℕ → ℕ → ℕ → ℕ → Type 0
-WordSoFar file at i value count = (l : Letter) → stepsAt (inWord l 0 0) file at ≡ stepsAt (inWord l value count) file i
+WordSoFar file at i value count = (l : ℕ) → stepsAt (inWord l 0 0) file at ≡ stepsAt (inWord l value count) file i
 
 pub word-starts : (file : List ℕ) (at : ℕ) → WordSoFar file at at 0 0
 unfolding WordSoFar
@@ -142,7 +126,7 @@ module _ (file : List ℕ) (at i value count : ℕ) (ahead : LFAhead file i) (r 
   word-ahead v e = ahead-next file i ahead (λ q. bad≢more (sym e ∙ word-LF value count (getD file i 0) r is q))
 
   module _ (so-far : WordSoFar file at i value count) where
-    word-turn : (s : ByteStep) → r ≡ s → (l : Letter) → AfterByte (stepsAt (inWord l 0 0) file at) (λ v. inWord l v (count + 1)) (wordEnds l value) file (i + 1) s
+    word-turn : (s : ByteStep) → r ≡ s → (l : ℕ) → AfterByte (stepsAt (inWord l 0 0) file at) (λ v. inWord l v (count + 1)) (wordEnds l value) file (i + 1) s
     unfolding WordSoFar step
     word-turn s e l = turned (stepsAt (inWord l 0 0) file at) (inWord l value count) _ _ file i refl ahead (so-far l) s (rw (sym is ∙ e))
 
@@ -291,7 +275,7 @@ unfolding stepsAt
 line-ends file i f y e = e ∙ sym (steps-whole f (drop i file) i)
 
 module _ (file : List ℕ) (at : ℕ) (r : LetterRead) (s : LetterSteps file at r) where
-  module _ (l : Letter) (i : ℕ) (e : r ≡ LetterRead.Read l i) where
+  module _ (l : ℕ) (i : ℕ) (e : r ≡ LetterRead.Read l i) where
     read : LetterSteps file at (LetterRead.Read l i)
     read = subst (LetterSteps file at) e s
 
@@ -317,13 +301,13 @@ module _ (q : Reading) (then′ : ℕ → Reading) (end : ℕ) (file : List ℕ)
 module _ (file : List ℕ) (at : ℕ) (r : ValueRead) (s : WordSteps file at r) where
   pub behind-word : (v i : ℕ) → r ≡ ValueRead.Read v i → LFAhead file i
   unfolding WordSteps
-  behind-word v i e = value-read (inWord Letter.T 0 0) (wordEnds Letter.T) comma file at r (s Letter.T) v i e .1 refl
+  behind-word v i e = value-read (inWord 0 0 0) (wordEnds 0) comma file at r (s 0) v i e .1 refl
 
-  pub word-then : (l : Letter) (v i : ℕ) (y : LineRead) → r ≡ ValueRead.Read v i → y ≡ stepsAt (wordEnds l v) file i → y ≡ stepsAt (inWord l 0 0) file at
+  pub word-then : (l : ℕ) (v i : ℕ) (y : LineRead) → r ≡ ValueRead.Read v i → y ≡ stepsAt (wordEnds l v) file i → y ≡ stepsAt (inWord l 0 0) file at
   unfolding WordSteps
   word-then l v i y e h = h ∙ sym (value-read (inWord l 0 0) (wordEnds l) comma file at r (s l) v i e .0)
 
-  pub word-else : (l : Letter) → r ≡ ValueRead.Bad → LineRead.BadShape ≡ stepsAt (inWord l 0 0) file at
+  pub word-else : (l : ℕ) → r ≡ ValueRead.Bad → LineRead.BadShape ≡ stepsAt (inWord l 0 0) file at
   unfolding WordSteps
   word-else l = value-else (inWord l 0 0) (wordEnds l) comma file at r (s l)
 
@@ -331,7 +315,7 @@ module _ (file : List ℕ) (at end : ℕ) (r : ValueRead) (s : NumberSteps end f
   pub behind-number : (v i : ℕ) → end ≡ comma → r ≡ ValueRead.Read v i → LFAhead file i
   unfolding NumberSteps
   behind-number v i c e =
-      let f : FieldsRead = record { letter = Letter.T; word = 0; numbers = [] } in
+      let f : FieldsRead = record { letter = 0; word = 0; numbers = [] } in
       value-read (beforeNumber 1 f) (numberEnds 1 f) end file at r (s 1 f (sym c)) v i e .1 c
 
   module _ (n : ℕ) (f : FieldsRead) (q : endOf n ≡ end) where

@@ -13,15 +13,15 @@ use lib.ListN.{length, drop, getD, length-drop}
 use lib.Seq.{drop-cons, getD-drop}
 use borrow.Author.Tests.{eqb-true, eqb-false}
 use Rattle.tableau.specs.declared.Reason.{Reason}
-use Rattle.tableau.specs.Basics.{then, bytes, sameBytes, lookup}
-use Rattle.tableau.specs.File.{LF, onFirst, split, letters, Line, shape}
+use Rattle.tableau.specs.Basics.{then}
+use Rattle.tableau.specs.File.{LF, onFirst, split, Line}
 use Rattle.tableau.specs.Tree.{Checked, refused, passed, requireSome}
 use Rattle.lines.specs.declared.LineRead.{LineRead}
-use Rattle.lines.specs.Lines.{lineRead, firstLine, lineAt, LFAhead, LinesEnd}
+use Rattle.lines.specs.Lines.{anyShape, lineRead, firstLine, lineAt, LFAhead, LinesEnd}
 use Rattle.lines.specs.ByteSteps.{nextLetter, firstDigit, nextDigit, FieldsRead, Reading, empty, afterLetter, inWord, beforeNumber, inNumber, whole, bad}
-use Rattle.lines.specs.ByteSteps.{withNumber, step, ends, fieldsOf, OnePass, lineEnd, goesOn, steps, stepsAt}
+use Rattle.lines.specs.ByteSteps.{withNumber, step, ends, fieldsOf, lineEnd, goesOn, steps, stepsAt}
 use Rattle.lines.proofs.Pieces.{pieces, uncut}
-use Rattle.lines.proofs.OnePass.{unended, one-pass}
+use Rattle.lines.proofs.OnePass.{unended, any-pass}
 
 -- A line that is whole or bad stays so.
 steps-bad : (l : List ℕ) (at : ℕ) → steps bad l at ≡ LineRead.BadShape
@@ -44,7 +44,7 @@ steps-on r x l at e = cut (ends r) e
 
 -- THE LINE. After LF it is whole or bad.
 after-LF : (r : Reading) (l : List ℕ) (at : ℕ) → steps (step r LF) l at ≡ lineEnd at (ends (step r LF))
-unfolding step lookup letters sameBytes bytes nextLetter firstDigit nextDigit
+unfolding step nextLetter firstDigit nextDigit
 after-LF empty l at = steps-bad l at
 after-LF (afterLetter k) l at = steps-bad l at
 after-LF (inWord k value count) l at = steps-bad l at
@@ -75,24 +75,24 @@ first-line r (x ∷ l) at e = steps-on r x l at e ∙ (let k = pieces LF l in wh
 
 -- The steps from a position on come to the shape of the line that begins there.
 pub line-steps : (file : List ℕ) (at : ℕ) → stepsAt empty file at ≡ lineAt file at
-unfolding stepsAt lineAt OnePass
+unfolding stepsAt lineAt
 line-steps file at = first-line empty (drop at file) at refl ∙ same (split LF (drop at file))
   where
-    shaped : (n : ℕ) (m : Option Line) → lineEnd n (requireSome (then m λ k. some (fieldsOf k)) Reason.BadShape) ≡ lineRead n m
+    shaped : (n : ℕ) (m : Option (Line ℕ)) → lineEnd n (requireSome (then m λ k. some (fieldsOf k)) Reason.BadShape) ≡ lineRead n m
     shaped n none = refl
     shaped n (some k) = refl
 
     same : (ls : List (List ℕ)) → firstLine (λ n p. lineEnd n (ends (foldl step empty (p ++ (LF ∷ []))))) at ls
-        ≡ firstLine (λ n l. lineRead n (shape l)) at ls
+        ≡ firstLine (λ n l. lineRead n (anyShape l)) at ls
     same [] = refl
     same (l ∷ []) = refl
-    same (l ∷ m ∷ ls) = ap (lineEnd (at + length l + 1)) (one-pass l) ∙ shaped (at + length l + 1) (shape l)
+    same (l ∷ m ∷ ls) = ap (lineEnd (at + length l + 1)) (any-pass l) ∙ shaped (at + length l + 1) (anyShape l)
 
 -- Bytes without LF are no line.
 pub no-line-behind : (file : List ℕ) (end at : ℕ) → LinesEnd file end → end ≤ at → lineAt file at ≡ LineRead.BadShape
 unfolding lineAt
 no-line-behind file end at E h =
-    ap (firstLine (λ n l. lineRead n (shape l)) at)
+    ap (firstLine (λ n l. lineRead n (anyShape l)) at)
     (uncut LF (drop at file)
     (λ i k q. E .last (at + i) (omega arith) (omega (arith, length-drop at file)) (sym (getD-drop at file i 0) ∙ q)))
 

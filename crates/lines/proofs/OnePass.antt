@@ -10,20 +10,19 @@ use native.Mathlib.Omega.{arith}
 use lib.Dec.{eqb, leb, leb·suc-suc, leb·suc-zero, eqb·suc-zero}
 use lib.ListN.{length}
 use borrow.Author.Tests.{ne-eqb, le-leb, eqb-true, eqb-false, leb-true}
-use Rattle.tableau.specs.declared.Letter.{Letter}
 use Rattle.tableau.specs.declared.Reason.{Reason}
-use Rattle.tableau.specs.Basics.{then, guard, bytes, sameBytes, Named, lookup}
-use Rattle.tableau.specs.File.{LF, comma, split, letters, isSmall, allSmall, isWord, isDigit, maxDigits, digits, number, Line, sixFields}
+use Rattle.tableau.specs.Basics.{then, guard}
+use Rattle.tableau.specs.File.{LF, comma, split, isSmall, allSmall, isWord, isDigit, maxDigits, digits, number, Line, sixFields}
 use Rattle.tableau.specs.Tree.{refused, requireSome}
 use Rattle.lines.specs.declared.ByteStep.{ByteStep}
 use Rattle.lines.specs.declared.FirstDigit.{FirstDigit}
-use Rattle.lines.specs.Lines.{packWord}
+use Rattle.lines.specs.Lines.{packWord, capitalOf, capital, anyShape}
 use Rattle.lines.specs.ByteSteps.{FieldsRead, Reading, empty, afterLetter, inWord, beforeNumber, inNumber, whole, bad, endOf, withNumber, wordEnds, numberEnds}
-use Rattle.lines.specs.ByteSteps.{stepBy, nextLetter, firstDigit, nextDigit, letterStep, firstStep, byteStep, step, ends, fieldsOf, OnePass, NoLine}
+use Rattle.lines.specs.ByteSteps.{stepBy, nextLetter, firstDigit, nextDigit, letterStep, firstStep, byteStep, step, ends, fieldsOf, NoLine}
 use Rattle.lines.proofs.Pieces.{split-same, split-other, pieces}
 
 -- A step over a byte of a word or of a number.
-abbrev wordStep : Letter → ℕ → ℕ → ByteStep → Reading
+abbrev wordStep : ℕ → ℕ → ℕ → ByteStep → Reading
 wordStep l value count s = byteStep (λ v. inWord l v (count + 1)) (wordEnds l value) s
 
 abbrev numberStep : ℕ → FieldsRead → ℕ → ℕ → ByteStep → Reading
@@ -33,37 +32,6 @@ numberStep n f value left s = byteStep (λ v. inNumber n f v (left - 1)) (number
 no-value : {A : Type 0} (b : Bool) → guard {A = A} b none ≡ none
 no-value true = refl
 no-value false = refl
-
--- A table of words, by its first entry.
-lookup-other : {A : Type 0} (n : Named A) (ns : List (Named A)) (w : List ℕ) → sameBytes (bytes (n .text)) w ≡ false → lookup (n ∷ ns) w ≡ lookup ns w
-unfolding lookup
-lookup-other n ns w e = pick (sameBytes (bytes (n .text)) w) e
-  where
-    pick : (b : Bool) → b ≡ false → elim b [ true ↦ some (n .is) | false ↦ lookup ns w ] ≡ lookup ns w
-    pick b e = rw e
-
-lookup-none : {A : Type 0} (w : List ℕ) → lookup {A = A} [] w ≡ none
-unfolding lookup
-lookup-none w = refl
-
-pub no-letter : (x : ℕ) → (x ≡ 84 → ⊥) → (x ≡ 65 → ⊥) → (x ≡ 83 → ⊥) → lookup letters (x ∷ []) ≡ none
-unfolding letters sameBytes bytes
-no-letter x t a s =
-    lookup-other _ _ (x ∷ []) (rw (ne-eqb 84 x (λ e. t (sym e))))
-    ∙ lookup-other _ _ (x ∷ []) (rw (ne-eqb 65 x (λ e. a (sym e))))
-    ∙ lookup-other _ _ (x ∷ []) (rw (ne-eqb 83 x (λ e. s (sym e))))
-    ∙ lookup-none (x ∷ [])
-
--- the texts of the letters have one byte
-letter-alone : (x : ℕ) (p : List ℕ) → lookup letters (x ∷ p) ≡ guard (eqb (length p) 0) (lookup letters (x ∷ []))
-unfolding letters sameBytes bytes
-letter-alone x [] = refl
-letter-alone x (b ∷ bs) =
-    rw (eqb·suc-zero (length bs))
-    (lookup-other _ _ (x ∷ b ∷ bs) (and-false (eqb 84 x))
-    ∙ lookup-other _ _ (x ∷ b ∷ bs) (and-false (eqb 65 x))
-    ∙ lookup-other _ _ (x ∷ b ∷ bs) (and-false (eqb 83 x))
-    ∙ lookup-none (x ∷ b ∷ bs))
 
 -- a word by its bytes after count letters that make value
 abbrev two-or-three : ℕ → Bool
@@ -158,11 +126,11 @@ abbrev numbersLeft : ℕ → FieldsRead → (List ℕ → Option ℕ) → List (
 numbersLeft zero f g ps = lastField g (λ v. whole (withNumber f v)) ps
 numbersLeft (suc n) f g ps = field g (λ v. numbersLeft n (withNumber f v) number) ps
 
-abbrev wordLeft : Letter → ℕ → ℕ → List (List ℕ) → Reading
+abbrev wordLeft : ℕ → ℕ → ℕ → List (List ℕ) → Reading
 wordLeft l value count ps = field (wordFrom value count) (λ w. numbersLeft 3 (record { letter = l; word = w; numbers = [] }) number) ps
 
 abbrev remaining : Reading → List (List ℕ) → Reading
-remaining empty ps = field (lookup letters) (λ l. wordLeft l 0 0) ps
+remaining empty ps = field capital (λ l. wordLeft l 0 0) ps
 remaining (afterLetter l) ps = field (λ p. guard (eqb (length p) 0) (some l)) (λ l. wordLeft l 0 0) ps
 remaining (inWord l value count) ps = wordLeft l value count ps
 remaining (beforeNumber n f) ps = numbersLeft n f number ps
@@ -192,7 +160,7 @@ same-number (suc n) f g g′ p p′ ps e = rw e
 
 -- THE LAST BYTE, LF.
 at-LF : (r : Reading) → step r LF ≡ remaining r ([] ∷ [])
-unfolding step lookup letters sameBytes bytes nextLetter firstDigit nextDigit number
+unfolding step capital nextLetter firstDigit nextDigit number
 at-LF empty = refl
 at-LF (afterLetter l) = refl
 at-LF (inWord l value count) = sym (nowhere (wordFrom value count []))
@@ -205,7 +173,7 @@ at-LF bad = refl
 
 -- A COMMA.
 at-comma : (r : Reading) (p : List ℕ) (ps : List (List ℕ)) → remaining (step r comma) (p ∷ ps) ≡ remaining r ([] ∷ p ∷ ps)
-unfolding step lookup letters sameBytes bytes nextLetter firstDigit nextDigit number
+unfolding step capital nextLetter firstDigit nextDigit number
 at-comma empty p ps = refl
 at-comma (afterLetter l) p ps = refl
 at-comma (inWord l value count) p ps = rw (word-ends value count) (which (two-or-three count))
@@ -223,11 +191,11 @@ at-comma bad p ps = refl
 
 -- ANY OTHER BYTE.
 at-other : (r : Reading) (x : ℕ) → eqb x comma ≡ false → (p : List ℕ) (ps : List (List ℕ)) → remaining (step r x) (p ∷ ps) ≡ remaining r ((x ∷ p) ∷ ps)
-unfolding step nextLetter firstDigit nextDigit
-at-other empty x h p ps = rw (letter-alone x p) (which (lookup letters (x ∷ [])))
+unfolding step capital nextLetter firstDigit nextDigit
+at-other empty x h p ps = which (capitalOf x)
   where
-    which : (m : Option Letter) → remaining (letterStep m) (p ∷ ps) ≡ orBad (guard (eqb (length p) 0) m) (λ l. wordLeft l 0 0 ps)
-    which none = rw (no-value {A = Letter} (eqb (length p) 0))
+    which : (m : Option ℕ) → remaining (letterStep m) (p ∷ ps) ≡ orBad (guard (eqb (length p) 0) m) (λ l. wordLeft l 0 0 ps)
+    which none = rw (no-value {A = ℕ} (eqb (length p) 0))
     which (some l) = refl
 at-other (afterLetter l) x h p ps = rw (h, eqb·suc-zero (length p))
 at-other (inWord l value count) x h p ps = which (isSmall x) (leb 3 count) refl refl
@@ -272,15 +240,15 @@ all-steps r [] = at-LF r
 all-steps r (x ∷ l) = all-steps (step r x) l ∙ one-step r x l
 
 -- THE WHOLE LINE, its shape field by field.
-abbrev lineOf : Option Line → Reading
+abbrev lineOf : Option (Line ℕ) → Reading
 lineOf none = bad
 lineOf (some k) = whole (fieldsOf k)
 
-of-then : {A : Type 0} (m : Option A) (k : A → Option Line) → lineOf (then m k) ≡ orBad m (λ x. lineOf (k x))
+of-then : {A : Type 0} (m : Option A) (k : A → Option (Line ℕ)) → lineOf (then m k) ≡ orBad m (λ x. lineOf (k x))
 of-then none k = refl
 of-then (some x) k = refl
 
-of-guard : (b : Bool) (m : Option Line) → lineOf (guard b m) ≡ cond b (lineOf m) bad
+of-guard : (b : Bool) (m : Option (Line ℕ)) → lineOf (guard b m) ≡ cond b (lineOf m) bad
 of-guard true m = refl
 of-guard false m = refl
 
@@ -292,7 +260,7 @@ word-whole : (w : List ℕ) → wordFrom 0 0 w ≡ guard (isWord w) (some (packW
 unfolding wordFrom
 word-whole w = let e₁ : 0 + length w ≡ length w = omega arith in let e₂ : 0 + 256 ^ 0 * packWord w ≡ packWord w = omega arith in rw (e₁, e₂)
 
-shape-left : (ps : List (List ℕ)) → remaining empty ps ≡ lineOf (sixFields ps)
+shape-left : (ps : List (List ℕ)) → remaining empty ps ≡ lineOf (sixFields capital ps)
 unfolding sixFields
 shape-left [] = refl
 shape-left (k ∷ []) = simp nowhere
@@ -303,14 +271,13 @@ shape-left (k ∷ w ∷ a ∷ b ∷ c ∷ []) = simp nowhere
 shape-left (k ∷ w ∷ a ∷ b ∷ c ∷ d ∷ []) = simp (word-whole, of-then, of-guard, bad-guard)
 shape-left (k ∷ w ∷ a ∷ b ∷ c ∷ d ∷ e ∷ ps) = simp nowhere
 
-line-read : (l : List ℕ) → foldl step empty (l ++ (LF ∷ [])) ≡ lineOf (sixFields (split comma l))
+line-read : (l : List ℕ) → foldl step empty (l ++ (LF ∷ [])) ≡ lineOf (anyShape l)
 line-read l = all-steps empty l ∙ shape-left (split comma l)
 
-pub one-pass : OnePass
-unfolding OnePass
-one-pass l = ap ends (line-read l) ∙ which (sixFields (split comma l))
+pub any-pass : (l : List ℕ) → ends (foldl step empty (l ++ (LF ∷ []))) ≡ requireSome (then (anyShape l) λ k. some (fieldsOf k)) Reason.BadShape
+any-pass l = ap ends (line-read l) ∙ which (anyShape l)
   where
-    which : (m : Option Line) → ends (lineOf m) ≡ requireSome (then m λ k. some (fieldsOf k)) Reason.BadShape
+    which : (m : Option (Line ℕ)) → ends (lineOf m) ≡ requireSome (then m λ k. some (fieldsOf k)) Reason.BadShape
     which none = refl
     which (some k) = refl
 
@@ -323,9 +290,9 @@ open-byte more done ByteStep.Bad h e = refl
 
 pub unended : (r : Reading) (x : ℕ) → (x ≡ LF → ⊥) → ends (step r x) ≡ refused Reason.BadShape
 unfolding step nextDigit
-unended empty x h = which (lookup letters (x ∷ []))
+unended empty x h = which (capitalOf x)
   where
-    which : (m : Option Letter) → ends (letterStep m) ≡ refused Reason.BadShape
+    which : (m : Option ℕ) → ends (letterStep m) ≡ refused Reason.BadShape
     which none = refl
     which (some l) = refl
 unended (afterLetter l) x h = which (eqb x comma)

@@ -12,7 +12,7 @@ use Rattle.tableau.specs.File.{allSmall, isWord}
 use Rattle.tableau.proofs.Bools.{both-true}
 use Rattle.tableau.proofs.Checks.{same-bytes}
 use Rattle.lines.specs.Lines.{packWord}
-use Rattle.lines.specs.ByteSteps.{FieldsRead, FieldsInjective}
+use Rattle.lines.specs.ByteSteps.{FieldsOf, FieldsInjective}
 
 -- a small letter is no 0, and fits a byte
 letter-range : (b : ℕ) (bs : List ℕ) → allSmall (b ∷ bs) ≡ true → (0 < b) × (b < 256) × (allSmall bs ≡ true)
@@ -53,11 +53,11 @@ same-word v w h g e =
 
 pub fields-injective : FieldsInjective
 unfolding FieldsInjective
-fields-injective k n h g e =
-    let letters-same : k .letter ≡ n .letter = ap (λ (f : FieldsRead). f .letter) e in
-    let words-same = same-word (k .word) (n .word) h g (ap (λ (f : FieldsRead). f .word) e) in
+fields-injective L k n h g e =
+    let letters-same : k .letter ≡ n .letter = ap (λ (f : FieldsOf L). f .letter) e in
+    let words-same = same-word (k .word) (n .word) h g (ap (λ (f : FieldsOf L). f .word) e) in
     let numbers-same : (k .fields .a ∷ k .fields .b ∷ k .fields .c ∷ k .fields .d ∷ []) ≡ (n .fields .a ∷ n .fields .b ∷ n .fields .c ∷ n .fields .d ∷ []) =
-    ap (λ (f : FieldsRead). f .numbers) e in
+    ap (λ (f : FieldsOf L). f .numbers) e in
     let a-same : k .fields .a ≡ n .fields .a = cc in
     let b-same : k .fields .b ≡ n .fields .b = cc in
     let c-same : k .fields .c ≡ n .fields .c = cc in

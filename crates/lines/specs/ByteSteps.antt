@@ -1,23 +1,21 @@
 -- A line read in one pass: what a step makes of one byte and the fields read so far, and what the steps over a line come to.
-use mathlib.Core.Bool.{Bool, true, false, cond, _||_}
+use mathlib.Core.Bool.{Bool, true, false, cond, _&&_, _||_}
 use mathlib.Core.List.{List, [], _∷_, _++_, foldl, List·Mem}
 use mathlib.Core.Option.{Option, none, some}
 use mathlib.Core.Path.{_≡_}
 use Prim.Native.Nat.{ℕ, zero, suc, _+_, _*_, _-_, _^_, _<_, _≤_}
 use lib.Dec.{eqb, leb}
 use lib.ListN.{drop, getD}
-use Rattle.tableau.specs.declared.Letter.{Letter}
 use Rattle.tableau.specs.declared.Reason.{Reason}
-use Rattle.tableau.specs.Basics.{then, lookup}
-use Rattle.tableau.specs.File.{LF, comma, letters, isSmall, isWord, isDigit, maxDigits, Line, shape}
-use Rattle.tableau.specs.Tree.{Checked, refused, passed, requireSome}
-use Rattle.lines.specs.declared.LetterFound.{LetterFound}
+use Rattle.tableau.specs.Basics.{then, isSome, bytes, Named, lookup}
+use Rattle.tableau.specs.File.{LF, comma, isSmall, isWord, isDigit, maxDigits, Line, shape}
+use Rattle.tableau.specs.Tree.{Checked, refused, passed, _>>=_, requireSome}
 use Rattle.lines.specs.declared.LetterRead.{LetterRead}
 use Rattle.lines.specs.declared.ValueRead.{ValueRead}
 use Rattle.lines.specs.declared.LineRead.{LineRead}
 use Rattle.lines.specs.declared.ByteStep.{ByteStep}
 use Rattle.lines.specs.declared.FirstDigit.{FirstDigit}
-use Rattle.lines.specs.Lines.{packWord, LFAhead}
+use Rattle.lines.specs.Lines.{packWord, capital, capitalOf, LFAhead}
 
 -- ONE BYTE OF A FIELD. A byte of the field's own goes on with the new value, unless the field is full; the byte that ends it does so if the field is whole.
 abbrev pub stepBy : Bool → Bool → Bool → Bool → ℕ → ByteStep
@@ -44,20 +42,23 @@ pub record DigitsFit (value left : ℕ) : Type 0 where
   pub few : left < maxDigits
   pub small : value < 10 ^ (maxDigits - left)
 
--- ONE BYTE OF A LINE. The fields that are read to their end, the word packed in one number.
-pub record FieldsRead : Type 0 where
-  pub letter : Letter
+-- ONE BYTE OF A LINE. The fields that are read to their end, the word packed in one number; the letter is of a kind L, its byte as long as the line is read.
+pub record FieldsOf (L : Type 0) : Type 0 where
+  pub letter : L
   pub word : ℕ
   pub numbers : List ℕ
+
+abbrev pub FieldsRead : Type 0
+FieldsRead = FieldsOf ℕ
 
 -- What is read of a line: fields that have ended, and what there is of the one that has not.
 pub data Reading : Type 0 where
   -- nothing
   empty : Reading
   -- the letter
-  afterLetter : Letter → Reading
+  afterLetter : ℕ → Reading
   -- the letter with its comma, and the word's value and count of letters so far
-  inWord : Letter → ℕ → ℕ → Reading
+  inWord : ℕ → ℕ → ℕ → Reading
   -- a number is next, and so many follow it
   beforeNumber : ℕ → FieldsRead → Reading
   -- the same, and the number's value so far and how many digits may follow
@@ -72,7 +73,7 @@ abbrev pub endOf : ℕ → ℕ
 endOf zero = LF
 endOf (suc n) = comma
 
-abbrev pub wordEnds : Letter → ℕ → Reading
+abbrev pub wordEnds : ℕ → ℕ → Reading
 wordEnds l word = beforeNumber 3 (record { letter = l; word = word; numbers = [] })
 
 abbrev pub withNumber : FieldsRead → ℕ → FieldsRead
@@ -82,7 +83,7 @@ abbrev pub numberEnds : ℕ → FieldsRead → ℕ → Reading
 numberEnds zero f value = whole (withNumber f value)
 numberEnds (suc n) f value = beforeNumber n (withNumber f value)
 
-abbrev pub letterStep : Option Letter → Reading
+abbrev pub letterStep : Option ℕ → Reading
 letterStep none = bad
 letterStep (some l) = afterLetter l
 
@@ -97,7 +98,7 @@ byteStep more done ByteStep.Bad = bad
 
 -- "a step gets one byte and the fields read so far, never the line"
 unfoldable pub step : Reading → ℕ → Reading
-step empty x = letterStep (lookup letters (x ∷ []))
+step empty x = letterStep (capitalOf x)
 step (afterLetter l) x = cond (eqb x comma) (inWord l 0 0) bad
 step (inWord l value count) x = byteStep (λ v. inWord l v (count + 1)) (wordEnds l value) (nextLetter value count x)
 step (beforeNumber n f) x = firstStep n f (firstDigit x)
@@ -116,16 +117,33 @@ ends (whole f) = passed f
 ends bad = refused Reason.BadShape
 
 -- the specification's fields of a line
-abbrev pub fieldsOf : Line → FieldsRead
+abbrev pub fieldsOf : {L : Type 0} → Line L → FieldsOf L
 fieldsOf l = record { letter = l .letter; word = packWord (l .word); numbers = l .fields .a ∷ l .fields .b ∷ l .fields .c ∷ l .fields .d ∷ [] }
 
--- "Show that the steps over a line's bytes, in order and each once, end with exactly its fields, or with number 2 where it isn't shaped as document 01 says."
-unfoldable pub OnePass : Type 0
-OnePass = (l : List ℕ) → ends (foldl step empty (l ++ (LF ∷ []))) ≡ requireSome (then (shape l) λ k. some (fieldsOf k)) Reason.BadShape
+-- the letters of a file: each is one capital
+abbrev pub isCapitalText : List ℕ → Bool
+isCapitalText w = isSome (capital w)
+
+unfoldable pub allCapitals : {L : Type 0} → List (Named L) → Bool
+allCapitals [] = true
+allCapitals (n ∷ ns) = isCapitalText (bytes (n .text)) && allCapitals ns
+
+-- the letter that a byte stands for in a file, number 2 where it is none of its letters
+abbrev pub withLetter : {L : Type 0} → FieldsRead → L → FieldsOf L
+withLetter f l = record { letter = l; word = f .word; numbers = f .numbers }
+
+abbrev pub lettered : {L : Type 0} → List (Named L) → FieldsRead → Checked (FieldsOf L)
+lettered known f = requireSome (then (lookup known (f .letter ∷ [])) λ l. some (withLetter f l)) Reason.BadShape
+
+-- "Show that the steps over a line's bytes, in order and each once, end with exactly its fields, or with number 2 where it isn't shaped as document 01 says.", in a file
+-- with any letters
+unfoldable pub OnePass : Type 1
+OnePass = (L : Type 0) (known : List (Named L)) → allCapitals known ≡ true → (l : List ℕ)
+    → (ends (foldl step empty (l ++ (LF ∷ []))) >>= lettered known) ≡ requireSome (then (shape known l) λ k. some (fieldsOf k)) Reason.BadShape
 
 -- and from these fields the line's own can be told, though the word is packed
-unfoldable pub FieldsInjective : Type 0
-FieldsInjective = (k n : Line) → isWord (k .word) ≡ true → isWord (n .word) ≡ true → fieldsOf k ≡ fieldsOf n → k ≡ n
+unfoldable pub FieldsInjective : Type 1
+FieldsInjective = (L : Type 0) (k n : Line L) → isWord (k .word) ≡ true → isWord (n .word) ≡ true → fieldsOf k ≡ fieldsOf n → k ≡ n
 
 -- bytes with no LF among them end with number 2
 unfoldable pub NoLine : Type 0
@@ -157,10 +175,6 @@ steps r (x ∷ l) at = elim (goesOn (ends r)) [ true ↦ steps (step r x) l (at 
 unfoldable pub stepsAt : Reading → List ℕ → ℕ → LineRead
 stepsAt r file at = steps r (drop at file) at
 
-abbrev pub letterFound : Option Letter → LetterFound
-letterFound none = LetterFound.Unknown
-letterFound (some l) = LetterFound.Known l
-
 -- A FIELD IS READ: behind it the steps go on with the reading that has it, towards the LF that is ahead; or there is no line. Whatever stands before the field.
 unfoldable pub LetterSteps : List ℕ → ℕ → LetterRead → Type 0
 LetterSteps file at (LetterRead.Read l i) = (stepsAt empty file at ≡ stepsAt (inWord l 0 0) file i) × LFAhead file i
@@ -171,7 +185,7 @@ ValueSteps r then′ end file at (ValueRead.Read value i) = (stepsAt r file at �
 ValueSteps r then′ end file at ValueRead.Bad = stepsAt r file at ≡ LineRead.BadShape
 
 unfoldable pub WordSteps : List ℕ → ℕ → ValueRead → Type 0
-WordSteps file at r = (l : Letter) → ValueSteps (inWord l 0 0) (wordEnds l) comma file at r
+WordSteps file at r = (l : ℕ) → ValueSteps (inWord l 0 0) (wordEnds l) comma file at r
 
 unfoldable pub NumberSteps : ℕ → List ℕ → ℕ → ValueRead → Type 0
 NumberSteps end file at r = (n : ℕ) (f : FieldsRead) → endOf n ≡ end → ValueSteps (beforeNumber n f) (numberEnds n f) end file at r

@@ -1,11 +1,13 @@
--- What reading a line of a file gives: the specification's own cut at LF and its own shape of a line, with the word packed in one number.
+-- What reading a line of a file gives: the specification's own cut at LF and its own six fields of a line, with the word packed in one number.
+use mathlib.Core.Bool.{Bool, _&&_}
 use mathlib.Core.List.{List, [], _∷_}
 use mathlib.Core.Option.{Option, none, some}
 use mathlib.Core.Path.{_≡_}
 use Prim.Native.Nat.{ℕ, _+_, _*_, _<_, _≤_}
+use lib.Dec.{eqb, leb}
 use lib.ListN.{length, drop, getD}
-use Rattle.tableau.specs.Basics.{Four, four}
-use Rattle.tableau.specs.File.{LF, split, Line, shape}
+use Rattle.tableau.specs.Basics.{guard, Four, four}
+use Rattle.tableau.specs.File.{LF, comma, split, Line, sixFields}
 use Rattle.lines.specs.declared.LineFields.{LineFields}
 use Rattle.lines.specs.declared.LineRead.{LineRead}
 
@@ -14,8 +16,22 @@ abbrev pub packWord : List ℕ → ℕ
 packWord [] = 0
 packWord (b ∷ bs) = b + 256 * packWord bs
 
+-- FIELD 1 of any kind of file: one capital letter, by its byte. Which letters a file knows is its own.
+abbrev pub isCapital : ℕ → Bool
+isCapital b = leb 65 b && leb b 90
+
+abbrev pub capitalOf : ℕ → Option ℕ
+capitalOf b = guard (isCapital b) (some b)
+
+unfoldable pub capital : List ℕ → Option ℕ
+capital [] = none
+capital (b ∷ bs) = guard (eqb (length bs) 0) (capitalOf b)
+
+abbrev pub anyShape : List ℕ → Option (Line ℕ)
+anyShape l = sixFields capital (split comma l)
+
 -- a line's six fields, and the position after its LF
-abbrev pub lineRead : ℕ → Option Line → LineRead
+abbrev pub lineRead : ℕ → Option (Line ℕ) → LineRead
 lineRead next′ none = LineRead.BadShape
 lineRead next′ (some l) =
     LineRead.Line
@@ -37,7 +53,7 @@ firstLine read at (l ∷ m ∷ ls) = read (at + length l + 1) l
 
 -- the line that begins at a position of the file
 unfoldable pub lineAt : List ℕ → ℕ → LineRead
-lineAt file at = firstLine (λ next′ l. lineRead next′ (shape l)) at (split LF (drop at file))
+lineAt file at = firstLine (λ next′ l. lineRead next′ (anyShape l)) at (split LF (drop at file))
 
 -- An LF stands at the position or behind it: the line that begins there has an end.
 pub record LFAhead (file : List ℕ) (at : ℕ) : Type 0 where

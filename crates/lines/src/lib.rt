@@ -1,22 +1,18 @@
 // A line of the file, from its bytes to its six fields, in one pass: a step gets one byte and the field read so far.
 ghost use mathlib.Core.Path.{_≡_};
-ghost use mathlib.Core.List.{[], _∷_};
 ghost use Prim.Native.Nat.{_<_, _^_};
-ghost use Rattle.tableau.specs.Basics.{lookup};
-ghost use Rattle.tableau.specs.File.{letters};
 ghost use Rattle.lines.specs.Lines.{lineAt, LFAhead, LinesEnd};
-ghost use Rattle.lines.specs.ByteSteps.{letterFound, nextLetter, firstDigit, nextDigit, LettersFit, DigitsFit};
+ghost use Rattle.lines.specs.ByteSteps.{nextLetter, firstDigit, nextDigit, LettersFit, DigitsFit};
 ghost use Rattle.lines.specs.ByteSteps.{LetterSteps, WordSteps, DigitsSteps, NumberSteps};
-use tableau::Letter;
 
 // A position in the file.
 pub struct Cursor {
     pub at: usize,
 }
 
-// The six fields of a line, its word packed in one number, and the position after its LF.
+// The six fields of a line, its word packed in one number, and the position after its LF. The letter is any capital: each kind of file says which it knows.
 pub struct LineFields {
-    pub letter: Letter,
+    pub letter: u8,
     pub word: usize,
     pub a: usize,
     pub b: usize,
@@ -35,14 +31,9 @@ const LF: u8 = 10;
 // "numbers of one to four digits"
 const MAX_DIGITS: usize = 4;
 
-enum LetterFound {
-    Known(Letter),
-    Unknown,
-}
-
 // The letter, and the position after its comma.
 enum LetterRead {
-    Read(Letter, usize),
+    Read(u8, usize),
     Bad,
 }
 
@@ -72,28 +63,17 @@ pub fn wide(x: u8) -> usize
     x as usize
 }
 
-fn letter_of(x: u8) -> LetterFound
-    ensures { λ r. ⌜ r ≡ letterFound (lookup letters (x ∷ [])) ⌝ }
-{
-    if x == b'T' {
-        return LetterFound::Known(Letter::T);
-    }
-    if x == b'A' {
-        return LetterFound::Known(Letter::A);
-    }
-    if x == b'S' {
-        return LetterFound::Known(Letter::S);
-    }
-    LetterFound::Unknown
-}
-
 fn read_letter(file: &[u8], at: usize) -> LetterRead
     requires { ⌜ LFAhead (now file) at ⌝ }
     ensures { λ r. ⌜ LetterSteps (now (file .entry)) at r ⌝ }
 {
-    let LetterFound::Known(letter) = letter_of(file[at]) else {
+    let letter = file[at];
+    if letter < b'A' {
         return LetterRead::Bad;
-    };
+    }
+    if b'Z' < letter {
+        return LetterRead::Bad;
+    }
     let i = at + 1;
     if file[i] == b',' {
         return LetterRead::Read(letter, i + 1);

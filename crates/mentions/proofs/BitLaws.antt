@@ -19,20 +19,24 @@ same-test a b c d f g = elim (dec (eqb a b)) [
   | inr p ↦ p ∙ sym (ne-eqb c d (λ e. eqb-false a b p (g e)))
 ]
 
-or-digit : (m n : ℕ) → m < 2 → n < 2 → eqb (bitOr m n) 1 ≡ (eqb m 1 || eqb n 1)
-or-digit zero zero l k = refl
-or-digit zero (suc zero) l k = refl
-or-digit (suc zero) zero l k = refl
-or-digit (suc zero) (suc zero) l k = refl
-or-digit zero (suc (suc n)) l k = absurd (omega arith)
-or-digit (suc zero) (suc (suc n)) l k = absurd (omega arith)
-or-digit (suc (suc m)) n l k = absurd (omega arith)
+-- what holds of 0 and 1 holds of the lowest digits of two numbers
+pub digits : (P : ℕ → ℕ → Type 0) → P 0 0 → P 0 1 → P 1 0 → P 1 1 → (m n : ℕ) → P (m % 2) (n % 2)
+digits P a b c d m n = go (m % 2) (n % 2) (mod-lt m (zero-lt-suc 1)) (mod-lt n (zero-lt-suc 1))
+  where
+    go : (m n : ℕ) → m < 2 → n < 2 → P m n
+    go zero zero l k = a
+    go zero (suc zero) l k = b
+    go (suc zero) zero l k = c
+    go (suc zero) (suc zero) l k = d
+    go zero (suc (suc n)) l k = absurd (omega arith)
+    go (suc zero) (suc (suc n)) l k = absurd (omega arith)
+    go (suc (suc m)) n l k = absurd (omega arith)
 
 pub bit-or : (x y q : ℕ) → bitAt (bitOr x y) q ≡ (bitAt x q || bitAt y q)
 bit-or x y q =
     ap (λ (z : ℕ). eqb (z % 2) 1) (or-shr x y q)
     ∙ ap (λ (z : ℕ). eqb z 1) (or-mod (x / 2 ^ q) (y / 2 ^ q) 1)
-    ∙ or-digit (x / 2 ^ q % 2) (y / 2 ^ q % 2) (mod-lt (x / 2 ^ q) (zero-lt-suc 1)) (mod-lt (y / 2 ^ q) (zero-lt-suc 1))
+    ∙ digits (λ m n. eqb (bitOr m n) 1 ≡ (eqb m 1 || eqb n 1)) refl refl refl refl (x / 2 ^ q) (y / 2 ^ q)
 
 pub bit-zero : (q : ℕ) → bitAt 0 q ≡ false
 bit-zero q = ap (λ (z : ℕ). eqb (z % 2) 1) (zero-div (2 ^ q))

@@ -15,7 +15,7 @@ use Rattle.tableau.specs.Steps.{isRfv}
 pub use Rattle.tableau.proofs.Places.{absent, not-among}
 use Rattle.tableau.proofs.Sort as sort-type
 use Rattle.packing.specs.declared.TermView.{TermView}
-use Rattle.packing.specs.Packing.{viewOf, viewApply}
+use Rattle.packing.specs.Packing.{nameOf, viewOf, viewApply}
 use Rattle.packing.proofs.TermView as term-view
 
 -- the key of an operator's view
@@ -52,7 +52,13 @@ not-reference Sort.Field h = refl
 not-reference Sort.Class h = refl
 
 -- the term of a view that is a variable
-pub view-variable : (e : Term) (s : Sort) (n : Name) → TermView.Variable s n ≡ viewOf e → isRfv e ≡ sameSort Sort.Reference s
-view-variable (variable s′ n′) s n q = let z : s ≡ s′ = cc in ap (sameSort Sort.Reference) (sym z)
-view-variable (apply o k) s n q =
+pub variable-of : (e : Term) (s : Sort) (n : Name) → TermView.Variable s n ≡ viewOf e → e ≡ variable s (n .0)
+variable-of (variable s′ n′) s n q =
+    let z : s′ ≡ s = cc in
+    let w : nameOf n′ ≡ n = cc in
+    λ i. variable (z i) (w i .0)
+variable-of (apply o k) s n q =
     let z : 0 ≡ suc (operatorIndex o) = ap (Declared.tagOf term-view.the-type) q ∙ operator-tag o k in absurd (omega arith)
+
+pub view-variable : (e : Term) (s : Sort) (n : Name) → TermView.Variable s n ≡ viewOf e → isRfv e ≡ sameSort Sort.Reference s
+view-variable e s n q = ap isRfv (variable-of e s n q)

@@ -4,7 +4,7 @@ use mathlib.Core.List.{List, _∷_}
 use mathlib.Core.Option.{Option, none, some}
 use Prim.Native.Nat.{ℕ, _<_, _≤_}
 use lib.ListN.{length, drop, drop-of-length-le}
-use Rattle.tableau.specs.File.{LF, split, Line}
+use Rattle.tableau.specs.File.{LF, split}
 use Rattle.lines.specs.declared.LineFields.{LineFields}
 use Rattle.lines.specs.declared.LineRead.{LineRead}
 use Rattle.lines.specs.Lines.{lineAt, numbersOf}

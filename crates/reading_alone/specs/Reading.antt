@@ -1,12 +1,12 @@
--- What reading all lines of a file gives: the specification's own cut at LF and its own shape of a line, and every word and number that is
+-- What reading all lines of a file gives: the specification's own cut at LF and its own six fields of a line, and every word and number that is
 -- read, mixed into one.
 use mathlib.Core.List.{List, [], _∷_}
 use mathlib.Core.Option.{Option, none, some}
 use Prim.Native.Nat.{ℕ, _-_, _^_}
 use lib.Bits.{bitXor}
 use Rattle.tableau.specs.Basics.{then, Four}
-use Rattle.tableau.specs.File.{LF, split, shape}
-use Rattle.lines.specs.Lines.{packWord}
+use Rattle.tableau.specs.File.{LF, split}
+use Rattle.lines.specs.Lines.{packWord, anyShape}
 
 -- a line's packed word and its numbers, mixed into a value
 unfoldable pub mixed : ℕ → ℕ → Four ℕ → ℕ
@@ -21,7 +21,7 @@ atEnd (b ∷ l) value = none
 unfoldable pub mixedLines : List (List ℕ) → ℕ → Option ℕ
 mixedLines [] value = none
 mixedLines (l ∷ []) value = atEnd l value
-mixedLines (l ∷ m ∷ ls) value = then (shape l) λ L. mixedLines (m ∷ ls) (mixed value (packWord (L .word)) (L .fields))
+mixedLines (l ∷ m ∷ ls) value = then (anyShape l) λ L. mixedLines (m ∷ ls) (mixed value (packWord (L .word)) (L .fields))
 
 -- all bits set where a line has not its shape
 abbrev pub orAllBits : Option ℕ → ℕ

@@ -12,6 +12,10 @@ lineBytes = 136
 abbrev pub numberDigits : ℕ
 numberDigits = 20
 
+-- a comma and a number
+abbrev pub fieldBytes : ℕ
+fieldBytes = 21
+
 -- what a function that writes a text behind the first len bytes ensures of the first next
 pub record Put (line : List ℕ) (len : ℕ) (text line′ : List ℕ) (next : ℕ) : Type 0 where
   pub size : length line′ ≡ lineBytes

@@ -1,10 +1,11 @@
-// The reply as a build host reads it: six numbers of four bytes, low byte first.
+// Numbers as a build host reads them: four bytes each, low byte first.
 use crate::Reply;
+use crate::six_numbers;
 ghost use mathlib.Core.Path.{_≡_};
 ghost use mathlib.Core.List.{_++_};
-ghost use Prim.Native.Nat.{_+_, _≤_};
+ghost use Prim.Native.Nat.{_+_, _*_, _≤_};
 ghost use lib.ListN.{length, take};
-ghost use Rattle.tableau.specs.Reply.{fourBytes, replyBytes, bufferLength};
+ghost use Rattle.tableau.specs.Reply.{fourBytes, numberBytes, replyBytes, bufferLength};
 ghost use Rattle.reply.specs.Verdict.{replyRecord};
 
 fn put_number(buffer: &mut [u8], at: usize, value: usize)
@@ -17,20 +18,21 @@ fn put_number(buffer: &mut [u8], at: usize, value: usize)
     buffer[at + 3] = (value / 16777216 % 256) as u8;
 }
 
+// Every number, one behind the other, in a buffer that they fill.
+pub fn put_numbers(buffer: &mut [u8], numbers: &[usize])
+    requires { ⌜ length (now buffer) ≡ 4 * length (now numbers) ⌝ }
+    ensures { λ _. ⌜ now (buffer .exit) ≡ numberBytes (now (numbers .entry)) ⌝ }
+{
+    let mut i = 0;
+    while i < numbers.len() {
+        put_number(buffer, 4 * i, numbers[i]);
+        i += 1;
+    }
+}
+
 pub fn write_numbers(reply: Reply, buffer: &mut [u8])
     requires { ⌜ length (now buffer) ≡ bufferLength ⌝ }
     ensures { λ _. ⌜ now (buffer .exit) ≡ replyBytes (replyRecord reply) ⌝ }
 {
-    let number = reply.number;
-    let line = reply.line;
-    let terms = reply.terms;
-    let assumptions = reply.assumptions;
-    let steps = reply.steps;
-    let closings = reply.closings;
-    put_number(buffer, 0, number);
-    put_number(buffer, 4, line);
-    put_number(buffer, 8, terms);
-    put_number(buffer, 12, assumptions);
-    put_number(buffer, 16, steps);
-    put_number(buffer, 20, closings);
+    put_numbers(buffer, &six_numbers(reply));
 }

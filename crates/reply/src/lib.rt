@@ -1,12 +1,15 @@
-// The reply: six numbers in the build host's buffer, or one line of text.
+// The reply: six numbers in the build host's buffer, or one line of text. Both forms are made of parts for any numbers.
 mod buffer;
-mod text;
+mod line;
 
+pub use buffer::put_numbers;
 pub use buffer::write_numbers;
+pub use line::put_decimal;
+pub use line::put_fields;
+pub use line::write_line;
 use tableau::Reason;
-pub use text::write_line;
 ghost use mathlib.Core.Path.{_≡_};
-ghost use Rattle.tableau.specs.Reply.{reasonNumber, replyOf};
+ghost use Rattle.tableau.specs.Reply.{reasonNumber, sixNumbers, replyOf};
 ghost use Rattle.reply.specs.Verdict.{verdictOf, replyRecord};
 
 // The counts after a yes.
@@ -42,7 +45,13 @@ impl Reply {
     pub const LINE_BYTES: usize = 136;
 }
 
-// The refusal number of document 01.
+// A line of text: the first `len` of its bytes.
+pub struct Text {
+    pub bytes: [u8; Reply::LINE_BYTES],
+    pub len: usize,
+}
+
+// The refusal number of documents 01 and 02.
 pub fn reason_number(reason: Reason) -> usize
     ensures { λ r. ⌜ r ≡ reasonNumber reason ⌝ }
 {
@@ -65,6 +74,8 @@ pub fn reason_number(reason: Reason) -> usize
         Reason::WaitingFull => 16,
         Reason::BranchOpen => 17,
         Reason::BufferLength => 18,
+        Reason::BadFact => 19,
+        Reason::NotAnOrder => 20,
     }
 }
 
@@ -98,4 +109,17 @@ pub fn reply_of(verdict: Verdict) -> Reply
             closings: 0,
         },
     }
+}
+
+// The numbers in the order in which both forms give them.
+fn six_numbers(reply: Reply) -> [usize; 6]
+    ensures { λ r. ⌜ r ≡ sixNumbers (replyRecord reply) ⌝ }
+{
+    let number = reply.number;
+    let line = reply.line;
+    let terms = reply.terms;
+    let assumptions = reply.assumptions;
+    let steps = reply.steps;
+    let closings = reply.closings;
+    [number, line, terms, assumptions, steps, closings]
 }

@@ -1,6 +1,6 @@
 -- A line that was read, a badly shaped one and the end of the file, in the specification's run.
 use mathlib.Core.Path.{_≡_, refl, sym, _∙_, ap, subst}
-use mathlib.Core.Bool.{Bool, true, false, true≢false}
+use mathlib.Core.Bool.{Bool, true, false, _||_, true≢false}
 use mathlib.Core.List.{List, [], _∷_}
 use mathlib.Core.Option.{Option, none, some}
 use Prim.Native.Nat.{ℕ, suc, _+_, _*_, _-_, _^_, _<_, _≤_}
@@ -9,22 +9,24 @@ use native.Mathlib.Nat.{lt-of-lt-of-le, mul-le-mul-left, mul-assoc, pow-suc, pow
 use lib.Dec.{eqb, leb}
 use lib.ListN.{length, drop, length-drop, drop-of-length-le}
 use lib.Seq.{drop-drop}
-use borrow.Author.Tests.{leb-true}
+use borrow.Author.Tests.{eqb-true, leb-true}
 use Rattle.tableau.specs.declared.Letter.{Letter}
 use Rattle.tableau.specs.declared.Reason.{Reason}
-use Rattle.tableau.specs.Basics.{lookup}
-use Rattle.tableau.specs.File.{LF, comma, inOrder, split, onFirst, Line, shape, sixFields, letters, isWord, isDigit, digits, number, maxDigits}
-use Rattle.tableau.specs.Tree.{refused, passed, _>>=_, _>>_}
+use Rattle.tableau.specs.Basics.{then, bytes, lookup}
+use Rattle.tableau.specs.File.{LF, comma, inOrder, split, onFirst, Line, sixFields, letters, allSmall, isWord, isDigit, digits, number, maxDigits}
+use Rattle.tableau.specs.Tree.{Checked, refused, passed, _>>=_, requireSome}
 use Rattle.tableau.specs.Words.{Command, some-of, make, assume, infer, commandOf}
-use Rattle.tableau.specs.Reply.{State, requireOpen, runOpen, runRead, runLine, refuse, atEnd, runLines}
-use Rattle.tableau.proofs.Bools.{both-true, then-inv, guard-inv, none≢some}
+use Rattle.tableau.specs.Reply.{State, requireOpen, runOpen, runCommand, runRead, runLine, stopped, ended, runLines}
+use Rattle.tableau.proofs.SixFields.{six-fields}
+use Rattle.tableau.proofs.Bools.{both-true, guard-inv, none≢some}
 use Rattle.lines.specs.declared.LineFields.{LineFields}
 use Rattle.lines.specs.declared.LineRead.{LineRead}
-use Rattle.lines.specs.Lines.{packWord, lineRead, firstLine, lineAt}
-use Rattle.lines.specs.Lines.{numbersOf}
+use Rattle.lines.specs.Lines.{capital, anyShape, packWord, lineRead, firstLine, lineAt, numbersOf}
+use Rattle.lines.specs.ByteSteps.{allCapitals}
 use Rattle.words.proofs.PackedWords.{words-packed, relations-packed, rules-packed}
 use Rattle.lines.proofs.Pieces.{pieces}
-use Rattle.running.specs.Running.{verdictFrom, packedCommand, runFields, LineHere}
+use Rattle.lines.proofs.Letters.{relettered, letteredLine, shape-lettered}
+use Rattle.running.specs.Running.{runFrom, packedCommand, runFields, SmallNumbers, lineFields, leastLine, ByFields, LineHere}
 
 -- THE CUT AT LF: behind the first piece and its LF stand the others.
 pub behind : (c : ℕ) (text l m : List ℕ) (ls : List (List ℕ)) → split c text ≡ l ∷ m ∷ ls
@@ -88,27 +90,61 @@ number-small (b ∷ bs) n e =
     let k : 10 ^ length (b ∷ bs) ≤ 10 ^ 4 = pow-le-pow-right (omega arith) l in
     omega (arith, h, k)
 
-some-at : {A : Type 0} (P : A → Type 0) (x y : A) → some x ≡ some y → P x → P y
-some-at P x y e p = let q : x ≡ y = cc in subst P q p
+-- THE LENGTH of pieces and of the bytes that part them
+abbrev bytesOf : List (List ℕ) → ℕ
+bytesOf [] = 0
+bytesOf (p ∷ ps) = suc (length p) + bytesOf ps
 
--- A LINE of six fields: its word is a word, its first number is small
-pub shaped : (ps : List (List ℕ)) (L : Line) → sixFields ps ≡ some L → (isWord (L .word) ≡ true) × (L .fields .a < 10000)
-unfolding sixFields
-shaped [] L e = none≢some e
-shaped (k ∷ []) L e = none≢some e
-shaped (k ∷ w ∷ []) L e = none≢some e
-shaped (k ∷ w ∷ a ∷ []) L e = none≢some e
-shaped (k ∷ w ∷ a ∷ b ∷ []) L e = none≢some e
-shaped (k ∷ w ∷ a ∷ b ∷ c ∷ []) L e = none≢some e
-shaped (k ∷ w ∷ a ∷ b ∷ c ∷ d ∷ []) L e =
-    let h₁ = then-inv (lookup letters k) _ e in
-    let h₂ = guard-inv (isWord w) _ (h₁ .2) in
-    let h₃ = then-inv (number a) _ (h₂ .1) in
-    let h₄ = then-inv (number b) _ (h₃ .2) in
-    let h₅ = then-inv (number c) _ (h₄ .2) in
-    let h₆ = then-inv (number d) _ (h₅ .2) in
-    some-at (λ L. (isWord (L .word) ≡ true) × (L .fields .a < 10000)) _ L (h₆ .2) (h₂ .0, number-small a (h₃ .0) (h₃ .1))
-shaped (k ∷ w ∷ a ∷ b ∷ c ∷ d ∷ x ∷ ps) L e = none≢some e
+split-bytes : (c : ℕ) (l : List ℕ) → bytesOf (split c l) ≡ suc (length l)
+unfolding split
+split-bytes c [] = refl
+split-bytes c (b ∷ l) = let k = pieces c l in cut (eqb b c) (k .0) (k .1) (k .2) (split-bytes c l)
+  where
+    cut : (t : Bool) (p : List ℕ) (ps : List (List ℕ)) → split c l ≡ p ∷ ps → bytesOf (split c l) ≡ suc (length l)
+        → bytesOf (elim t [ true ↦ [] ∷ split c l | false ↦ onFirst b (split c l) ]) ≡ suc (suc (length l))
+    cut true p ps k e = omega (arith, e)
+    cut false p ps k e = rw k (let h : bytesOf (p ∷ ps) ≡ suc (length l) = rw k at e in omega (arith, h))
+
+some-letter : (p : List ℕ) {b : ℕ} → capital p ≡ some b → 1 ≤ length p
+unfolding capital
+some-letter [] e = none≢some e
+some-letter (b ∷ p) e = omega arith
+
+some-digit : (p : List ℕ) {n : ℕ} → number p ≡ some n → 1 ≤ length p
+unfolding number
+some-digit [] e = none≢some e
+some-digit (b ∷ p) e = omega arith
+
+word-long : (w : List ℕ) → isWord w ≡ true → 2 ≤ length w
+word-long w h = which (eqb (length w) 2) refl (both-true (eqb (length w) 2 || eqb (length w) 3) (allSmall w) h .0)
+  where
+    which : (b : Bool) → eqb (length w) 2 ≡ b → (b || eqb (length w) 3) ≡ true → 2 ≤ length w
+    which true e h = omega (arith, eqb-true (length w) 2 e)
+    which false e h = omega (arith, eqb-true (length w) 3 h)
+
+-- A LINE of six fields: its word is a word, its numbers are small, and it is so long at least
+pub record Shaped (ps : List (List ℕ)) (k : Line ℕ) : Type 0 where
+  pub word : isWord (k .word) ≡ true
+  pub small : SmallNumbers (k .fields)
+  pub long : leastLine ≤ bytesOf ps
+
+pub shaped : (ps : List (List ℕ)) (k : Line ℕ) → sixFields capital ps ≡ some k → Shaped ps k
+shaped ps k e =
+    let f = six-fields capital ps e in
+    record {
+      word = f .word;
+      small = record { a = number-small _ _ (f .a); b = number-small _ _ (f .b); c = number-small _ _ (f .c); d = number-small _ _ (f .d) };
+      long = rw (f .pieces)
+          (omega (
+            arith,
+            some-letter (f .letterText) (f .letter),
+            word-long (k .word) (f .word),
+            some-digit (f .texts .a) (f .a),
+            some-digit (f .texts .b) (f .b),
+            some-digit (f .texts .c) (f .c),
+            some-digit (f .texts .d) (f .d),
+          ));
+    }
 
 -- the command of a packed word is that of the word
 pub command-packed : (l : Letter) (w : List ℕ) → isWord w ≡ true → packedCommand l (packWord w) ≡ commandOf l w
@@ -117,25 +153,33 @@ command-packed Letter.T w h = ap (some-of make) (words-packed w h)
 command-packed Letter.A w h = ap (some-of assume) (relations-packed w h)
 command-packed Letter.S w h = ap (some-of infer) (rules-packed w h)
 
--- a line that has its shape runs as its fields do
-abbrev line-fields : ℕ → Line → LineFields
-line-fields n L = record { letter = L .letter; word = packWord (L .word); a = L .fields .a; b = L .fields .b; c = L .fields .c; d = L .fields .d; next = record { at = n } }
-
-run-shaped : (σ : State) (l : List ℕ) (L : Line) (n : ℕ) → shape l ≡ some L → runLine σ l ≡ runFields σ (line-fields n L)
-unfolding runRead runFields
-run-shaped σ l L n e = ap (runRead σ) e ∙ rw (command-packed (L .letter) (L .word) (shaped (split comma l) L e .0))
+-- THE CHECKER FILE: its run of a line by the line's fields
+pub check-fields : ByFields runLine runFields
+unfolding runRead runFields letters allCapitals bytes capital
+check-fields = record {
+  shaped = λ σ l k n e. ap (runRead σ) (shape-lettered letters refl l ∙ ap (λ m. then m (letteredLine letters)) e)
+      ∙ known σ k n (lookup letters (k .letter ∷ [])) (shaped (split comma l) k e .word);
+  unshaped = λ σ l e. ap (runRead σ) (shape-lettered letters refl l ∙ ap (λ m. then m (letteredLine letters)) e);
+}
+  where
+    known : (σ : State) (k : Line ℕ) (n : ℕ) (m : Option Letter) → isWord (k .word) ≡ true
+        → runRead σ (then m λ l. some (relettered k l))
+        ≡ (requireSome m Reason.BadShape >>= λ l. runCommand σ l (packedCommand l (packWord (k .word))) (k .fields))
+    known σ k n none h = refl
+    known σ k n (some l) h = rw (command-packed l (k .word) h)
 
 -- what follows the first piece, in the run
-run-piece : (σ : State) (i : ℕ) (l m : List ℕ) (ls : List (List ℕ)) → runLines (l ∷ m ∷ ls) i (passed σ) ≡ runLines (m ∷ ls) (suc i) (runLine σ l)
+run-piece : {S : Type 0} (run : S → List ℕ → Checked S) (σ : S) (i : ℕ) (l m : List ℕ) (ls : List (List ℕ))
+    → runLines run (l ∷ m ∷ ls) i (passed σ) ≡ runLines run (m ∷ ls) (suc i) (run σ l)
 unfolding runLines
-run-piece σ i [] m ls = refl
-run-piece σ i (b ∷ l) m ls = refl
+run-piece run σ i [] m ls = refl
+run-piece run σ i (b ∷ l) m ls = refl
 
-pub refused-here : (file : List ℕ) (at i : ℕ) (r : Reason) → verdictFrom file at i (refused r) ≡ refuse r i
+pub refused-here : {S : Type 0} (run : S → List ℕ → Checked S) (file : List ℕ) (at i : ℕ) (r : Reason) → runFrom run file at i (refused r) ≡ stopped r i
 unfolding runLines
-refused-here file at i r = go (split LF (drop at file))
+refused-here run file at i r = go (split LF (drop at file))
   where
-    go : (ls : List (List ℕ)) → runLines ls i (refused r) ≡ refuse r i
+    go : (ls : List (List ℕ)) → runLines run ls i (refused r) ≡ stopped r i
     go [] = refl
     go (l ∷ ls) = refl
 
@@ -150,19 +194,19 @@ pub record LinePieces (file : List ℕ) (at : ℕ) (f : LineFields) : Type 0 whe
   pub piece : List ℕ
   pub follower : List ℕ
   pub others : List (List ℕ)
-  pub line : Line
+  pub line : Line ℕ
   pub cut : split LF (drop at file) ≡ piece ∷ follower ∷ others
   pub rest : split LF (drop (f .next .at) file) ≡ follower ∷ others
-  pub shaped : shape piece ≡ some line
-  pub fields : f ≡ line-fields (at + length piece + 1) line
+  pub shaped : anyShape piece ≡ some line
+  pub fields : f ≡ lineFields (at + length piece + 1) line
   pub inside : at + length piece + 1 ≤ length file
 
 pub line-pieces : (file : List ℕ) (at : ℕ) (f : LineFields) → lineAt file at ≡ LineRead.Line f → LinePieces file at f
 unfolding lineAt
 line-pieces file at f e = go (split LF (drop at file)) refl e
   where
-    here : (l m : List ℕ) (ls : List (List ℕ)) → split LF (drop at file) ≡ l ∷ m ∷ ls → (L : Line) → shape l ≡ some L
-        → LinePieces file at (line-fields (at + length l + 1) L)
+    here : (l m : List ℕ) (ls : List (List ℕ)) → split LF (drop at file) ≡ l ∷ m ∷ ls → (L : Line ℕ) → anyShape l ≡ some L
+        → LinePieces file at (lineFields (at + length l + 1) L)
     here l m ls q L s =
         let b = behind LF (drop at file) l m ls q in
         let n : at + suc (length l) ≡ at + length l + 1 = omega arith in
@@ -178,61 +222,67 @@ line-pieces file at f e = go (split LF (drop at file)) refl e
           inside = omega (arith, b .1, length-drop at file);
         }
 
-    shaped-as : (l m : List ℕ) (ls : List (List ℕ)) → split LF (drop at file) ≡ l ∷ m ∷ ls → (s : Option Line) → shape l ≡ s
+    shaped-as : (l m : List ℕ) (ls : List (List ℕ)) → split LF (drop at file) ≡ l ∷ m ∷ ls → (s : Option (Line ℕ)) → anyShape l ≡ s
         → lineRead (at + length l + 1) s ≡ LineRead.Line f → LinePieces file at f
     shaped-as l m ls q none s h = absurd (bad≢line h)
     shaped-as l m ls q (some L) s h = subst (LinePieces file at) (line-injective h) (here l m ls q L s)
 
-    go : (ls : List (List ℕ)) → split LF (drop at file) ≡ ls → firstLine (λ n l. lineRead n (shape l)) at ls ≡ LineRead.Line f → LinePieces file at f
+    go : (ls : List (List ℕ)) → split LF (drop at file) ≡ ls → firstLine (λ n l. lineRead n (anyShape l)) at ls ≡ LineRead.Line f → LinePieces file at f
     go [] q h = absurd (bad≢line h)
     go (l ∷ []) q h = absurd (bad≢line h)
-    go (l ∷ m ∷ ls) q h = shaped-as l m ls q (shape l) refl h
+    go (l ∷ m ∷ ls) q h = shaped-as l m ls q (anyShape l) refl h
 
-pub line-here : (file : List ℕ) (at : ℕ) (f : LineFields) → lineAt file at ≡ LineRead.Line f → LineHere file at f
-line-here file at f e =
+pub line-here : {S : Type 0} {run : S → List ℕ → Checked S} {fields : S → LineFields → Checked S} → ByFields run fields
+    → (file : List ℕ) (at : ℕ) (f : LineFields) → lineAt file at ≡ LineRead.Line f → LineHere run fields file at f
+line-here {S} {run} {fields} B file at f e =
     let p = line-pieces file at f e in
     let n : at + length (p .piece) + 1 ≡ f .next .at = ap (λ (g : LineFields). g .next .at) (sym (p .fields)) in
     record {
-      longer = omega arith;
+      longer = omega (arith, shaped (split comma (p .piece)) (p .line) (p .shaped) .long, split-bytes comma (p .piece));
       inside = omega (arith, p .inside);
-      small = rw (p .fields) (shaped (split comma (p .piece)) (p .line) (p .shaped) .1);
-      runs = λ i σ. ap (λ ks. runLines ks i (passed σ)) (p .cut) ∙ run-piece σ i (p .piece) (p .follower) (p .others)
-          ∙ ap (runLines (p .follower ∷ p .others) (suc i)) (run-shaped σ (p .piece) (p .line) (at + length (p .piece) + 1) (p .shaped) ∙ ap (runFields σ) (sym (p .fields)))
-          ∙ ap (λ ks. runLines ks (suc i) (runFields σ f)) (sym (p .rest));
+      small = rw (p .fields) (shaped (split comma (p .piece)) (p .line) (p .shaped) .small);
+      runs = λ i σ. ap (λ ks. runLines run ks i (passed σ)) (p .cut) ∙ run-piece run σ i (p .piece) (p .follower) (p .others)
+          ∙ ap (runLines run (p .follower ∷ p .others) (suc i)) (B .shaped σ (p .piece) (p .line) (at + length (p .piece) + 1) (p .shaped) ∙ ap (fields σ) (sym (p .fields)))
+          ∙ ap (λ ks. runLines run ks (suc i) (fields σ f)) (sym (p .rest));
     }
 
 -- A BAD LINE: bytes behind the last LF, or a line that has no shape.
 pub bad-pieces : {R : Type 0} (file : List ℕ) (at : ℕ) → at < length file → lineAt file at ≡ LineRead.BadShape
     → ((b : ℕ) (l : List ℕ) → split LF (drop at file) ≡ (b ∷ l) ∷ [] → R)
-    → ((l m : List ℕ) (ls : List (List ℕ)) → split LF (drop at file) ≡ l ∷ m ∷ ls → shape l ≡ none → R) → R
+    → ((l m : List ℕ) (ls : List (List ℕ)) → split LF (drop at file) ≡ l ∷ m ∷ ls → anyShape l ≡ none → R) → R
 unfolding lineAt
 bad-pieces {R} file at before e tail unshaped = go (split LF (drop at file)) refl e
   where
-    shaped-as : (l m : List ℕ) (ls : List (List ℕ)) → split LF (drop at file) ≡ l ∷ m ∷ ls → (s : Option Line) → shape l ≡ s
+    shaped-as : (l m : List ℕ) (ls : List (List ℕ)) → split LF (drop at file) ≡ l ∷ m ∷ ls → (s : Option (Line ℕ)) → anyShape l ≡ s
         → lineRead (at + length l + 1) s ≡ LineRead.BadShape → R
     shaped-as l m ls q none s h = unshaped l m ls q s
     shaped-as l m ls q (some L) s h = absurd (bad≢line (sym h))
 
-    go : (ls : List (List ℕ)) → split LF (drop at file) ≡ ls → firstLine (λ n l. lineRead n (shape l)) at ls ≡ LineRead.BadShape → R
+    go : (ls : List (List ℕ)) → split LF (drop at file) ≡ ls → firstLine (λ n l. lineRead n (anyShape l)) at ls ≡ LineRead.BadShape → R
     go [] q h = absurd (some-piece LF (drop at file) q)
     go ([] ∷ []) q h = absurd (one-piece LF (drop at file) (omega (arith, before, length-drop at file)) q)
     go ((b ∷ l) ∷ []) q h = tail b l q
-    go (l ∷ m ∷ ls) q h = shaped-as l m ls q (shape l) refl h
+    go (l ∷ m ∷ ls) q h = shaped-as l m ls q (anyShape l) refl h
 
-pub bad-line : (file : List ℕ) (at : ℕ) → at < length file → lineAt file at ≡ LineRead.BadShape → (i : ℕ) (σ : State)
-    → verdictFrom file at i (passed σ) ≡ refuse Reason.BadShape (suc i)
-unfolding runLines runRead
-bad-line file at before e i σ =
+pub bad-line : {S : Type 0} {run : S → List ℕ → Checked S} {fields : S → LineFields → Checked S} → ByFields run fields
+    → (file : List ℕ) (at : ℕ) → at < length file → lineAt file at ≡ LineRead.BadShape → (i : ℕ) (σ : S) → runFrom run file at i (passed σ) ≡ stopped Reason.BadShape (suc i)
+unfolding runLines
+bad-line {S} {run} B file at before e i σ =
     bad-pieces file at before e
     (λ b l q. rw q)
-    (λ l m ls q s. ap (λ ks. runLines ks i (passed σ)) q ∙ run-piece σ i l m ls ∙ rw s)
+    (λ l m ls q s. ap (λ ks. runLines run ks i (passed σ)) q ∙ run-piece run σ i l m ls ∙ rw (B .unshaped σ l s))
 
-pub at-end : (file : List ℕ) (at : ℕ) → length file ≤ at → (i : ℕ) (σ : State) → verdictFrom file at i (passed σ) ≡ atEnd σ (σ .status) (suc i)
+pub at-end : {S : Type 0} (run : S → List ℕ → Checked S) (file : List ℕ) (at : ℕ) → length file ≤ at → (i : ℕ) (σ : S) → runFrom run file at i (passed σ) ≡ ended σ i
 unfolding split runLines
-at-end file at h i σ = rw (drop-of-length-le file h)
+at-end run file at h i σ = rw (drop-of-length-le file h)
 
--- CHECKS 3 AND 4 of a line that is read: out of order, with an unknown word, or a command
-module _ (σ : State) (f : LineFields) {l : Letter} (k : f .letter ≡ l) where
+-- CHECK 2 of the letter of a line that is read
+pub run-unlettered : (σ : State) (f : LineFields) → lookup letters (f .letter ∷ []) ≡ none → runFields σ f ≡ refused Reason.BadShape
+unfolding runFields
+run-unlettered σ f e = rw e
+
+-- CHECKS 3 AND 4: out of order, with an unknown word, or a command
+module _ (σ : State) (f : LineFields) {l : Letter} (k : lookup letters (f .letter ∷ []) ≡ some l) where
   pub run-disordered : inOrder (σ .letter) l ≡ false → runFields σ f ≡ refused Reason.LetterOrder
   unfolding runFields
   run-disordered o = rw (k, o)

@@ -12,14 +12,14 @@ use Rattle.tableau.specs.declared.Reason.{Reason}
 use Rattle.tableau.specs.declared.Relation.{Relation}
 use Rattle.tableau.specs.declared.Rule.{Rule}
 use Rattle.tableau.specs.Basics.{Four, every, bytes, sameBytes, Named, lookup}
-use Rattle.tableau.specs.File.{Line, inOrder, shape, split, LF, maxBytes}
+use Rattle.tableau.specs.File.{Line, inOrder, shape, letters, split, LF, maxBytes}
 use Rattle.tableau.specs.declared.Word.{Word}
-use Rattle.tableau.specs.Words.{Command, make, assume, infer, some-of, commandOf}
+use Rattle.tableau.specs.Words.{words, relations, ruleNames, Command, make, assume, infer, some-of, commandOf}
 use Rattle.tableau.specs.Fields.{wordFields, sides, ruleUses}
 use Rattle.tableau.specs.Terms.{Table, Literal, literal, at, sortOf, written, oneSort, maxTerms}
 use Rattle.tableau.specs.Tree.{Checked, refused, passed, _>>=_, _>>_, require, requireSome, Tree, Status, isOpen, isClosed, maxPlaces, alternatives, grown}
 use Rattle.tableau.specs.Reply.{Counts, State, start, requireOpen, zeroIfUnused, termOrName, ofSort, isNew, termLine, literalLine, assumed, stepLine}
-use Rattle.tableau.specs.Reply.{counted, runOpen, runRead, runLine, Verdict, accept, refuse, atEnd, runLines, verdictIf, verdict}
+use Rattle.tableau.specs.Reply.{counted, runOpen, runRead, runLine, RunEnd, stopped, ended, runLines, Verdict, accept, refuse, atEnd, verdictOn, verdictIf, verdict, replyOf, reply}
 use Rattle.tableau.specs.Claims.{allButLast, linesOf}
 use Rattle.tableau.proofs.Bools.{both-true}
 
@@ -73,10 +73,21 @@ lookup-agree {A} {B} {x} f g (n ∷ ns) w h e = go (sameBytes (bytes (n .text)) 
     go true s e later = cc (same-bytes (bytes (n .text)) w s)
     go false s e later = later e
 
+abbrev pub letterOf : Command → Letter
+letterOf (make w) = Letter.T
+letterOf (assume R) = Letter.A
+letterOf (infer x) = Letter.S
+
 -- the word of a line's command is one of its letter's words
 pub some-of-some : {A : Type 0} {c : Command} (f : A → Command) (o : Option A) → some-of f o ≡ some c → (x : A) × (o ≡ some x) × (c ≡ f x)
 some-of-some f none e = absurd (Option·none-ne-some _ e)
 some-of-some f (some x) e = (x, refl, cc)
+
+pub command-letter : {c : Command} (k : Letter) (w : List ℕ) → commandOf k w ≡ some c → letterOf c ≡ k
+unfolding commandOf
+command-letter Letter.T w e = ap letterOf (some-of-some make (lookup words w) e .2)
+command-letter Letter.A w e = ap letterOf (some-of-some assume (lookup relations w) e .2)
+command-letter Letter.S w e = ap letterOf (some-of-some infer (lookup ruleNames w) e .2)
 
 -- LINES: a T line
 pub record TermPassed (table : Table) (w : Word) (n : Four ℕ) (table′ : Table) : Type 0 where
@@ -100,6 +111,7 @@ term-passed table w n e =
 -- an A line
 pub record LiteralPassed (table : Table) (R : Relation) (n : Four ℕ) (l : Literal) : Type 0 where
   pub terms : every (termOrName table) (sides R) n ≡ true
+  pub sorts : (every (ofSort table) (sides R) n && oneSort R (sortOf (at table (n .a))) (sortOf (at table (n .b)))) ≡ true
   pub is : l ≡ literal R (n .a) (n .b)
 
 pub literal-passed : {l : Literal} (table : Table) (R : Relation) (n : Four ℕ) → literalLine table R n ≡ passed l → LiteralPassed table R n l
@@ -108,7 +120,7 @@ literal-passed table R n e =
     let e₆ = require-passed (every zeroIfUnused (sides R) n) _ _ e in
     let e₈ = require-passed (every (termOrName table) (sides R) n) _ _ (e₆ .1) in
     let e₉ = require-passed (every (ofSort table) (sides R) n && oneSort R (sortOf (at table (n .a))) (sortOf (at table (n .b)))) _ _ (e₈ .1) in
-    record { terms = e₈ .0; is = sym (passed-injective (e₉ .1)) }
+    record { terms = e₈ .0; sorts = e₉ .0; is = sym (passed-injective (e₉ .1)) }
 
 -- an S line
 pub record StepPassed (table : Table) (τ : Tree) (x : Rule) (n : Four ℕ) (s : Status) : Type 0 where
@@ -130,12 +142,8 @@ step-passed {ks} table τ x n e g =
 abbrev pub Did : State → Tree → Command → Four ℕ → State → Type 0
 Did σ τ (make w) n σ′ = TermPassed (σ .table) w n (σ′ .table) × (σ′ .status ≡ isOpen τ)
 Did σ τ (assume R) n σ′ = (σ′ .table ≡ σ .table) × (σ′ .status ≡ isOpen (record { branch = τ .branch ++ (literal R (n .a) (n .b) ∷ []); waiting = τ .waiting }))
+    × (literalLine (σ .table) R n ≡ passed (literal R (n .a) (n .b)))
 Did σ τ (infer x) n σ′ = (σ′ .table ≡ σ .table) × StepPassed (σ .table) τ x n (σ′ .status)
-
-abbrev pub letterOf : Command → Letter
-letterOf (make w) = Letter.T
-letterOf (assume R) = Letter.A
-letterOf (infer x) = Letter.S
 
 pub record Ran (σ : State) (τ : Tree) (c : Command) (n : Four ℕ) (σ′ : State) : Type 0 where
   pub did : Did σ τ c n σ′
@@ -155,18 +163,19 @@ ran σ τ (assume R) n e =
     let l = bind-passed (literalLine (σ .table) R n) _ e in
     let t = bind-passed (assumed τ (l .0)) _ (l .2) in
     let r = require-passed (ltb (length (τ .branch)) maxPlaces) _ _ (t .1) in
-    let s = sym (passed-injective (r .1)) ∙ ap (λ (k : Literal). record { branch = τ .branch ++ (k ∷ []); waiting = τ .waiting }) (literal-passed (σ .table) R n (l .1) .is) in
-    after-line (t .2) (record { did = (refl, ap isOpen s); letter = refl; counts = refl })
+    let q = literal-passed (σ .table) R n (l .1) .is in
+    let s = sym (passed-injective (r .1)) ∙ ap (λ (k : Literal). record { branch = τ .branch ++ (k ∷ []); waiting = τ .waiting }) q in
+    after-line (t .2) (record { did = (refl, ap isOpen s, l .1 ∙ ap passed q); letter = refl; counts = refl })
 ran σ τ (infer x) n e =
     let k = bind-passed (stepLine (σ .table) (τ .branch) x n) _ e in
     let s = bind-passed (grown τ (k .0)) _ (k .2) in
     after-line (s .2) (record { did = (refl, step-passed (σ .table) τ x n (k .1) (s .1)); letter = refl; counts = refl })
 
 pub record LinePassed (σ : State) (bs : List ℕ) (σ′ : State) : Type 0 where
-  pub line : Line
+  pub line : Line Letter
   pub command : Command
   pub tree : Tree
-  pub shaped : shape bs ≡ some line
+  pub shaped : shape letters bs ≡ some line
   pub ordered : inOrder (σ .letter) (line .letter) ≡ true
   pub known : commandOf (line .letter) (line .word) ≡ some command
   pub treeOpen : σ .status ≡ isOpen tree
@@ -175,7 +184,7 @@ pub record LinePassed (σ : State) (bs : List ℕ) (σ′ : State) : Type 0 wher
 pub line-passed : {σ′ : State} (σ : State) (bs : List ℕ) → runLine σ bs ≡ passed σ′ → LinePassed σ bs σ′
 unfolding runRead
 line-passed σ bs e =
-    let e₂ = requireSome-passed (shape bs) _ _ e in
+    let e₂ = requireSome-passed (shape letters bs) _ _ e in
     let l = e₂ .0 in
     let e₃ = require-passed (inOrder (σ .letter) (l .letter)) _ _ (e₂ .2) in
     let e₄ = requireSome-passed (commandOf (l .letter) (l .word)) _ _ (e₃ .1) in
@@ -191,44 +200,54 @@ line-passed σ bs e =
       run = ran σ (e₅ .0) (e₄ .0) (l .fields) (e₅ .2);
     }
 
--- lines that pass one after the other, with the states before and after them
-pub data Run : State → List (List ℕ) → State → Type 0 where
-  done : {σ : State} → Run σ [] σ
-  next : {σ σ′ τ : State} {l : List ℕ} {ls : List (List ℕ)} → LinePassed σ l σ′ → Run σ′ ls τ → Run σ (l ∷ ls) τ
+-- Lines that pass one after the other, with the states before and after each, and what is known of one that passes.
+pub data Run {S : Type 0} (Passed : S → List ℕ → S → Type 0) : S → List (List ℕ) → S → Type 0 where
+  done : {σ : S} → Run Passed σ [] σ
+  next : {σ σ′ τ : S} {l : List ℕ} {ls : List (List ℕ)} → Passed σ l σ′ → Run Passed σ′ ls τ → Run Passed σ (l ∷ ls) τ
+
+stopped≢ended : {S B : Type 0} {r : Reason} {i j : ℕ} {σ : S} → stopped r i ≡ ended σ j → B
+stopped≢ended {S} {B} {r} {i} {j} {σ} e = let z : true ≡ false = cc in absurd (true≢false z)
+
+module _ {S : Type 0} (Passed : S → List ℕ → S → Type 0) (run : S → List ℕ → Checked S)
+    (line : (σ σ′ : S) (l : List ℕ) → run σ l ≡ passed σ′ → Passed σ l σ′) {τ : S} {j : ℕ} where
+  run-end : {σ : S} {i : ℕ} → ended σ i ≡ ended τ j → Run Passed σ [] τ
+  run-end {σ} e = subst (Run Passed σ []) (let q : σ ≡ τ = cc in q) done
+
+  pub lines-passed : (ls : List (List ℕ)) (i : ℕ) (σ : S) → runLines run ls i (passed σ) ≡ ended τ j → Run Passed σ (allButLast ls) τ
+  unfolding runLines
+  lines-passed [] i σ e = run-end e
+  lines-passed ([] ∷ []) i σ e = run-end e
+  lines-passed ((b ∷ bs) ∷ []) i σ e = stopped≢ended e
+  lines-passed (l ∷ m ∷ ls) i σ e = go (lines-passed (m ∷ ls) (suc i)) (run σ l) refl e
+    where
+      go : ((σ′ : S) → runLines run (m ∷ ls) (suc i) (passed σ′) ≡ ended τ j → Run Passed σ′ (allButLast (m ∷ ls)) τ)
+          → (x : Checked S) → run σ l ≡ x → runLines run (m ∷ ls) (suc i) x ≡ ended τ j → Run Passed σ (l ∷ allButLast (m ∷ ls)) τ
+      go later (refused r) h e = stopped≢ended e
+      go later (passed σ′) h e = next (line σ σ′ l h) (later σ′ e)
 
 -- FILES
 pub record Accepted (σ : State) (ls : List (List ℕ)) (c : Counts) : Type 0 where
   pub last : State
-  pub run : Run σ ls last
+  pub run : Run LinePassed σ ls last
   pub closed : last .status ≡ isClosed
   pub counts : last .counts ≡ c
 
 refuse≢accept : {B : Type 0} {r : Reason} {i : ℕ} {c : Counts} → refuse r i ≡ accept c → B
 refuse≢accept {B} {r} {i} {c} e = let z : true ≡ false = cc in absurd (true≢false z)
 
-end-accepted : {c : Counts} (σ : State) (i : ℕ) → atEnd σ (σ .status) i ≡ accept c → Accepted σ [] c
-end-accepted {c} σ i e = go (σ .status) refl e
+lines-accepted : {c : Counts} (ls : List (List ℕ)) (i : ℕ) (σ : State) → verdictOn (runLines runLine ls i (passed σ)) ≡ accept c → Accepted σ (allButLast ls) c
+lines-accepted {c} ls i σ = go (runLines runLine ls i (passed σ)) refl
   where
-    go : (s : Status) → σ .status ≡ s → atEnd σ s i ≡ accept c → Accepted σ [] c
-    go (isOpen τ) h e = refuse≢accept e
-    go isClosed h e = record { last = σ; run = done; closed = h; counts = cc }
+    end : (τ : State) (s : Status) (j : ℕ) → Run LinePassed σ (allButLast ls) τ → τ .status ≡ s → atEnd τ s j ≡ accept c → Accepted σ (allButLast ls) c
+    end τ (isOpen x) j r h e = refuse≢accept e
+    end τ isClosed j r h e = record { last = τ; run = r; closed = h; counts = cc }
 
-lines-accepted : {c : Counts} (ls : List (List ℕ)) (i : ℕ) (σ : State) → runLines ls i (passed σ) ≡ accept c → Accepted σ (allButLast ls) c
-unfolding runLines
-lines-accepted [] i σ e = end-accepted σ i e
-lines-accepted ([] ∷ []) i σ e = end-accepted σ (suc i) e
-lines-accepted ((b ∷ bs) ∷ []) i σ e = refuse≢accept e
-lines-accepted {c} (l ∷ m ∷ ls) i σ e = go (lines-accepted (m ∷ ls) (suc i)) (runLine σ l) refl e
-  where
-    go : ((σ′ : State) → runLines (m ∷ ls) (suc i) (passed σ′) ≡ accept c → Accepted σ′ (allButLast (m ∷ ls)) c)
-        → (x : Checked State) → runLine σ l ≡ x → runLines (m ∷ ls) (suc i) x ≡ accept c → Accepted σ (l ∷ allButLast (m ∷ ls)) c
-    go later (refused r) h e = refuse≢accept e
-    go later (passed σ′) h e =
-        let a = later σ′ e in
-        record { last = a .last; run = next (line-passed σ l h) (a .run); closed = a .closed; counts = a .counts }
+    go : (x : RunEnd State) → runLines runLine ls i (passed σ) ≡ x → verdictOn x ≡ accept c → Accepted σ (allButLast ls) c
+    go (stopped r j) h e = refuse≢accept e
+    go (ended τ j) h e = end τ (τ .status) j (lines-passed LinePassed runLine (λ σ σ′. line-passed σ) ls i σ h) refl e
 
 -- a file is too long, or its lines are read
-pub verdict-cases : (P : Verdict → Type 0) (file : List ℕ) → P (refuse Reason.TooLong 0) → P (runLines (split LF file) 0 (passed start)) → P (verdict file)
+pub verdict-cases : (P : Verdict → Type 0) (file : List ℕ) → P (refuse Reason.TooLong 0) → P (verdictOn (runLines runLine (split LF file) 0 (passed start))) → P (verdict file)
 unfolding verdict
 verdict-cases P file p q = go (leb (length file) maxBytes)
   where
@@ -238,3 +257,11 @@ verdict-cases P file p q = go (leb (length file) maxBytes)
 
 pub file-accepted : {c : Counts} (file : List ℕ) → verdict file ≡ accept c → Accepted start (linesOf file) c
 file-accepted {c} file = verdict-cases (λ v. v ≡ accept c → Accepted start (linesOf file) c) file refuse≢accept (lines-accepted (split LF file) 0 start)
+
+pub yes-accepted : (file : List ℕ) → reply file .isYes ≡ true → (c : Counts) × Accepted start (linesOf file) c
+unfolding reply replyOf
+yes-accepted file = go (verdict file) refl
+  where
+    go : (v : Verdict) → verdict file ≡ v → replyOf v .isYes ≡ true → (c : Counts) × Accepted start (linesOf file) c
+    go (accept c) e h = (c, file-accepted file e)
+    go (refuse r i) e h = absurd (true≢false (sym h))

@@ -11,14 +11,16 @@ use Rattle.tableau.specs.declared.Letter.{Letter}
 use Rattle.tableau.specs.declared.Rule.{Rule}
 use Rattle.tableau.specs.declared.Reason.{Reason}
 use Rattle.tableau.specs.Basics.{Four, bytes, sameBytes, lookup}
-use Rattle.tableau.specs.File.{Line, rank, shape, split, LF}
+use Rattle.tableau.specs.File.{Line, rank, shape, letters, split, LF}
 use Rattle.tableau.specs.Words.{words, relations, ruleNames, Command, make, assume, infer, commandOf}
 use Rattle.tableau.specs.Rules.{rule}
 use Rattle.tableau.specs.Tree.{Checked, refused, passed, _>>=_, _>>_, require, requireSome, Tree, Status, isOpen, isClosed, answer, alternatives, grown}
 use Rattle.tableau.specs.Reply.{reasonNumber, Counts, State, start, requireOpen, termLine, literalLine, assumed, stepLine, isClosing, counted}
-use Rattle.tableau.specs.Reply.{runOpen, runRead, runLine, Verdict, accept, refuse, atEnd, runLines, verdict, replyOf, reply}
+use Rattle.tableau.specs.Reply.{runOpen, runRead, runLine, runLines, Verdict, accept, refuse, atEnd, verdictOn, verdict, replyOf, reply}
 use Rattle.tableau.specs.Claims.{hasLetter, closesBranch, countIf, CountsOf, RightCounts}
+use Rattle.tableau.proofs.Reason as reason-type
 use Rattle.tableau.proofs.Bools.{both-true}
+use Rattle.tableau.proofs.Places.{every-value}
 use Rattle.tableau.proofs.Checks.{lookup-agree, some-of-some, LinePassed, Run, done, next, Accepted, verdict-cases, file-accepted}
 
 -- THE COUNTS
@@ -35,14 +37,14 @@ increase-sum : (b : Bool) (n m : ℕ) → increase b n + m ≡ n + elim b [ true
 increase-sum true n m = omega arith
 increase-sum false n m = refl
 
-abbrev Adds : (Counts → ℕ) → (Option Line → Bool) → Counts → Line → Command → Type 0
+abbrev Adds : (Counts → ℕ) → (Option (Line Letter) → Bool) → Counts → Line Letter → Command → Type 0
 Adds count test k l c = count (counted k c) ≡ increase (test (some l)) (count k)
 
-abbrev AddsEach : Counts → Line → Command → Type 0
+abbrev AddsEach : Counts → Line Letter → Command → Type 0
 AddsEach k l c = Adds (λ k. k .terms) (hasLetter Letter.T) k l c × Adds (λ k. k .assumptions) (hasLetter Letter.A) k l c
     × Adds (λ k. k .steps) (hasLetter Letter.S) k l c × Adds (λ k. k .closings) closesBranch k l c
 
-adds-each : (k : Counts) (l : Line) (c : Command) → commandOf (l .letter) (l .word) ≡ some c → AddsEach k l c
+adds-each : (k : Counts) (l : Line Letter) (c : Command) → commandOf (l .letter) (l .word) ≡ some c → AddsEach k l c
 unfolding commandOf rank
 adds-each k l c = go (l .letter)
   where
@@ -52,15 +54,15 @@ adds-each k l c = go (l .letter)
     go Letter.S e = let h = some-of-some infer (lookup ruleNames (l .word)) e in rw (h .2) (refl, refl, refl, rw (closing-word (l .word) (h .1)))
 
 -- so a count of an accepted file is the number of lines that pass its test
-module _ (count : Counts → ℕ) (test : Option Line → Bool)
-    (adds : (k : Counts) (l : Line) (c : Command) → commandOf (l .letter) (l .word) ≡ some c → Adds count test k l c) where
-  line-count : {σ σ′ : State} {l : List ℕ} → LinePassed σ l σ′ → count (σ′ .counts) ≡ increase (test (shape l)) (count (σ .counts))
+module _ (count : Counts → ℕ) (test : Option (Line Letter) → Bool)
+    (adds : (k : Counts) (l : Line Letter) (c : Command) → commandOf (l .letter) (l .word) ≡ some c → Adds count test k l c) where
+  line-count : {σ σ′ : State} {l : List ℕ} → LinePassed σ l σ′ → count (σ′ .counts) ≡ increase (test (shape letters l)) (count (σ .counts))
   line-count {σ} p = rw (p .run .counts, p .shaped) (adds (σ .counts) (p .line) (p .command) (p .known))
 
-  run-count : {σ τ : State} {ls : List (List ℕ)} → Run σ ls τ → count (τ .counts) ≡ count (σ .counts) + countIf test ls
+  run-count : {σ τ : State} {ls : List (List ℕ)} → Run LinePassed σ ls τ → count (τ .counts) ≡ count (σ .counts) + countIf test ls
   unfolding countIf
   run-count done = omega arith
-  run-count {σ} (next {l = l} p r) = run-count r ∙ rw (line-count p) (increase-sum (test (shape l)) (count (σ .counts)) _)
+  run-count {σ} (next {l = l} p r) = run-count r ∙ rw (line-count p) (increase-sum (test (shape letters l)) (count (σ .counts)) _)
 
   file-count : {ls : List (List ℕ)} {c : Counts} → Accepted start ls c → count (start .counts) ≡ 0 → count c ≡ countIf test ls
   file-count a z = rw (← a .counts, run-count (a .run)) (omega arith)
@@ -133,12 +135,12 @@ unfolding reasonNumber
 end-range σ (isOpen τ) i = refl
 end-range σ isClosed i = tt
 
-lines-range : (ls : List (List ℕ)) (i : ℕ) (m : Checked State) → CheckInRange m → VerdictInRange (runLines ls i m)
+lines-range : (ls : List (List ℕ)) (i : ℕ) (m : Checked State) → CheckInRange m → VerdictInRange (verdictOn (runLines runLine ls i m))
 unfolding runLines reasonNumber
 lines-range [] i (refused r) h = h
 lines-range [] i (passed σ) h = end-range σ (σ .status) i
 lines-range (l ∷ ls) i (refused r) h = h
-lines-range ([] ∷ []) i (passed σ) h = end-range σ (σ .status) (suc i)
+lines-range ([] ∷ []) i (passed σ) h = end-range σ (σ .status) i
 lines-range ((b ∷ bs) ∷ []) i (passed σ) h = refl
 lines-range (l ∷ m ∷ ls) i (passed σ) h = lines-range (m ∷ ls) (suc i) (runLine σ l) (line-range σ l)
 
@@ -153,3 +155,8 @@ number-in-range file = go (verdict file) (verdict-cases VerdictInRange file refl
     go (refuse r i) h =
         let b = both-true (leb 1 (reasonNumber r)) _ h in
         ((λ e. absurd (true≢false (sym e))), (λ e. (leb-true 1 (reasonNumber r) (b .0), leb-true (reasonNumber r) 17 (b .1))))
+
+-- no reason has the number of a yes
+pub reason-not-0 : (r : Reason) → reasonNumber r ≡ 0 → ⊥
+unfolding reasonNumber
+reason-not-0 r e = omega (arith, leb-true 1 (reasonNumber r) (every-value reason-type.enum refl (λ x. leb 1 (reasonNumber x)) refl r))

@@ -10,6 +10,7 @@ pub mod Match
 pub mod RuleSound
 pub mod Fresh
 pub mod StepSound
+pub mod SixFields
 pub mod Checks
 pub mod Counts
 pub mod Models

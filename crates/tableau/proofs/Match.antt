@@ -14,13 +14,12 @@ use Rattle.tableau.specs.declared.Relation.{Relation}
 use Rattle.tableau.specs.Basics.{Four, four}
 use Rattle.tableau.specs.Fields.{Argument, unused, of, argumentUse, arguments, ifArgument}
 use Rattle.tableau.specs.Terms.{TermNo, Term, variable, apply, Literal, literal, result, sortOf, sortIndex, operatorIndex, relationIndex, sameSort, sameOperator, sameRelation, layer}
-use Rattle.tableau.specs.Meaning.{FiniteHeap, Value, reference, operation, Values, valueOf, value, Holds, True}
+use Rattle.tableau.specs.Meaning.{FiniteHeap, Value, reference, operation, Values, valueOf, value, Holds, True, kind}
 use Rattle.tableau.specs.Rules.{Pattern, letter, operator, –, LiteralPattern, pattern, Need, p∶, q∶, t≐, isRegion, letterT}
 use Rattle.tableau.specs.Steps.{Letters, fitsLetter, argumentsOf, fits, fitsLiteral, termOf, met}
 use Rattle.tableau.proofs.Bools.{dec, eqb-same, none≢some, some-inj, then-inv, guard-inv}
 use Rattle.tableau.proofs.WellFormed.{OkArgument, OkTerm, WellFormed}
 use Rattle.tableau.proofs.Fold.{fold-eq}
-use Rattle.tableau.proofs.Values.{kind}
 use Rattle.tableau.proofs.RowMeaning.{⟦_⟧, Asked, IfArgument, Sorted, IfHolds, IfMet}
 
 -- operators, relations and sorts are equal where their indices are

@@ -35,28 +35,6 @@ at-tag ([] ∷ Fss) p f (inl tt) d = refl
 at-tag ([] ∷ Fss) p f (inr c) d = at-tag Fss p (λ e. f (inr e)) c d
 at-tag ((F ∷ Fs) ∷ Fss) p f c d = absurd (true≢false (sym p))
 
-module _ (N : Record) (p : plain (N .parts) ≡ true) where
-  abbrev values : List (N .D)
-  values = each (N .parts) (N .make)
-
-  -- a value is the one at its place
-  pub at-place : (x d : N .D) → getD values (tagOf (declared N) x) d ≡ x
-  at-place x d = at-tag (N .parts) p (N .make) (N .as-values x) d ∙ N .eta x
-
-  pub same-place : (x y : N .D) → eqb (tagOf (declared N) x) (tagOf (declared N) y) ≡ true → x ≡ y
-  same-place x y e = sym (at-place x x) ∙ ap (λ n. getD values n x) (eqb-true _ _ e) ∙ at-place y x
-
--- THE OTHER ARMS OF A MATCH: the keys of the other arms leave k out
-abbrev pub absent : List ℕ → ℕ → Bool
-absent [] k = true
-absent (j ∷ js) k = not (eqb j k) && absent js k
-
-pub not-among : (js : List ℕ) (k x : ℕ) → absent js k ≡ true → OneOf js x → x ≡ k → ⊥
-not-among [] k x a h e = h
-not-among (j ∷ []) k x a h e = eqb-false j k (not-true _ (both-true (not (eqb j k)) _ a .0)) (sym h ∙ e)
-not-among (j ∷ i ∷ js) k x a (inl h) e = eqb-false j k (not-true _ (both-true (not (eqb j k)) _ a .0)) (sym h ∙ e)
-not-among (j ∷ i ∷ js) k x a (inr h) e = not-among (i ∷ js) k x (both-true (not (eqb j k)) _ a .1) h e
-
 -- a test that holds of all of a list
 abbrev pub allOf : {A : Type 0} → (A → Bool) → List A → Bool
 allOf f [] = true
@@ -68,6 +46,38 @@ every-choice [] p f g h c = absurd c
 every-choice ([] ∷ Fss) p f g h (inl tt) = both-true (g (f (inl tt))) _ h .0
 every-choice ([] ∷ Fss) p f g h (inr c) = every-choice Fss p (λ e. f (inr e)) g (both-true (g (f (inl tt))) _ h .1) c
 every-choice ((F ∷ Fs) ∷ Fss) p f g h c = absurd (true≢false (sym p))
+
+module _ (N : Record) (p : plain (N .parts) ≡ true) where
+  abbrev values : List (N .D)
+  values = each (N .parts) (N .make)
+
+  -- a value is the one at its place
+  pub at-place : (x d : N .D) → getD values (tagOf (declared N) x) d ≡ x
+  at-place x d = at-tag (N .parts) p (N .make) (N .as-values x) d ∙ N .eta x
+
+  pub same-place : (x y : N .D) → eqb (tagOf (declared N) x) (tagOf (declared N) y) ≡ true → x ≡ y
+  same-place x y e = sym (at-place x x) ∙ ap (λ n. getD values n x) (eqb-true _ _ e) ∙ at-place y x
+
+  pub every-value : (f : N .D → Bool) → allOf f values ≡ true → (x : N .D) → f x ≡ true
+  every-value f h x = ap f (sym (N .eta x)) ∙ every-choice (N .parts) p (N .make) f h (N .as-values x)
+
+  -- what is given to each value in two ways, in their order, is the same for every value
+  pub every-equal : {A : Type 0} (f g : N .D → A) → each (N .parts) (λ c. f (N .make c)) ≡ each (N .parts) (λ c. g (N .make c)) → (x : N .D) → f x ≡ g x
+  every-equal {A} f g e x = sym (at f) ∙ ap (λ l. getD l (tagOf (declared N) x) (f x)) e ∙ at g
+    where
+      at : (h : N .D → A) → getD (each (N .parts) (λ c. h (N .make c))) (tagOf (declared N) x) (f x) ≡ h x
+      at h = at-tag (N .parts) p (λ c. h (N .make c)) (N .as-values x) (f x) ∙ ap h (N .eta x)
+
+-- THE OTHER ARMS OF A MATCH: the keys of the other arms leave k out
+abbrev pub absent : List ℕ → ℕ → Bool
+absent [] k = true
+absent (j ∷ js) k = not (eqb j k) && absent js k
+
+pub not-among : (js : List ℕ) (k x : ℕ) → absent js k ≡ true → OneOf js x → x ≡ k → ⊥
+not-among [] k x a h e = h
+not-among (j ∷ []) k x a h e = eqb-false j k (not-true _ (both-true (not (eqb j k)) _ a .0)) (sym h ∙ e)
+not-among (j ∷ i ∷ js) k x a (inl h) e = eqb-false j k (not-true _ (both-true (not (eqb j k)) _ a .0)) (sym h ∙ e)
+not-among (j ∷ i ∷ js) k x a (inr h) e = not-among (i ∷ js) k x (both-true (not (eqb j k)) _ a .1) h e
 
 -- THE TABLE OF RULES: the rules in the order in which it names them
 unfoldable pub rules : List Rule
@@ -84,7 +94,7 @@ stands = at-place rule-type.enum refl
 -- so a test that holds of all rules of the table holds of every rule
 pub every-rule : (f : Rule → Bool) → allOf f rules ≡ true → (x : Rule) → f x ≡ true
 unfolding rules ruleNames
-every-rule f h x = ap f (sym (rule-type.eta x)) ∙ every-choice rule-type.parts refl rule-type.make f h (rule-type.as-values x)
+every-rule = every-value rule-type.enum refl
 
 -- rules with one place are one rule
 pub same-rule : (x y : Rule) → eqb (placeOf x) (placeOf y) ≡ true → x ≡ y

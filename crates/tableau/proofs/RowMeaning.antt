@@ -8,9 +8,8 @@ use Rattle.tableau.specs.declared.Sort.{Sort}
 use Rattle.tableau.specs.declared.Rule.{Rule}
 use Rattle.tableau.specs.Basics.{Four, four}
 use Rattle.tableau.specs.Fields.{Use, unused, place, name, side, term, of, Argument, argumentUse, arguments, ifArgument, ruleUses}
-use Rattle.tableau.specs.Meaning.{FiniteHeap, Ref, Value, reference, operation, Holds}
+use Rattle.tableau.specs.Meaning.{FiniteHeap, Ref, Value, reference, operation, Holds, kind}
 use Rattle.tableau.specs.Rules.{Pattern, letter, operator, –, LiteralPattern, pattern, Need, p∶, q∶, t≐, isRegion, Row, Kind, rows, congruence, replacement, rule, letterT, letterW}
-use Rattle.tableau.proofs.Values.{kind}
 
 module _ (H : FiniteHeap) where
   abbrev pub ⟦_⟧ : Pattern → (ℕ → Value H) → Value H

@@ -8,7 +8,7 @@ use Rattle.tableau.specs.declared.Operator.{Operator}
 use Rattle.tableau.specs.declared.Rule.{Rule}
 use Rattle.tableau.specs.Basics.{four}
 use Rattle.tableau.specs.Fields.{arguments, ruleFields}
-use Rattle.tableau.specs.Meaning.{_and_, _or_, same, FiniteHeap, Ref, Value, reference, region, field, class, asRef, asRegion, asStore, asField, asClass, operation, isIn}
+use Rattle.tableau.specs.Meaning.{_and_, same, FiniteHeap, Ref, Value, reference, region, field, class, asRef, asRegion, asStore, asField, asClass, operation, isIn}
 use Rattle.tableau.specs.Rules.{rule, letterA, letterB, letterF, letterG, letterH, letterR, letterS, letterT, letterU, letterV, letterW, letterY}
 use Rattle.tableau.proofs.Bools.{and-l, and-r, and-i, or-e, or-i1, or-i2, and-false-r, and-false-of, dec, clash}
 use Rattle.tableau.proofs.Values.{same-eq, same-refl, any-out, any-in, region-path, is-ref, is-class, as-ref, as-region, as-field, kind-class}

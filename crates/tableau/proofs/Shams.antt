@@ -22,7 +22,7 @@ unfolding Demand3 NoHeap
 breaks3 checker {file} m e demand3 = demand3 file e (m .finiteHeap) (m .values) (m .allTrue)
 
 -- a count that is not the file's own breaks the second demand, since the specification's counts are (`right-counts`)
-breaks2 : (count : Reply → ℕ) (test : Option Line → Bool) → ((file : List ℕ) (r : Reply) → FileCounts file r → count r ≡ countIf test (linesOf file))
+breaks2 : (count : Reply → ℕ) (test : Option (Line Letter) → Bool) → ((file : List ℕ) (r : Reply) → FileCounts file r → count r ≡ countIf test (linesOf file))
     → (checker : Checker) (file : List ℕ) → Invents count test checker file → Breaks2At checker file
 unfolding RightCounts
 breaks2 count test own checker file i p =

@@ -2,6 +2,7 @@
 use mathlib.Core.Path.{_≡_, sym, _∙_, subst}
 use mathlib.Core.Bool.{true, _||_, not}
 use mathlib.Core.List.{List, [], _∷_, _++_, map}
+use mathlib.Core.Logic.{_↔_}
 use Prim.Native.Nat.{ℕ, _≤_}
 use native.Mathlib.Nat.{le-refl, le-trans}
 use native.Mathlib.Omega.{arith}
@@ -10,7 +11,7 @@ use lib.Seq.{take-append-le, take-take, take-append-seam}
 use Rattle.tableau.specs.declared.Rule.{Rule}
 use Rattle.tableau.specs.Basics.{Four, every}
 use Rattle.tableau.specs.Fields.{Use, unused, place, name, side, term, of, ruleUses}
-use Rattle.tableau.specs.Terms.{TermNo, Table, Literal, at, sortOf, result}
+use Rattle.tableau.specs.Terms.{TermNo, Table, Term, Literal, at, sortOf, result}
 use Rattle.tableau.specs.Meaning.{FiniteHeap, Values, value, AllTrue}
 use Rattle.tableau.specs.Rules.{rule}
 use Rattle.tableau.specs.Steps.{conclude, isFresh}
@@ -22,6 +23,12 @@ use Rattle.tableau.proofs.WellFormed.{WellFormed}
 use Rattle.tableau.proofs.Match.{same-sort, kind-value}
 use Rattle.tableau.proofs.RowMeaning.{Asked}
 use Rattle.tableau.proofs.StepSound.{Refuted, rule-sound}
+
+pub all-append : {H : FiniteHeap} (ρ : Values H) (table : TermNo → Term) (B k : List Literal) → AllTrue ρ table (B ++ k) ↔ (AllTrue ρ table B × AllTrue ρ table k)
+all-append ρ table [] k = ((λ t. (tt, t)), (λ t. t .1))
+all-append ρ table (l ∷ B) k =
+    let h = all-append ρ table B k in
+    ((λ t. let u = h .0 (t .1) in ((t .0, u .0), u .1)), (λ t. (t .0 .0, h .1 (t .0 .1, t .1))))
 
 -- the lengths of the waiting alternatives fall
 abbrev pub Falling : ℕ → List Waiting → Type 0
@@ -43,10 +50,6 @@ module _ (table : Table) (H : FiniteHeap) where
   StatusRefuted isClosed = Unit {0}
 
 module _ (table : Table) (wf : WellFormed (at table)) (H : FiniteHeap) where
-  join : (ρ : Values H) (B k : List Literal) → AllTrue ρ (at table) B → AllTrue ρ (at table) k → AllTrue ρ (at table) (B ++ k)
-  join ρ [] k t s = s
-  join ρ (l ∷ B) k t s = (t .0, join ρ B k (t .1) s)
-
   lower : (m n : ℕ) (ws : List Waiting) → m ≤ n → Falling m ws → Falling n ws
   lower m n [] h f = tt
   lower m n (x ∷ ws) h f = (le-trans (f .0) h, f .1)
@@ -71,7 +74,7 @@ module _ (table : Table) (wf : WellFormed (at table)) (H : FiniteHeap) where
   wait-refuted B k [] ws d = (tt, d)
   wait-refuted B k (x ∷ ks) ws d =
       let r = wait-refuted B k ks ws (d .1) in
-      (((λ ρ t s. d .0 ρ (subst (λ (z : List Literal). AllTrue ρ (at table) (z ++ x)) (sym (take-append-seam B k)) (join ρ B x t s))), r .0), r .1)
+      (((λ ρ t s. d .0 ρ (subst (λ (z : List Literal). AllTrue ρ (at table) (z ++ x)) (sym (take-append-seam B k)) (all-append ρ (at table) B x .1 (t, s)))), r .0), r .1)
 
   -- a closing
   close-refuted : (B : List Literal) (ws : List Waiting) → Falling (length B) ws → StatusRefuted table H (close B ws) → AllRefuted table H B ws
@@ -100,7 +103,7 @@ module _ (table : Table) (wf : WellFormed (at table)) (H : FiniteHeap) where
       let long : length B ≤ length (B ++ k) = simp length-append (omega arith) in
       let d = e (wait-falling (length B) _ ks (τ .waiting) long f) in
       let r = wait-refuted B k ks (τ .waiting) (d .1) in
-      (s ((λ ρ t u. d .0 ρ (join ρ B k t u)), r .0), agrees B (B ++ k) (length B) (λ m h. take-append-le m B k h) (τ .waiting) f (r .1))
+      (s ((λ ρ t u. d .0 ρ (all-append ρ (at table) B k .1 (t, u))), r .0), agrees B (B ++ k) (length B) (λ m h. take-append-le m B k h) (τ .waiting) f (r .1))
 
   -- a term that passed check 9 has a value of the sort asked
   asked : (fld : Use) (n : TermNo) → ofSort table fld n ≡ true → (ρ : Values H) → Asked H fld (value ρ (at table) n)

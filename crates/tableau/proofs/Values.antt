@@ -10,16 +10,8 @@ use native.Mathlib.Omega.{arith}
 use lib.Dec.{eqb}
 use borrow.Author.Tests.{eqb-true}
 use Rattle.tableau.specs.declared.Sort.{Sort}
-use Rattle.tableau.specs.Meaning.{Below, same, widen, any, FiniteHeap, Region, Ref, Value, reference, region, heap, field, class, isRef, isClass, asRef, asRegion, asField, asClass}
+use Rattle.tableau.specs.Meaning.{Below, same, widen, any, FiniteHeap, Region, Ref, Value, reference, region, heap, field, class, kind, isRef, isClass, asRef, asRegion, asStore, asField, asClass}
 use Rattle.tableau.proofs.Bools.{or-e, or-i1, or-i2, dec, clash, eqb-same}
-
--- the sort of a value
-abbrev pub kind : {H : FiniteHeap} → Value H → Sort
-kind (reference x) = Sort.Reference
-kind (region r) = Sort.Region
-kind (heap h) = Sort.Heap
-kind (field f) = Sort.Field
-kind (class c) = Sort.Class
 
 pub same-eq : {n : ℕ} (x y : Below n) → same x y ≡ true → x ≡ y
 same-eq {n} x y e = Fin·val-path {n = n} {i = x} {j = y} (eqb-true (x .0) (y .0) e)
@@ -65,9 +57,6 @@ region-path {H} R S e = λ i. record {
 }
 
 -- a value of a sort is that sort's constructor on what it holds
-zero≢one : _≡_ {A = ℕ} 0 1 → ⊥
-zero≢one e = omega arith
-
 pub is-ref : {H : FiniteHeap} (a : Value H) → isRef a ≡ true → a ≡ reference (asRef a)
 is-ref (reference x) e = refl
 is-ref (region x) e = absurd (false≢true e)
@@ -82,30 +71,33 @@ is-class (heap x) e = absurd (false≢true e)
 is-class (field x) e = absurd (false≢true e)
 is-class (class x) e = refl
 
-pub as-ref : {H : FiniteHeap} (a : Value H) → kind a ≡ Sort.Reference → a ≡ reference (asRef a)
-as-ref (reference x) e = refl
-as-ref (region x) e = let z : _≡_ {A = ℕ} 0 1 = cc in absurd (zero≢one z)
-as-ref (heap x) e = let z : _≡_ {A = ℕ} 0 1 = cc in absurd (zero≢one z)
-as-ref (field x) e = let z : _≡_ {A = ℕ} 0 1 = cc in absurd (zero≢one z)
-as-ref (class x) e = let z : _≡_ {A = ℕ} 0 1 = cc in absurd (zero≢one z)
+-- the same, said once for the five sorts
+module _ {H : FiniteHeap} where
+  abbrev pub asSort : Sort → Value H → Value H
+  asSort Sort.Reference a = reference (asRef a)
+  asSort Sort.Region a = region (asRegion a)
+  asSort Sort.Heap a = heap (asStore a)
+  asSort Sort.Field a = field (asField a)
+  asSort Sort.Class a = class (asClass a)
 
-pub as-region : {H : FiniteHeap} (a : Value H) → kind a ≡ Sort.Region → a ≡ region (asRegion a)
-as-region (reference x) e = let z : _≡_ {A = ℕ} 0 1 = cc in absurd (zero≢one z)
-as-region (region x) e = refl
-as-region (heap x) e = let z : _≡_ {A = ℕ} 0 1 = cc in absurd (zero≢one z)
-as-region (field x) e = let z : _≡_ {A = ℕ} 0 1 = cc in absurd (zero≢one z)
-as-region (class x) e = let z : _≡_ {A = ℕ} 0 1 = cc in absurd (zero≢one z)
+  pub as-sort : (a : Value H) (s : Sort) → kind a ≡ s → a ≡ asSort s a
+  as-sort a s e = own a ∙ ap (λ k. asSort k a) e
+    where
+      own : (a : Value H) → a ≡ asSort (kind a) a
+      own (reference x) = refl
+      own (region x) = refl
+      own (heap x) = refl
+      own (field x) = refl
+      own (class x) = refl
 
-pub as-field : {H : FiniteHeap} (a : Value H) → kind a ≡ Sort.Field → a ≡ field (asField a)
-as-field (reference x) e = let z : _≡_ {A = ℕ} 0 1 = cc in absurd (zero≢one z)
-as-field (region x) e = let z : _≡_ {A = ℕ} 0 1 = cc in absurd (zero≢one z)
-as-field (heap x) e = let z : _≡_ {A = ℕ} 0 1 = cc in absurd (zero≢one z)
-as-field (field x) e = refl
-as-field (class x) e = let z : _≡_ {A = ℕ} 0 1 = cc in absurd (zero≢one z)
+  pub as-ref : (a : Value H) → kind a ≡ Sort.Reference → a ≡ reference (asRef a)
+  as-ref a = as-sort a Sort.Reference
 
-pub kind-class : {H : FiniteHeap} (a : Value H) → kind a ≡ Sort.Class → isClass a ≡ true
-kind-class (reference x) e = let z : _≡_ {A = ℕ} 0 1 = cc in absurd (zero≢one z)
-kind-class (region x) e = let z : _≡_ {A = ℕ} 0 1 = cc in absurd (zero≢one z)
-kind-class (heap x) e = let z : _≡_ {A = ℕ} 0 1 = cc in absurd (zero≢one z)
-kind-class (field x) e = let z : _≡_ {A = ℕ} 0 1 = cc in absurd (zero≢one z)
-kind-class (class x) e = refl
+  pub as-region : (a : Value H) → kind a ≡ Sort.Region → a ≡ region (asRegion a)
+  as-region a = as-sort a Sort.Region
+
+  pub as-field : (a : Value H) → kind a ≡ Sort.Field → a ≡ field (asField a)
+  as-field a = as-sort a Sort.Field
+
+  pub kind-class : (a : Value H) → kind a ≡ Sort.Class → isClass a ≡ true
+  kind-class a e = ap isClass (as-sort a Sort.Class e)

@@ -7,7 +7,7 @@ use Prim.Native.Nat.{ℕ, suc}
 use lib.ListN.{take}
 use Rattle.tableau.specs.declared.Letter.{Letter}
 use Rattle.tableau.specs.Basics.{Four, bytes, sameBytes}
-use Rattle.tableau.specs.File.{Line, sameLetter, shape, split, LF}
+use Rattle.tableau.specs.File.{Line, sameLetter, shape, letters, split, LF}
 use Rattle.tableau.specs.Words.{Command, make, assume, infer, commandOf}
 use Rattle.tableau.specs.Terms.{Table, Literal, literal, at, written}
 use Rattle.tableau.specs.Meaning.{FiniteHeap, Values, AllTrue}
@@ -35,21 +35,21 @@ commandLiteral (some (make w)) n = []
 commandLiteral (some (assume R)) n = literal R (n .a) (n .b) ∷ []
 commandLiteral (some (infer x)) n = []
 
-abbrev pub lineTerm : Option Line → Table
+abbrev pub lineTerm : Option (Line Letter) → Table
 lineTerm none = []
 lineTerm (some l) = commandTerm (commandOf (l .letter) (l .word)) (l .fields)
 
-abbrev pub lineLiteral : Option Line → List Literal
+abbrev pub lineLiteral : Option (Line Letter) → List Literal
 lineLiteral none = []
 lineLiteral (some l) = commandLiteral (commandOf (l .letter) (l .word)) (l .fields)
 
 unfoldable pub termsIn : List (List ℕ) → Table
 termsIn [] = []
-termsIn (l ∷ ls) = lineTerm (shape l) ++ termsIn ls
+termsIn (l ∷ ls) = lineTerm (shape letters l) ++ termsIn ls
 
 unfoldable pub literalsIn : List (List ℕ) → List Literal
 literalsIn [] = []
-literalsIn (l ∷ ls) = lineLiteral (shape l) ++ literalsIn ls
+literalsIn (l ∷ ls) = lineLiteral (shape letters l) ++ literalsIn ls
 
 abbrev pub termsOf : List ℕ → Table
 termsOf file = termsIn (linesOf file)
@@ -81,17 +81,17 @@ unfoldable pub Demand3 : Checker → Type 0
 Demand3 checker = (file : List ℕ) → checker file .isYes ≡ true → NoHeap file
 
 -- THE FILE'S OWN COUNTS: lines by their first field, and `cls` and `emp` lines by their second.
-abbrev pub hasLetter : Letter → Option Line → Bool
+abbrev pub hasLetter : Letter → Option (Line Letter) → Bool
 hasLetter k none = false
 hasLetter k (some l) = sameLetter k (l .letter)
 
-abbrev pub closesBranch : Option Line → Bool
+abbrev pub closesBranch : Option (Line Letter) → Bool
 closesBranch none = false
 closesBranch (some l) = sameLetter Letter.S (l .letter) && (sameBytes (bytes "cls") (l .word) || sameBytes (bytes "emp") (l .word))
 
-unfoldable pub countIf : (Option Line → Bool) → List (List ℕ) → ℕ
+unfoldable pub countIf : (Option (Line Letter) → Bool) → List (List ℕ) → ℕ
 countIf f [] = 0
-countIf f (l ∷ ls) = elim (f (shape l)) [ true ↦ suc (countIf f ls) | false ↦ countIf f ls ]
+countIf f (l ∷ ls) = elim (f (shape letters l)) [ true ↦ suc (countIf f ls) | false ↦ countIf f ls ]
 
 -- "After a yes the number and line are 0", and the counts are the file's
 pub record FileCounts (file : List ℕ) (r : Reply) : Type 0 where

@@ -69,26 +69,27 @@ unfoldable pub number : List ℕ → Option ℕ
 number [] = none
 number (b ∷ bs) = guard (leb (length (b ∷ bs)) maxDigits && (not (eqb b 48) || eqb (length bs) 0)) (digits (b ∷ bs) 0)
 
-pub record Line : Type 0 where
-  pub letter : Letter
+-- a line of a file whose lines begin with letters of a kind L
+pub record Line (L : Type 0) : Type 0 where
+  pub letter : L
   pub word : List ℕ
   pub fields : Four ℕ
 
--- "Each line has six fields parted by five commas."
-unfoldable pub sixFields : List (List ℕ) → Option Line
-sixFields [] = none
-sixFields (k ∷ []) = none
-sixFields (k ∷ w ∷ []) = none
-sixFields (k ∷ w ∷ a ∷ []) = none
-sixFields (k ∷ w ∷ a ∷ b ∷ []) = none
-sixFields (k ∷ w ∷ a ∷ b ∷ c ∷ []) = none
-sixFields (k ∷ w ∷ a ∷ b ∷ c ∷ d ∷ []) =
-    then (lookup letters k) λ letter′.
+-- "Each line has six fields parted by five commas." The first is a letter by the test that the file's letters give.
+unfoldable pub sixFields : {L : Type 0} → (List ℕ → Option L) → List (List ℕ) → Option (Line L)
+sixFields first [] = none
+sixFields first (k ∷ []) = none
+sixFields first (k ∷ w ∷ []) = none
+sixFields first (k ∷ w ∷ a ∷ []) = none
+sixFields first (k ∷ w ∷ a ∷ b ∷ []) = none
+sixFields first (k ∷ w ∷ a ∷ b ∷ c ∷ []) = none
+sixFields first (k ∷ w ∷ a ∷ b ∷ c ∷ d ∷ []) =
+    then (first k) λ letter′.
     guard (isWord w)
     (then (number a) λ a′. then (number b) λ b′. then (number c) λ c′. then (number d) λ d′.
     some (record { letter = letter′; word = w; fields = four a′ b′ c′ d′ }))
-sixFields (k ∷ w ∷ a ∷ b ∷ c ∷ d ∷ e ∷ fs) = none
+sixFields first (k ∷ w ∷ a ∷ b ∷ c ∷ d ∷ e ∷ fs) = none
 
--- the fields of a line, its LF taken off
-abbrev pub shape : List ℕ → Option Line
-shape l = sixFields (split comma l)
+-- the fields of a line, its LF taken off, in a file with these letters
+abbrev pub shape : {L : Type 0} → List (Named L) → List ℕ → Option (Line L)
+shape known l = sixFields (lookup known) (split comma l)

@@ -92,6 +92,14 @@ and-left false b e = absurd (false≢true e)
 abbrev pub within : (H : FiniteHeap) → (Ref H → Bool) → Region H
 within H f = record { has = λ x. H .all x and f x; inside = λ x e. and-left (H .all x) (f x) e }
 
+-- the sort of a value
+abbrev pub kind : {H : FiniteHeap} → Value H → Sort
+kind (reference x) = Sort.Reference
+kind (region r) = Sort.Region
+kind (heap h) = Sort.Heap
+kind (field f) = Sort.Field
+kind (class c) = Sort.Class
+
 -- A value as one of a given sort. Of a value of another sort it is never asked, and the answer is `nul`, the empty region, the
 -- heap value that gives `nul` everywhere, or some field or class.
 module _ {H : FiniteHeap} where

@@ -11,7 +11,7 @@ use Rattle.tableau.specs.declared.Relation.{Relation}
 use Rattle.tableau.specs.declared.Rule.{Rule}
 use Rattle.tableau.specs.declared.Reason.{Reason}
 use Rattle.tableau.specs.Basics.{isSome, Four, every, bytes}
-use Rattle.tableau.specs.File.{Line, inOrder, shape, split, LF, comma, maxBytes}
+use Rattle.tableau.specs.File.{Line, letters, inOrder, shape, split, LF, comma, maxBytes}
 use Rattle.tableau.specs.Words.{Command, make, assume, infer, commandOf}
 use Rattle.tableau.specs.Fields.{Use, unused, place, name, side, term, of, wordFields, sides, ruleUses}
 use Rattle.tableau.specs.Terms.{TermNo, Table, Term, Literal, literal, at, numberOf, maxTerms, sortOf, sameSort, written, oneSort}
@@ -38,6 +38,8 @@ reasonNumber Reason.BranchFull = 15
 reasonNumber Reason.WaitingFull = 16
 reasonNumber Reason.BranchOpen = 17
 reasonNumber Reason.BufferLength = 18
+reasonNumber Reason.BadFact = 19
+reasonNumber Reason.NotAnOrder = 20
 
 -- The counts of a reply.
 pub record Counts : Type 0 where
@@ -168,13 +170,27 @@ runCommand σ l command n = do
   runOpen σ τ c n
 
 -- check 2, then the others
-unfoldable pub runRead : State → Option Line → Checked State
+unfoldable pub runRead : State → Option (Line Letter) → Checked State
 runRead σ read = do
   l ← requireSome read Reason.BadShape
   runCommand σ (l .letter) (commandOf (l .letter) (l .word)) (l .fields)
 
 abbrev pub runLine : State → List ℕ → Checked State
-runLine σ bs = runRead σ (shape bs)
+runLine σ bs = runRead σ (shape letters bs)
+
+-- THE LINES OF A FILE, one after the other: the first that is refused, with its number; or the state after all of them, and how many there are.
+pub data RunEnd (S : Type 0) : Type 0 where
+  stopped : Reason → ℕ → RunEnd S
+  ended : S → ℕ → RunEnd S
+
+-- the lines behind i others: each piece but the last was ended by an LF; a last piece that is not empty is a line with no LF (check 2)
+unfoldable pub runLines : {S : Type 0} → (S → List ℕ → Checked S) → List (List ℕ) → ℕ → Checked S → RunEnd S
+runLines run [] i (refused r) = stopped r i
+runLines run [] i (passed σ) = ended σ i
+runLines run (l ∷ ls) i (refused r) = stopped r i
+runLines run ([] ∷ []) i (passed σ) = ended σ i
+runLines run ((b ∷ bs) ∷ []) i (passed σ) = stopped Reason.BadShape (suc i)
+runLines run (l ∷ m ∷ ls) i (passed σ) = runLines run (m ∷ ls) (suc i) (run σ l)
 
 -- The verdict on a file: a yes with its counts, or the first bad line and the first check it breaks.
 pub data Verdict : Type 0 where
@@ -183,21 +199,16 @@ pub data Verdict : Type 0 where
 
 -- check 17: "input ends with a branch open; line is last line plus 1"
 abbrev pub atEnd : State → Status → ℕ → Verdict
-atEnd σ (isOpen τ) i = refuse Reason.BranchOpen i
+atEnd σ (isOpen τ) i = refuse Reason.BranchOpen (suc i)
 atEnd σ isClosed i = accept (σ .counts)
 
--- the lines from number i on: each piece but the last was ended by an LF; a last piece that is not empty is a line with no LF (check 2)
-unfoldable pub runLines : List (List ℕ) → ℕ → Checked State → Verdict
-runLines [] i (refused r) = refuse r i
-runLines [] i (passed σ) = atEnd σ (σ .status) i
-runLines (l ∷ ls) i (refused r) = refuse r i
-runLines ([] ∷ []) i (passed σ) = atEnd σ (σ .status) (suc i)
-runLines ((b ∷ bs) ∷ []) i (passed σ) = refuse Reason.BadShape (suc i)
-runLines (l ∷ m ∷ ls) i (passed σ) = runLines (m ∷ ls) (suc i) (runLine σ l)
+abbrev pub verdictOn : RunEnd State → Verdict
+verdictOn (stopped r i) = refuse r i
+verdictOn (ended σ i) = atEnd σ (σ .status) i
 
 -- check 1: "over 60,000 bytes; line 0, before any line"
 abbrev pub verdictIf : Bool → List ℕ → Verdict
-verdictIf true file = runLines (split LF file) 0 (passed start)
+verdictIf true file = verdictOn (runLines runLine (split LF file) 0 (passed start))
 verdictIf false file = refuse Reason.TooLong 0
 
 unfoldable pub verdict : List ℕ → Verdict

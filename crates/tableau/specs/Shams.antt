@@ -7,9 +7,9 @@ use Prim.Native.Nat.{ℕ}
 use lib.Dec.{eqb}
 use Rattle.tableau.specs.declared.Letter.{Letter}
 use Rattle.tableau.specs.declared.Reason.{Reason}
-use Rattle.tableau.specs.File.{Line, shape, split, LF}
+use Rattle.tableau.specs.File.{Line, shape, letters, split, LF}
 use Rattle.tableau.specs.Tree.{passed}
-use Rattle.tableau.specs.Reply.{Reply, Verdict, accept, refuse, reasonNumber, replyOf, reply, runLines, start}
+use Rattle.tableau.specs.Reply.{Reply, Verdict, accept, refuse, reasonNumber, replyOf, reply, runLine, runLines, verdictOn, start}
 use Rattle.tableau.specs.Claims.{Checker, Demand3, hasLetter, closesBranch, linesOf, countIf}
 use Rattle.tableau.specs.Cases.{fileOf, F}
 
@@ -29,17 +29,17 @@ yesToAll t a s c = λ file. yes′ t a s c
 
 -- "One that checks the first step, or the first alternative, and waves on the others": reads up to the first line of a kind, and says
 -- yes where nothing but an open branch stands against it
-unfoldable pub upToFirst : (Option Line → Bool) → List (List ℕ) → List (List ℕ)
+unfoldable pub upToFirst : (Option (Line Letter) → Bool) → List (List ℕ) → List (List ℕ)
 upToFirst f [] = []
-upToFirst f (l ∷ ls) = elim (f (shape l)) [ true ↦ l ∷ [] ∷ [] | false ↦ l ∷ upToFirst f ls ]
+upToFirst f (l ∷ ls) = elim (f (shape letters l)) [ true ↦ l ∷ [] ∷ [] | false ↦ l ∷ upToFirst f ls ]
 
 unfoldable pub waveOn : Verdict → Reply
 waveOn (accept c) = replyOf (accept c)
 waveOn (refuse r i) = cond (eqb (reasonNumber r) (reasonNumber Reason.BranchOpen)) (yes′ 0 0 0 0) (replyOf (refuse r i))
 
 -- (where there is no such line its reply is right)
-unfoldable pub firstOnly : (Option Line → Bool) → Checker
-firstOnly f file = elim (eqb (countIf f (linesOf file)) 0) [ true ↦ reply file | false ↦ waveOn (runLines (upToFirst f (split LF file)) 0 (passed start)) ]
+unfoldable pub firstOnly : (Option (Line Letter) → Bool) → Checker
+firstOnly f file = elim (eqb (countIf f (linesOf file)) 0) [ true ↦ reply file | false ↦ waveOn (verdictOn (runLines runLine (upToFirst f (split LF file)) 0 (passed start))) ]
 
 abbrev pub firstStepOnly : Checker
 firstStepOnly = firstOnly (hasLetter Letter.S)
@@ -48,7 +48,7 @@ abbrev pub firstAlternativeOnly : Checker
 firstAlternativeOnly = firstOnly closesBranch
 
 -- "One that invents step or closing counts": any checker with a count that is not the file's own, at a file that it or the rules accept
-pub record Invents (count : Reply → ℕ) (test : Option Line → Bool) (checker : Checker) (file : List ℕ) : Type 0 where
+pub record Invents (count : Reply → ℕ) (test : Option (Line Letter) → Bool) (checker : Checker) (file : List ℕ) : Type 0 where
   pub accepted : (checker file .isYes || reply file .isYes) ≡ true
   pub differs : ¬ (count (checker file) ≡ countIf test (linesOf file))
 

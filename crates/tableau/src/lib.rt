@@ -81,7 +81,7 @@ pub enum Rule {
     Emp,
 }
 
-// Why a file is refused, in the order of the refusal numbers 1 to 18.
+// Why a file is refused, in the order of the refusal numbers 1 to 20.
 pub enum Reason {
     TooLong,
     BadShape,
@@ -101,6 +101,8 @@ pub enum Reason {
     WaitingFull,
     BranchOpen,
     BufferLength,
+    BadFact,
+    NotAnOrder,
 }
 
 // "Places, term numbers and names are three separate kinds of count throughout": a place on the branch, the number of a term, the name of

@@ -1,16 +1,18 @@
--- The word tables of the specification, looked up by a packed word.
+-- The letters and the word tables of the specification, looked up by a byte and by a packed word.
 use mathlib.Core.Bool.{cond}
 use mathlib.Core.List.{List, [], _∷_}
 use mathlib.Core.Option.{Option, none, some}
 use mathlib.Core.Path.{_≡_}
 use Prim.Native.Nat.{ℕ, suc}
 use lib.Dec.{eqb}
-use Rattle.tableau.specs.Basics.{bytes, Named}
+use Rattle.tableau.specs.Basics.{bytes, Named, lookup}
+use Rattle.tableau.specs.File.{letters}
 use Rattle.tableau.specs.Words.{words, relations, ruleNames}
 use Rattle.tableau.specs.Fields.{wordFields, ruleUses}
 use Rattle.syntax.specs.Syntax.{maskOf}
 use Rattle.words.specs.declared.WordRow.{WordRow}
 use Rattle.words.specs.declared.RuleRow.{RuleRow}
+use Rattle.words.specs.declared.LetterFound.{LetterFound}
 use Rattle.words.specs.declared.WordFound.{WordFound}
 use Rattle.words.specs.declared.RelationFound.{RelationFound}
 use Rattle.words.specs.declared.RuleFound.{RuleFound}
@@ -28,7 +30,11 @@ WordFits row = row .used .0 ≡ maskOf (wordFields (row .word))
 abbrev pub RuleFits : RuleRow → Type 0
 RuleFits row = row .used .0 ≡ maskOf (ruleUses (row .rule))
 
--- what is found of a packed word is what the table has of it
+-- what is found of a letter's byte, and of a packed word, is what the table has of it
+abbrev pub LetterKnown : ℕ → LetterFound → Type 0
+LetterKnown b (LetterFound.Known l) = lookup letters (b ∷ []) ≡ some l
+LetterKnown b LetterFound.Unknown = lookup letters (b ∷ []) ≡ none
+
 abbrev pub WordKnown : ℕ → WordFound → Type 0
 WordKnown w (WordFound.Known row) = (lookupPacked words w ≡ some (row .word)) × WordFits row
 WordKnown w WordFound.Unknown = lookupPacked words w ≡ none

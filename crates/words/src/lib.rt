@@ -1,10 +1,11 @@
-// The words of T, A and S lines: what each stands for, and the fields that it uses. A letter's words stand in one fixed byte string, in
+// The letters of a checker file, and the words of T, A and S lines: what each stands for, and the fields that it uses. A letter's words stand in one fixed byte string, in
 // the order of its table.
 ghost use mathlib.Core.List.{[], _∷_};
 ghost use mathlib.Core.Path.{_≡_};
 ghost use Rattle.lines.specs.Lines.{packWord};
-ghost use Rattle.words.specs.Words.{wordsOf, indexOf, WordKnown, RelationKnown, RuleKnown};
+ghost use Rattle.words.specs.Words.{wordsOf, indexOf, LetterKnown, WordKnown, RelationKnown, RuleKnown};
 use syntax::Mask;
+use tableau::Letter;
 use tableau::Operator;
 use tableau::Relation;
 use tableau::Rule;
@@ -22,6 +23,11 @@ pub struct RuleRow {
     pub used: Mask,
 }
 
+pub enum LetterFound {
+    Known(Letter),
+    Unknown,
+}
+
 pub enum WordFound {
     Known(WordRow),
     Unknown,
@@ -35,6 +41,21 @@ pub enum RelationFound {
 pub enum RuleFound {
     Known(RuleRow),
     Unknown,
+}
+
+pub fn letter_of(letter: u8) -> LetterFound
+    ensures { λ r. ⌜ LetterKnown letter r ⌝ }
+{
+    if letter == b'T' {
+        return LetterFound::Known(Letter::T);
+    }
+    if letter == b'A' {
+        return LetterFound::Known(Letter::A);
+    }
+    if letter == b'S' {
+        return LetterFound::Known(Letter::S);
+    }
+    LetterFound::Unknown
 }
 
 // Each function below takes its tables before it searches: the compiler then keeps them as constants, but for WORDS, whose variants have a
@@ -168,7 +189,7 @@ fn pack(a: u8, b: u8, c: u8) -> usize
 }
 
 // The index of a packed word in a byte string of words: three bytes each, the third 0 in a word of two letters, and a space.
-fn search(word: usize, words: &[u8]) -> usize
+pub fn search(word: usize, words: &[u8]) -> usize
     ensures { λ r. ⌜ r ≡ indexOf word (wordsOf (now (words .entry))) ⌝ }
 {
     let mut n = 0;

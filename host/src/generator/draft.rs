@@ -303,7 +303,7 @@ impl Step {
     }
 }
 
-fn sort_of_word(word: &str) -> Sort {
+pub fn sort_of_word(word: &str) -> Sort {
     match word {
         "nul" | "rfv" | "rea" => Sort::Reference,
         "arv" | "wri" => Sort::Heap,

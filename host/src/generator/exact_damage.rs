@@ -112,7 +112,7 @@ fn misshapen(tableau: &Tableau, random: &mut Random) -> Damaged {
 }
 
 /// The line, LF and all, changed so that it has a bad shape.
-fn bad_shape(line: &str, random: &mut Random) -> String {
+pub fn bad_shape(line: &str, random: &mut Random) -> String {
     let mut fields: Vec<&str> = line.trim_end().split(',').collect();
     let field = 2 + random.below(4);
     let bad_number = random.pick(&[

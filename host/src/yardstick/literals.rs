@@ -37,6 +37,18 @@ pub fn right(literal: Literal) -> u32 {
 }
 
 #[inline(always)]
+pub fn relation(literal: Literal) -> Relation {
+    match literal >> RELATION {
+        0 => Relation::In,
+        1 => Relation::Ni,
+        2 => Relation::Eq,
+        3 => Relation::Ne,
+        4 => Relation::Le,
+        _ => Relation::Nl,
+    }
+}
+
+#[inline(always)]
 pub fn has_relation(literal: Literal, relation: Relation) -> bool {
     literal >> RELATION == relation as Literal
 }

@@ -63,6 +63,11 @@ const fn low_bits(count: u32) -> Packed {
 }
 
 #[inline(always)]
+pub fn head_of(packed: Packed) -> Head {
+    Head(packed & low_bits(HEAD_BITS))
+}
+
+#[inline(always)]
 pub fn has_head(packed: Packed, Head(head): Head) -> bool {
     packed & low_bits(HEAD_BITS) == head
 }

@@ -62,6 +62,17 @@ impl<'a> Reader<'a> {
         Ok(())
     }
 
+    /// Reads the next line of an evaluator's checker file, which counts as ended
+    /// before a line that begins as an S line does, whatever follows.
+    #[inline(always)]
+    pub fn read_before_steps(&mut self) -> Result<(), Refusal> {
+        if let Some(b"S,") = self.ahead() {
+            self.line.letter = None;
+            return Ok(());
+        }
+        self.read()
+    }
+
     /// The next bytes, if there are so many.
     #[inline(always)]
     fn ahead<const N: usize>(&self) -> Option<&'a [u8; N]> {
@@ -143,4 +154,12 @@ pub fn refused(letter: Option<u8>, word: u32, refusal: Refusal) -> Refusal {
     } else {
         Refusal::Shape
     }
+}
+
+/// The same of a line of a heap file, whose only letter is D: its word is
+/// judged as that of a line with a known letter.
+#[cold]
+pub fn refused_fact(letter: Option<u8>, word: u32, refusal: Refusal) -> Refusal {
+    let known = letter.filter(|letter| *letter == b'D').map(|_| b'T');
+    refused(known, word, refusal)
 }

@@ -22,6 +22,8 @@ pub enum Refusal {
     Waiting = 16,
     Open = 17,
     Buffer = 18,
+    Fact = 19,
+    ClassOrder = 20,
 }
 
 /// Refuses where a condition doesn't hold.

@@ -38,3 +38,10 @@ pub mod rule {
         LEA "lea", RDH "rdh", RDM "rdm", CLS "cls", EMP "emp",
     }
 }
+
+pub mod fact {
+    words! {
+        SIZ "siz", ALC "alc", TYP "typ", DTY "dty", SUB "sub",
+        RFV "rfv", FNV "fnv", CLV "clv", RGV "rgv", ARV "arv",
+    }
+}

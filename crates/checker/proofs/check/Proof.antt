@@ -1,10 +1,11 @@
 -- `check` meets its contract: check 1, then the lines.
-use mathlib.Core.Path.{refl, _∙_}
+use mathlib.Core.Path.{refl, _∙_, subst}
 use native.Mathlib.Omega.{arith}
 use Rattle.packing.specs.Packing.{unpackLiteral}
 use Rattle.terms.proofs.GrowthLaws.{held-empty}
 use Rattle.freshness.proofs.PrefixLaws.{prefix-zeros}
-use Rattle.checker.proofs.Whole.{too-long, short-enough}
+use Rattle.file_run.specs.Reached.{RunsTo}
+use Rattle.checker.proofs.Whole.{too-long, lines-stop, lines-end}
 use borrow.Author.Needs.{needs}
 use Rattle.checker.proofs.check.Statement.{statement}
 use Rattle.checker.proofs.check.Tie as tie
@@ -18,9 +19,19 @@ run-requires c κs =
     let t = c .before .before .before .before in
     ((held-empty, prefix-zeros 10010 refl), (t .empty .ensures .0, t .empty .ensures .1 unpackLiteral, omega arith))
 
--- the lines
+-- a line is refused
 returns-2 : tie.Need-returns-2
-returns-2 c = c .run .ensures .0 ∙ short-enough _ (omega arith)
+returns-2 c = lines-stop _ (omega arith) _ _ (subst (RunsTo _ _ _) (c .before .end .given .1) (c .before .before .before .run .ensures))
+
+-- all pass
+end-requires : tie.Need-end-requires
+end-requires c κs = subst (RunsTo _ _ _) (c .before .end2 .given .1) (c .before .before .before .run .ensures) .lines
+
+returns-3 : tie.Need-returns-3
+returns-3 c =
+    let k = c .before in
+    let short = k .before .before .before .before .before .before .before .before .before .if1 .left in
+    c .end3 .ensures ∙ lines-end _ (omega (arith, short)) (subst (RunsTo _ _ _) (k .before .end2 .given .1) (k .before .before .before .run .ensures))
 
 pub check-spec : {M : Type 1} → statement M
-check-spec = tie.close (tie.spec returns (λ c κs. search needs) run-requires returns-2)
+check-spec = tie.close (tie.spec returns (λ c κs. search needs) run-requires (λ c. search needs) (λ c. search needs) end-requires returns-2 returns-3)

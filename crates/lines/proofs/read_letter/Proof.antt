@@ -1,4 +1,4 @@
--- No letter; after the letter the comma, another byte.
+-- No capital; after the letter the comma, another byte.
 use borrow.Author.Needs.{needs}
 use Rattle.lines.proofs.FileSteps.{ahead-here}
 use Rattle.lines.proofs.Bytes.{comma-ahead, letter-read}
@@ -10,6 +10,6 @@ read-letter-spec =
     tie.close
     (tie.spec
     (λ c. search (needs, ahead-here))
-    (λ c κs. tt) (λ c. search needs) (λ c. search needs) (λ c. search letter-read)
+    (λ c. search letter-read) (λ c. search letter-read)
     (λ c. search needs) (λ c. search (needs, ahead-here, comma-ahead))
     (λ c. search needs) (λ c. search letter-read) (λ c. search letter-read))

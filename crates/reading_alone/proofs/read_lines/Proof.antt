@@ -7,7 +7,7 @@ use borrow.Author.Needs.{needs}
 use Rattle.lines.specs.declared.LineRead.{LineRead}
 use Rattle.lines.specs.Lines.{lineAt, LFAhead}
 use Rattle.lines.proofs.FileSteps.{ahead-here, no-line-behind}
-use Rattle.running.proofs.Lines.{line-here}
+use Rattle.running.proofs.Lines.{check-fields, line-here}
 use Rattle.reading_alone.specs.Reading.{orAllBits, readFile}
 use Rattle.reading_alone.proofs.Mixing.{mixedFrom, line-mixed, bad-mixed, end-mixed}
 use Rattle.reading_alone.proofs.read_lines.Statement.{statement}
@@ -36,7 +36,7 @@ is-line : (c : tie.After-known-told Inv-loop μ-loop)
 is-line c = sym (c .before .before .before .read-line .ensures) ∙ c .before .f .given .1
 
 loop-less : tie.Need-loop-less Inv-loop μ-loop
-loop-less c = let l = line-here _ _ _ (is-line (c .before)) in omega (arith, l .longer, l .inside)
+loop-less c = let l = line-here check-fields _ _ _ (is-line (c .before)) in omega (arith, l .longer, l .inside)
 
 loop-again : tie.Need-loop-again Inv-loop μ-loop
 loop-again c =

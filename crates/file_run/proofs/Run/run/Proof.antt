@@ -7,12 +7,11 @@ use Rattle.lines.specs.declared.LineRead.{LineRead}
 use Rattle.lines.specs.Lines.{lineAt, LFAhead}
 use Rattle.lines.proofs.FileSteps.{ahead-here, no-line-behind}
 use Rattle.terms.specs.Arrays.{arrays}
-use Rattle.reply.specs.Verdict.{verdictOf}
 use Rattle.line_checks.specs.Checks.{Ready}
 use Rattle.tree.specs.Change.{extentOf}
-use Rattle.running.proofs.Lines.{line-here}
+use Rattle.running.proofs.Lines.{check-fields, line-here}
 use Rattle.file_run.specs.Reached.{Reached}
-use Rattle.file_run.proofs.Reaching.{reached-start, stopped, ready, reached-bad, reached-end, reached-refused, fits, cut-branch, kept-stack, reached-more}
+use Rattle.file_run.proofs.Reaching.{reached-start, ready, reached-bad, reached-end, reached-refused, fits, cut-branch, kept-stack, reached-more}
 use borrow.Author.Needs.{needs}
 use Rattle.file_run.proofs.Run.run.Statement.{statement}
 use Rattle.file_run.proofs.Run.run.Tie as tie
@@ -44,7 +43,7 @@ returns : tie.Need-returns Inv-loop μ-loop
 returns c =
     let r = c .before .before .before in
     let R = r .before .before .loop .inv in
-    (ap verdictOf (c .ends-at-bad-shape .ensures .0) ∙ reached-bad R (ahead-here _ _ (ahead (r .before))) (sym (r .read-line .ensures) ∙ c .before .enum-told .given .1), stopped R (c .ends-at-bad-shape .ensures .1))
+    reached-bad R _ (c .ends-at-bad-shape .ensures .0) (ahead-here _ _ (ahead (r .before))) (sym (r .read-line .ensures) ∙ c .before .enum-told .given .1)
 
 -- the line that is read
 abbrev begun : tie.After-known-told Inv-loop μ-loop → tie.At-loop Inv-loop μ-loop
@@ -68,7 +67,7 @@ check-line-requires c κs =
     let k = told u in
     let R = begun k .loop .inv in
     let h = ahead-here _ _ (ahead (k .before .before .before .before)) in
-    ((R .table, R .held), (subst (Ready _) (extent-is u) (ready R h), R .within .branch, line-here _ _ _ (is-line k) .small))
+    ((R .table, R .held), (subst (Ready _) (extent-is u) (ready R h), R .within .branch, line-here check-fields _ _ _ (is-line k) .small .a))
 
 -- the other checks
 abbrev with : tie.After-check-line Inv-loop μ-loop → tie.After-self2 Inv-loop μ-loop
@@ -78,10 +77,8 @@ returns-2 : tie.Need-returns-2 Inv-loop μ-loop
 returns-2 c =
     let x = c .before .before .before .before in
     let k = told (with x) in
-    let R = begun k .loop .inv in (
-      ap verdictOf (c .ends .ensures .0) ∙ reached-refused R _ (is-line k) (extent-is (with x)) (x .check-line .ensures (R .table) (R .held) (R .rows)) (c .before .before .reason .given .1),
-      stopped R (c .ends .ensures .1),
-    )
+    let R = begun k .loop .inv in
+    reached-refused R _ (is-line k) (extent-is (with x)) (x .check-line .ensures (R .table) (R .held) (R .rows)) _ (c .ends .ensures .0) (c .before .before .reason .given .1)
 
 -- the line passed
 abbrev checked : tie.After-next Inv-loop μ-loop → tie.After-check-line Inv-loop μ-loop
@@ -109,7 +106,7 @@ push-requires c κs =
 
 loop-less : tie.Need-loop-less Inv-loop μ-loop
 loop-less c =
-    let l = line-here _ _ _ (is-line (told (with (checked (c .before .before .before .before .before .before .before .before .before))))) in
+    let l = line-here check-fields _ _ _ (is-line (told (with (checked (c .before .before .before .before .before .before .before .before .before))))) in
     omega (arith, l .longer, l .inside)
 
 loop-again : tie.Need-loop-again Inv-loop μ-loop
@@ -132,17 +129,13 @@ returns-3 c =
     let t = c .before in
     let l = t .before in
     let R = l .before .loop .inv in
-    (ap verdictOf (c .ends-at-bad-shape2 .ensures .0) ∙ reached-bad R (t .if1 .taken) (no-line-behind _ _ _ (l .before .before .lines-end .ensures) (l .loop-test .left)), stopped R (c .ends-at-bad-shape2 .ensures .1))
+    reached-bad R _ (c .ends-at-bad-shape2 .ensures .0) (t .if1 .taken) (no-line-behind _ _ _ (l .before .before .lines-end .ensures) (l .loop-test .left))
 
 -- the end of the file
-end-requires : tie.Need-end-requires Inv-loop μ-loop
-end-requires c κs = let R = c .before .before .loop .inv in omega (arith, R .lines, R .inside, R .short)
-
 returns-4 : tie.Need-returns-4 Inv-loop μ-loop
 returns-4 c =
-    let e = c .before .before in
-    let R = e .before .before .loop .inv in
-    (ap verdictOf (c .ends2 .ensures .0) ∙ c .before .end .ensures ∙ reached-end R (e .if1 .left), stopped R (c .ends2 .ensures .1))
+    let e = c .before in
+    reached-end (e .before .before .loop .inv) (c .ends2 .ensures .0) (c .ends2 .ensures .1) (e .if1 .left)
 
 pub run-spec : {M : Type 1} → statement M
 run-spec =
@@ -170,6 +163,5 @@ run-spec =
     loop-again
     bad-requires-2
     returns-3
-    end-requires
     (λ c κs. search needs)
     returns-4)

@@ -1,0 +1,15 @@
+-- What is proved of the evaluator's specification.
+pub mod Decision
+pub mod Pieces
+pub mod Begins
+pub mod FilesRead
+pub mod Passable
+pub mod FactLines
+pub mod Finding
+pub mod HeapSaid
+pub mod Evaluated
+pub mod StepPrefix
+pub mod Computed
+pub mod Loops
+pub mod Ordered
+pub mod FormatComplete

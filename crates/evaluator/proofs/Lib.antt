@@ -1,0 +1,6 @@
+pub mod AssumptionLaws
+pub mod Assumed
+pub mod ValueLaws
+pub mod TrialLaws
+pub mod FileLaws
+pub mod CallLaws

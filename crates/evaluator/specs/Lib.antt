@@ -1,0 +1,3 @@
+pub mod Assumptions
+pub mod Values
+pub mod Trial

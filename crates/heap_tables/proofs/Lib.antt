@@ -1,0 +1,4 @@
+pub mod ScanLaws
+pub mod TableLaws
+pub mod OrderLaws
+pub mod HeapLaws

@@ -1,9 +1,0 @@
--- What the contract of `read_input` cites. Assumes nothing.
-use Prim.Native.Nat.{ℕ, _≤_}
-use Rattle.tabcheck.specs.declared.Input.{Input}
-use Rattle.tabcheck.specs.declared.Input.the-variants.{Read, Failed}
-
--- a count of bytes that were read lies within the room that they were read into
-abbrev pub Fits : Input → ℕ → Type 0
-Fits (Read n) room = n ≤ room
-Fits Failed room = Unit {0}

@@ -1,0 +1,287 @@
+//! The pairs of files for the evaluators have what they are made for, all
+//! evaluators agree on them, and evaluators that are wrong are found.
+
+use std::collections::{BTreeMap, BTreeSet};
+
+use host::evaluators::evaluators;
+use host::generator::heaps::{pairs, Pair, WORDS};
+use host::yardstick::evaluator::evaluate;
+
+type Evaluator = fn(&[u8], &[u8]) -> [u32; 3];
+
+const PAIRS: usize = 20_000;
+const SEED: u64 = 20_040_406;
+/// Batches for what doesn't need all pairs; some are at the limits.
+const BATCHES: u64 = 300;
+
+/// The refusals that a checker file can get, and those of a heap file.
+const CHECKER_REFUSALS: [u32; 10] = [1, 2, 3, 4, 6, 7, 8, 9, 10, 15];
+const HEAP_REFUSALS: [u32; 7] = [1, 2, 3, 4, 6, 19, 20];
+
+fn some_pairs() -> impl Iterator<Item = Pair> {
+    (0..BATCHES).flat_map(|number| pairs(SEED, number))
+}
+
+fn show(pair: &Pair) -> String {
+    let [checker, heap] = [&pair.checker, &pair.heap].map(|file| String::from_utf8_lossy(file));
+    format!("{}, {:?}:\n{checker}\n{heap}", pair.kind, pair.expected)
+}
+
+/// Compares them with each other and with what is known. Gives the first pair
+/// on which one of them is wrong or differs from the first.
+fn compare(evaluators: &[(&str, Evaluator)], count: usize) -> Result<usize, Box<Pair>> {
+    let mut compared = 0;
+    for pair in (0..).flat_map(|number| pairs(SEED, number)) {
+        let reply = |evaluate: Evaluator| evaluate(&pair.checker, &pair.heap);
+        let first = reply(evaluators[0].1);
+        let same = evaluators.iter().all(|(_, other)| reply(*other) == first);
+        if !same || !pair.expected.allows(first) {
+            return Err(Box::new(pair));
+        }
+        compared += 1;
+        if compared == count {
+            break;
+        }
+    }
+    Ok(compared)
+}
+
+#[test]
+fn evaluators_agree() {
+    let evaluators = evaluators();
+    if let Err(pair) = compare(&evaluators, PAIRS) {
+        for (name, evaluate) in evaluators {
+            println!("{name}: {:?}", evaluate(&pair.checker, &pair.heap));
+        }
+        panic!("{}", show(&pair));
+    }
+}
+
+#[test]
+fn every_refusal_of_each_file_is_reached() {
+    let mut refusals: BTreeMap<(u32, u32), usize> = BTreeMap::new();
+    for pair in some_pairs() {
+        let [number, file, _] = evaluate(&pair.checker, &pair.heap);
+        *refusals.entry((file, number)).or_default() += 1;
+    }
+    println!("{refusals:?}");
+    let of_checker = CHECKER_REFUSALS.map(|number| (1, number));
+    let of_heap = HEAP_REFUSALS.map(|number| (2, number));
+    let expected = [&[(0, 0)][..], &of_checker, &of_heap].concat();
+    assert_eq!(refusals.keys().copied().collect::<Vec<_>>(), expected);
+    let rare = |refusal: &&(u32, u32)| refusals[refusal] < 3;
+    assert_eq!(expected.iter().find(rare), None);
+}
+
+#[test]
+fn all_are_true_often_and_any_line_is_the_first_false_one() {
+    let (mut all_true, mut false_lines, mut count) = (0, BTreeSet::new(), 0);
+    for pair in some_pairs() {
+        count += 1;
+        match evaluate(&pair.checker, &pair.heap) {
+            [0, _, 0] => all_true += 1,
+            [0, _, line] => {
+                false_lines.insert(assumptions_before(&pair.checker, line));
+            }
+            _ => {}
+        }
+    }
+    println!("{all_true} of {count} all true, false {false_lines:?}");
+    assert!(all_true >= count / 10);
+    assert!((0..13).all(|before| false_lines.contains(&before)));
+    assert!(false_lines.len() > 20 && false_lines.contains(&999));
+}
+
+/// How many A lines stand before a line.
+fn assumptions_before(checker: &[u8], line: u32) -> usize {
+    let lines = checker.split(|byte| *byte == b'\n');
+    let before = lines.take(line as usize - 1);
+    before.filter(|line| line.starts_with(b"A,")).count()
+}
+
+/// An accepted file and one that is refused, with heaps in which all is true
+/// and in which something is false.
+#[test]
+fn accepted_files_have_false_assumptions_and_others_may_not() {
+    let replies = |kind: &'static str| {
+        let pairs = some_pairs().filter(move |pair| pair.kind == kind);
+        pairs.map(|pair| evaluate(&pair.checker, &pair.heap))
+    };
+    assert!(replies("closed tableau").all(|reply| reply[0] == 0 && reply[2] != 0));
+    assert!(replies("other assumptions").any(|reply| reply == [0, 0, 0]));
+    assert!(replies("other assumptions").any(|reply| reply[0] == 0 && reply[2] != 0));
+}
+
+const TERM_WORDS: [&str; 17] = [
+    "nul", "rfv", "rea", "emp", "all", "rgv", "cup", "cap", "dif", "sin", "img", "arv", "wri",
+    "fnv", "clv", "typ", "dty",
+];
+const LITERAL_WORDS: [&str; 6] = ["in", "ni", "eq", "ne", "le", "nl"];
+
+/// Every word stands in a pair that gets no refusal.
+#[test]
+fn every_word_is_used() {
+    let mut starts = BTreeSet::new();
+    for pair in some_pairs() {
+        if evaluate(&pair.checker, &pair.heap)[0] == 0 {
+            let lines = [&pair.checker, &pair.heap].map(|file| file.split(|byte| *byte == b'\n'));
+            for line in lines.into_iter().flatten() {
+                let start: Vec<&[u8]> = line.splitn(3, |byte| *byte == b',').take(2).collect();
+                starts.insert(start.join(&b','));
+            }
+        }
+    }
+    for (letter, words) in [("T", &TERM_WORDS[..]), ("A", &LITERAL_WORDS), ("D", &WORDS)] {
+        for word in words {
+            let start = format!("{letter},{word}");
+            assert!(starts.contains(start.as_bytes()), "{start}");
+        }
+    }
+}
+
+#[test]
+fn all_sizes_from_one_to_the_limits_are_tried() {
+    let sizes: BTreeSet<String> = some_pairs()
+        .filter(|pair| evaluate(&pair.checker, &pair.heap)[0] == 0)
+        .filter_map(|pair| {
+            let text = String::from_utf8(pair.heap).ok()?;
+            text.lines().next().map(str::to_string)
+        })
+        .collect();
+    for wanted in ["D,siz,1,1,1,0", "D,siz,64,16,16,0"] {
+        assert!(sizes.contains(wanted), "{wanted}");
+    }
+    assert!(sizes.len() > 50, "{} different sizes", sizes.len());
+}
+
+/// A pair with every kind of line.
+const CHECKER: &[u8] = b"T,rfv,1,0,0,0\nT,rgv,2,0,0,0\nA,in,1,2,0,0\nS,cls,1,2,0,0\n";
+const HEAP: &[u8] = b"D,siz,12,2,2,0\nD,alc,1,0,0,0\nD,sub,0,1,0,0\nD,rgv,2,1,0,0\n\
+    D,rfv,1,1,0,0\nD,arv,1,11,1,10\n";
+
+/// Every byte of each file made every other, and every byte put in.
+#[test]
+fn evaluators_agree_whatever_the_byte() {
+    for_each_change(CHECKER, |checker| expect_agreement(checker, HEAP));
+    for_each_change(HEAP, |heap| expect_agreement(CHECKER, heap));
+}
+
+fn for_each_change(file: &[u8], expect: impl Fn(&[u8])) {
+    for position in 0..=file.len() {
+        let (before, after) = file.split_at(position);
+        let behind = after.get(1..).unwrap_or(&[]);
+        for byte in 0..=u8::MAX {
+            expect(&[before, &[byte], after].concat());
+            expect(&[before, &[byte], behind].concat());
+        }
+        expect(&[before, behind].concat());
+        expect(before);
+    }
+}
+
+fn expect_agreement(checker: &[u8], heap: &[u8]) {
+    let evaluators = evaluators();
+    let known = (evaluators[0].1)(checker, heap);
+    for (name, evaluate) in evaluators {
+        let [checker_text, heap_text] = [checker, heap].map(String::from_utf8_lossy);
+        let text = format!("{name}:\n{checker_text}\n{heap_text}");
+        assert_eq!(evaluate(checker, heap), known, "{text}");
+    }
+}
+
+// ---------------------------------------------------------------------------
+// Evaluators that are wrong
+// ---------------------------------------------------------------------------
+
+fn all_true(checker: &[u8], heap: &[u8]) -> [u32; 3] {
+    match evaluate(checker, heap) {
+        [0, ..] => [0, 0, 0],
+        refused => refused,
+    }
+}
+
+fn line_from_0(checker: &[u8], heap: &[u8]) -> [u32; 3] {
+    let [number, file, line] = evaluate(checker, heap);
+    [number, file, line.saturating_sub(1)]
+}
+
+fn place_for_line(checker: &[u8], heap: &[u8]) -> [u32; 3] {
+    match evaluate(checker, heap) {
+        [0, 0, line] if line > 0 => [0, 0, assumptions_before(checker, line) as u32 + 1],
+        reply => reply,
+    }
+}
+
+/// The heap file is read before the lines of the checker file.
+fn heap_first(checker: &[u8], heap: &[u8]) -> [u32; 3] {
+    match evaluate(b"", heap) {
+        [0, ..] => evaluate(checker, heap),
+        refused => refused,
+    }
+}
+
+/// The part before the first S line has to be too long.
+fn steps_not_counted(checker: &[u8], heap: &[u8]) -> [u32; 3] {
+    let lines = checker.split_inclusive(|byte| *byte == b'\n');
+    let before = lines.take_while(|line| !line.starts_with(b"S,"));
+    evaluate(&checker[..before.map(<[u8]>::len).sum()], heap)
+}
+
+fn stops_at_any_s(checker: &[u8], heap: &[u8]) -> [u32; 3] {
+    let lines = checker.split_inclusive(|byte| *byte == b'\n');
+    let before = lines.take_while(|line| !line.starts_with(b"S"));
+    match evaluate(checker, heap) {
+        [1, 1, 0] => [1, 1, 0],
+        _ => evaluate(&checker[..before.map(<[u8]>::len).sum()], heap),
+    }
+}
+
+/// Another heap file in place of one that is refused so.
+fn without_refusal(checker: &[u8], heap: &[u8], number: u32) -> [u32; 3] {
+    let reply = evaluate(checker, heap);
+    if reply[..2] != [number, 2] {
+        return reply;
+    }
+    let lines = heap.split_inclusive(|byte| *byte == b'\n');
+    let dropped = (reply[2] as usize).wrapping_sub(1);
+    let others = lines.enumerate().filter(|(index, _)| *index != dropped);
+    let rest: Vec<&[u8]> = others.map(|(_, line)| line).collect();
+    match reply[2] {
+        0 => [0, 0, 0],
+        _ => evaluate(checker, &rest.concat()),
+    }
+}
+
+fn any_fact(checker: &[u8], heap: &[u8]) -> [u32; 3] {
+    without_refusal(checker, heap, 19)
+}
+
+fn any_order(checker: &[u8], heap: &[u8]) -> [u32; 3] {
+    without_refusal(checker, heap, 20)
+}
+
+fn any_word(checker: &[u8], heap: &[u8]) -> [u32; 3] {
+    without_refusal(checker, heap, 4)
+}
+
+const WRONG: [(&str, Evaluator); 9] = [
+    ("true to all", all_true),
+    ("lines from 0", line_from_0),
+    ("the place for the line", place_for_line),
+    ("the heap file first", heap_first),
+    ("S lines not counted", steps_not_counted),
+    ("stops at S without a comma", stops_at_any_s),
+    ("bad D lines left out", any_fact),
+    ("any order of classes", any_order),
+    ("unknown words left out", any_word),
+];
+
+/// Alone against what is known, and beside the yardstick.
+#[test]
+fn wrong_evaluators_are_found() {
+    for wrong in WRONG {
+        assert!(compare(&[wrong], PAIRS).is_err(), "{}", wrong.0);
+        let both = [("yardstick", evaluate as Evaluator), wrong];
+        assert!(compare(&both, PAIRS).is_err(), "{}", wrong.0);
+    }
+}

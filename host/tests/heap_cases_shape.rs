@@ -1,0 +1,159 @@
+//! Checks the table of the evaluator's cases itself; no evaluator is run.
+
+mod heap_cases;
+
+use heap_cases::{all, Case};
+use std::collections::{BTreeSet, HashSet};
+
+const HEAP_WORDS: [&str; 10] = [
+    "siz", "alc", "typ", "dty", "sub", "rfv", "fnv", "clv", "rgv", "arv",
+];
+const LITERAL_WORDS: [&str; 6] = ["in", "ni", "eq", "ne", "le", "nl"];
+const TERM_WORDS: [&str; 17] = [
+    "nul", "rfv", "rea", "emp", "all", "rgv", "cup", "cap", "dif", "sin", "img", "arv", "wri",
+    "fnv", "clv", "typ", "dty",
+];
+
+/// Refusal number, file, line.
+fn numbers(case: &Case) -> [usize; 3] {
+    let mut numbers = Vec::new();
+    for text in case.reply.split(',') {
+        let number: usize = text.parse().expect(case.name);
+        assert_eq!(number.to_string(), text, "{}", case.name);
+        numbers.push(number);
+    }
+    numbers.try_into().expect(case.name)
+}
+
+/// The file that the reply speaks of; without a refusal the checker file.
+fn file_of(case: &Case) -> &[u8] {
+    match numbers(case)[1] {
+        2 => &case.heap,
+        _ => &case.checker,
+    }
+}
+
+/// A line of a file, from 1.
+fn line(file: &[u8], number: usize) -> Option<&[u8]> {
+    let index = number.checked_sub(1)?;
+    file.split_inclusive(|&byte| byte == b'\n').nth(index)
+}
+
+/// The word on the line that the reply gives, when its letter is this one.
+fn word_at(case: &Case, letter: &str) -> Option<String> {
+    let text = line(file_of(case), numbers(case)[2])?;
+    let rest = text.strip_prefix(letter.as_bytes())?.strip_prefix(b",")?;
+    let word = rest.split(|&byte| byte == b',').next()?;
+    Some(String::from_utf8_lossy(word).into_owned())
+}
+
+fn has(file: &[u8], start: &str) -> bool {
+    let mut lines = file.split(|&byte| byte == b'\n');
+    lines.any(|line| line.starts_with(start.as_bytes()))
+}
+
+/// The count that the documents give.
+#[test]
+fn there_are_684_pairs() {
+    assert_eq!(all().len(), 684);
+}
+
+#[test]
+fn names_are_unique() {
+    let mut names = HashSet::new();
+    for case in all() {
+        assert!(names.insert(case.name), "{}", case.name);
+    }
+}
+
+#[test]
+fn no_pair_is_there_with_two_replies() {
+    let mut pairs = HashSet::new();
+    let mut replies = HashSet::new();
+    for case in all() {
+        pairs.insert((case.checker.clone(), case.heap.clone()));
+        replies.insert((case.checker, case.heap, case.reply));
+    }
+    assert_eq!(pairs.len(), replies.len());
+}
+
+/// The numbers that each file can give, and each of them given.
+#[test]
+fn every_number_is_given_by_each_file() {
+    let mut given: [BTreeSet<usize>; 3] = Default::default();
+    for case in all() {
+        let [number, file, _] = numbers(&case);
+        given[file].insert(number);
+    }
+    let checker = [1, 2, 3, 4, 6, 7, 8, 9, 10, 15];
+    let heap = [1, 2, 3, 4, 6, 19, 20];
+    assert_eq!(given[0], BTreeSet::from([0]));
+    assert_eq!(given[1], BTreeSet::from(checker));
+    assert_eq!(given[2], BTreeSet::from(heap));
+}
+
+/// 1 and 20 have line 0, 3 for an empty heap file line 1, any other refusal a
+/// line of its file. Without a refusal it is 0 or an A line.
+#[test]
+fn lines_of_replies() {
+    for case in all() {
+        let [number, file, at] = numbers(&case);
+        assert_eq!(number == 1, file_of(&case).len() > 60_000, "{}", case.name);
+        if number == 1 || number == 20 {
+            assert_eq!(at, 0, "{}", case.name);
+        } else if file == 0 {
+            let a_line = word_at(&case, "A").is_some();
+            assert!(at == 0 || a_line, "{}", case.name);
+        } else if !(number == 3 && case.heap.is_empty()) {
+            let there = line(file_of(&case), at).is_some();
+            assert!(there, "{}", case.name);
+        }
+    }
+}
+
+#[test]
+fn every_literal_word_is_alone_and_true_and_false() {
+    for word in LITERAL_WORDS {
+        let mut truths = HashSet::new();
+        for case in all().iter().filter(|case| case.name.starts_with("truth")) {
+            if has(&case.checker, &format!("A,{word},")) {
+                truths.insert(numbers(case)[2] == 0);
+            }
+        }
+        assert_eq!(truths.len(), 2, "{word}");
+    }
+    for word in TERM_WORDS {
+        let truth = |case: &Case| case.name.starts_with("truth");
+        let used = |case: &Case| has(&case.checker, &format!("T,{word},"));
+        assert!(all().iter().any(|case| truth(case) && used(case)), "{word}");
+    }
+}
+
+/// Every word is used well where all holds and where something is false, is
+/// refused by 6 unless it uses all fields, and by 19.
+#[test]
+fn every_heap_word_is_used_and_refused() {
+    let mut expected = BTreeSet::new();
+    for word in HEAP_WORDS {
+        for number in [6, 19] {
+            expected.insert((word.to_string(), number));
+        }
+        let start = format!("D,{word},");
+        for wanted in [true, false] {
+            let good = |case: &Case| {
+                let [number, _, at] = numbers(case);
+                number == 0 && (at == 0) == wanted && has(&case.heap, &start)
+            };
+            assert!(all().iter().any(good), "{word} {wanted}");
+        }
+    }
+    expected.remove(&("arv".to_string(), 6));
+    let mut refused = BTreeSet::new();
+    for case in all() {
+        let [number, file, _] = numbers(&case);
+        if file == 2 && (number == 6 || number == 19) {
+            refused.insert((word_at(&case, "D").expect(case.name), number));
+        }
+    }
+    assert_eq!(refused, expected);
+}
