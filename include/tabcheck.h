@@ -4,9 +4,10 @@
  * The library is target/staticlib/libchecker.a, which `rt staticlib checker` makes, for x86-64 Linux.
  *
  * A file has at most 60,000 bytes. Each line has six fields parted by five commas, no quoting, ended by one LF. Field 1 is one of
- * the letters T, A, S. Field 2 is two or three small letters. Fields 3 to 6 are numbers of one to four digits, with no leading
- * zero unless the number is 0. T lines come first, then A, then S; any kind may be missing. A field that the word doesn't use
- * holds 0.
+ * the letters T, A, C, S. Field 2 is two or three small letters. Fields 3 to 6 are numbers of one to four digits, with no leading
+ * zero unless the number is 0. T lines come first, then A, then C, then S; any kind may be missing. A field that the word doesn't
+ * use holds 0. A C line holds a literal as an A line does, and then the number of its clause; of a clause at least one literal is
+ * assumed. The lines of a clause stand together, and clauses are numbered from 1 without gaps.
  */
 #ifndef TABCHECK_H
 #define TABCHECK_H
@@ -26,32 +27,36 @@ enum tabcheck_field {
     TABCHECK_REFUSAL = 0, /* refusal number; 0 after a yes */
     TABCHECK_LINE = 1,    /* line of the first bad line, from 1; 0 after a yes */
     TABCHECK_T_LINES = 2, /* T lines; 0 after a no */
-    TABCHECK_A_LINES = 3, /* A lines; 0 after a no */
+    TABCHECK_ASSUMED = 3, /* A lines plus clauses; 0 after a no */
     TABCHECK_S_LINES = 4, /* S lines; 0 after a no */
     TABCHECK_CLOSINGS = 5 /* closings (cls and emp lines); 0 after a no */
 };
 
-/* The refusal numbers. Checks on a line run in their order. */
+/* The name of number 3 before there were clauses. */
+#define TABCHECK_A_LINES TABCHECK_ASSUMED
+
+/* The refusal numbers; 19 and 20 are those of tabeval.h. Checks on a line run in their order. */
 enum tabcheck_refusal {
     TABCHECK_YES = 0,            /* not refused: the file is accepted */
     TABCHECK_TOO_LONG = 1,       /* over 60,000 bytes; line 0, before any line */
     TABCHECK_BAD_SHAPE = 2,      /* line not shaped as above, or no LF */
-    TABCHECK_LETTER_ORDER = 3,   /* T after A or S; A after S */
+    TABCHECK_LETTER_ORDER = 3,   /* T after A, C or S; A after C or S; C after S */
     TABCHECK_UNKNOWN_WORD = 4,   /* word not known for this letter */
     TABCHECK_TREE_CLOSED = 5,    /* S line when the tree is closed */
     TABCHECK_UNUSED_FIELD = 6,   /* unused field not 0 */
     TABCHECK_TOO_MANY_TERMS = 7, /* 601st term */
     TABCHECK_NO_SUCH_TERM = 8,   /* a term field names no term made so far, or a name is 0 */
-    TABCHECK_WRONG_SORT = 9,     /* wrong sort in T, A, cut or ler */
+    TABCHECK_WRONG_SORT = 9,     /* wrong sort in T, A, C, cut or ler */
     TABCHECK_TERM_REPEATED = 10, /* term already made */
-    TABCHECK_NO_SUCH_PLACE = 11, /* a place used is not on the branch */
+    TABCHECK_NO_SUCH_PLACE = 11, /* a place used is not on the branch, or cla on no clause */
     TABCHECK_NEED_NOT_MET = 12,  /* what the rule needs isn't so, freshness apart */
     TABCHECK_NOT_FRESH = 13,     /* w not fresh */
     TABCHECK_TERM_NOT_MADE = 14, /* a term to be added isn't in the table */
     TABCHECK_BRANCH_FULL = 15,   /* an A line or any alternative would pass 1,000 places */
     TABCHECK_WAITING_FULL = 16,  /* over 200 alternatives would wait */
     TABCHECK_BRANCH_OPEN = 17,   /* input ends with a branch open; line is last line plus 1 */
-    TABCHECK_BUFFER_LENGTH = 18  /* reply buffer not 24 bytes; returned by the call, nothing written, before 1 */
+    TABCHECK_BUFFER_LENGTH = 18, /* reply buffer not 24 bytes; returned by the call, nothing written, before 1 */
+    TABCHECK_BAD_CLAUSE = 21     /* clause number 0, or neither the last nor the next; a ninth literal in a clause; a 401st C line */
 };
 
 /*

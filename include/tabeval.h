@@ -29,15 +29,15 @@ extern "C" {
 enum tabeval_field {
     TABEVAL_REFUSAL = 0, /* refusal number; 0 without a refusal */
     TABEVAL_FILE = 1,    /* file that is refused: 1 checker, 2 heap; 0 without a refusal */
-    TABEVAL_LINE = 2     /* line of the refusal; without one, of the first false A line, 0 where all hold */
+    TABEVAL_LINE = 2     /* line of the refusal; without one, of the first false A line, else the last of the first false clause, 0 where all hold */
 };
 
 /*
  * The refusal numbers beside those of tabcheck.h. Of these the call gives TABCHECK_BUFFER_LENGTH, where the buffer has not 12 bytes;
- * of the checker file TABCHECK_TOO_LONG to TABCHECK_UNKNOWN_WORD, TABCHECK_UNUSED_FIELD to TABCHECK_TERM_REPEATED, and
- * TABCHECK_BRANCH_FULL; of the heap file TABCHECK_TOO_LONG, TABCHECK_BAD_SHAPE, TABCHECK_LETTER_ORDER (a first line that isn't siz,
- * none at all, with line 1, or a later siz), TABCHECK_UNKNOWN_WORD and TABCHECK_UNUSED_FIELD. The whole checker file is checked
- * first, then the lines of the heap file, each in the order of the numbers.
+ * of the checker file TABCHECK_TOO_LONG to TABCHECK_UNKNOWN_WORD, TABCHECK_UNUSED_FIELD to TABCHECK_TERM_REPEATED,
+ * TABCHECK_BRANCH_FULL and TABCHECK_BAD_CLAUSE; of the heap file TABCHECK_TOO_LONG, TABCHECK_BAD_SHAPE, TABCHECK_LETTER_ORDER (a
+ * first line that isn't siz, none at all, with line 1, or a later siz), TABCHECK_UNKNOWN_WORD and TABCHECK_UNUSED_FIELD. The whole
+ * checker file is checked first, then the lines of the heap file, each in the order of the numbers.
  */
 enum tabeval_refusal {
     TABEVAL_NONE = 0,         /* not refused: the line says whether all assumptions hold */
@@ -46,8 +46,9 @@ enum tabeval_refusal {
 };
 
 /*
- * Tries the heap that the heap_len bytes at heap say against the A lines of the file_len bytes at file, and writes the reply into the
- * buffer at reply. Returns the refusal number, 0 without a refusal, which is also the first of the three numbers.
+ * Tries the heap that the heap_len bytes at heap say against the A and C lines of the file_len bytes at file, and writes the reply
+ * into the buffer at reply. A clause is false where none of its literals is true. Returns the refusal number, 0 without a refusal,
+ * which is also the first of the three numbers.
  *
  * After any number but TABCHECK_BUFFER_LENGTH all 12 bytes are written, whatever they held. TABCHECK_BUFFER_LENGTH is returned where
  * reply_len is not TABEVAL_REPLY_BYTES, whatever the files, and then the buffer stays as it was.

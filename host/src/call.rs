@@ -35,8 +35,8 @@ pub fn tabcheck(file: &[u8], reply: &mut [u8]) -> u32 {
     unsafe { library::tabcheck(file.as_ptr(), file.len(), reply.as_mut_ptr(), reply.len()) }
 }
 
-/// The six numbers of the file's reply: refusal number, line, T lines, A lines,
-/// S lines, closings.
+/// The six numbers of the file's reply: refusal number, line, T lines, A lines
+/// plus clauses, S lines, closings.
 pub fn check(file: &[u8]) -> [u32; 6] {
     through_buffer(tabcheck, file)
 }
@@ -51,8 +51,8 @@ pub fn through_buffer(call: fn(&[u8], &mut [u8]) -> u32, file: &[u8]) -> [u32; 6
     numbers
 }
 
-/// Tries the heap that the heap file says against the checker file's A lines,
-/// and returns the refusal number, 0 without a refusal. The reply buffer gets
+/// Tries the heap that the heap file says against the checker file's A and C
+/// lines, and returns the refusal number, 0 without a refusal. The reply buffer gets
 /// the three numbers; one that has not `EVALUATION_BYTES` bytes stays as it is,
 /// and the number is 18.
 pub fn raw_evaluate(file: &[u8], heap: &[u8], reply: &mut [u8]) -> u32 {

@@ -7,8 +7,10 @@ use std::fmt;
 use crate::checkers::{Checker, Numbers};
 use crate::generator::{batch, Expected, Sample, FORMER_RULE, RULES};
 
-/// The refusals that a file can get; the last, 18, is about the buffer.
-pub const REFUSALS: std::ops::RangeInclusive<u32> = 1..=17;
+/// The refusals that a file can get.
+pub const REFUSALS: [u32; 18] = [
+    1, 2, 3, 4, 5, 6, 7, 8, 9, 10, 11, 12, 13, 14, 15, 16, 17, 21,
+];
 
 /// A file on which a checker is wrong, or two of them differ.
 #[derive(Debug)]
@@ -43,7 +45,7 @@ impl Summary {
     /// The refusals that no file got.
     pub fn refusals_missing(&self) -> Vec<u32> {
         let missing = |number: &u32| !self.refusals.contains_key(number);
-        REFUSALS.filter(missing).collect()
+        REFUSALS.into_iter().filter(missing).collect()
     }
 
     /// The rules among these of which no step got this refusal.
@@ -96,7 +98,7 @@ impl fmt::Display for Summary {
             let count = self.refusals.get(&number).unwrap_or(&0);
             write!(f, " {number}: {count}")?;
         }
-        for number in [4, 12, 13, 14] {
+        for number in [4, 11, 12, 13, 14] {
             write!(f, "\nsteps refused with {number}:")?;
             for ((rule, given), count) in &self.refused_steps {
                 if *given == number {

@@ -4,6 +4,9 @@
 //! makes pairs of files for the evaluators.
 
 mod builder;
+mod clause_damage;
+mod clause_limits;
+mod clauses;
 mod closable;
 mod damage;
 mod derivations;

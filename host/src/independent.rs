@@ -1,6 +1,7 @@
 //! A checker for closed tableaux, written from document 01 alone and for
 //! plainness only. Sentences in quotes are the document's. Its rule `fir` is
-//! struck.
+//! struck; clauses and the rule `cla` come from the request "Assumptions with
+//! an or in them".
 
 use LiteralWord::*;
 
@@ -12,6 +13,9 @@ const MOST_TERMS: usize = 600;
 const MOST_PLACES: usize = 1_000;
 /// "the rest wait, at most 200 alternatives over all."
 const MOST_WAITING: usize = 200;
+/// "with at most 8 literals each and 400 C lines"
+const MOST_LITERALS: usize = 8;
+const MOST_C_LINES: usize = 400;
 /// "a reply buffer of 24 bytes"
 const BUFFER_BYTES: usize = 24;
 
@@ -44,14 +48,15 @@ fn no(number: u32, line: u32) -> Reply {
     }
 }
 
-/// "After a yes the number and line are 0"
+/// "After a yes the number and line are 0". "The assumed count takes A lines
+/// plus clauses".
 fn yes(state: &State) -> Reply {
     Reply {
         yes: true,
         number: 0,
         line: 0,
         terms: state.terms.len() as u32,
-        assumptions: state.assumptions.len() as u32,
+        assumptions: (state.assumptions.len() + state.clauses.len()) as u32,
         steps: state.steps,
         closings: state.closings,
     }
@@ -126,14 +131,24 @@ fn closed_tree(file: &[u8]) -> Result<State, Refusal> {
     Ok(state)
 }
 
-/// The terms and the assumed literals, for one who wants no steps: "Reading of
-/// the checker file stops before the first line that begins `S,`."
-pub fn read_before_steps(file: &[u8]) -> Result<(Vec<Term>, Vec<Literal>), Refusal> {
+/// What a file assumes, and the terms that it speaks of.
+#[derive(Debug, Clone, PartialEq, Eq)]
+pub struct Assumed {
+    pub terms: Vec<Term>,
+    /// The literals of the A lines.
+    pub literals: Vec<Literal>,
+    /// The literals of each clause.
+    pub clauses: Vec<Vec<Literal>>,
+}
+
+/// What is assumed, for one who wants no steps: "Reading of the checker file
+/// stops before the first line that begins `S,`."
+pub fn read_before_steps(file: &[u8]) -> Result<Assumed, Refusal> {
     // "1 by its whole length, 17 never"
     check_length(file)?;
     let mut state = State::new();
     each_line(before_steps(file), |text| check_line(&mut state, text))?;
-    Ok((state.terms, state.assumptions))
+    Ok(state.assumed())
 }
 
 /// The bytes before the first line that begins `S,`; all, where none does.
@@ -178,9 +193,15 @@ pub fn each_line(
     Ok(line)
 }
 
-/// The terms and the assumed literals of a file whose T and A lines are good.
-/// What the S lines say is not looked at, only their shape and their order.
+/// The terms and the literals of the A lines, for one who wants no clauses.
 pub fn read(file: &[u8]) -> Option<(Vec<Term>, Vec<Literal>)> {
+    let assumed = read_assumed(file)?;
+    Some((assumed.terms, assumed.literals))
+}
+
+/// What a file assumes whose T, A and C lines are good. What the S lines say is
+/// not looked at, only their shape and their order.
+pub fn read_assumed(file: &[u8]) -> Option<Assumed> {
     if file.len() > MOST_BYTES {
         return None;
     }
@@ -193,11 +214,12 @@ pub fn read(file: &[u8]) -> Option<(Vec<Term>, Vec<Literal>)> {
         match line.letter {
             Letter::T => check_t(&mut state, &line).ok()?,
             Letter::A => check_a(&mut state, &line).ok()?,
+            Letter::C => check_c(&mut state, &line).ok()?,
             Letter::S => {}
         }
         rest = after;
     }
-    Some((state.terms, state.assumptions))
+    Some(state.assumed())
 }
 
 /// The bytes before the first LF and those after it.
@@ -218,15 +240,18 @@ fn check_line(state: &mut State, text: &[u8]) -> Result<(), u32> {
     match line.letter {
         Letter::T => check_t(state, &line),
         Letter::A => check_a(state, &line),
+        Letter::C => check_c(state, &line),
         Letter::S => check_s(state, &line),
     }
 }
 
-/// 3: "T after A or S; A after S"
+/// 3: "T after A or S; A after S". "Admit C lines between A and S", "letters out
+/// of order get 3".
 fn check_order(state: &mut State, letter: Letter) -> Result<(), u32> {
     let bad = match letter {
-        Letter::T => state.seen_a || state.seen_s,
-        Letter::A => state.seen_s,
+        Letter::T => state.seen_a || state.seen_c || state.seen_s,
+        Letter::A => state.seen_c || state.seen_s,
+        Letter::C => state.seen_s,
         Letter::S => false,
     };
     if bad {
@@ -235,6 +260,7 @@ fn check_order(state: &mut State, letter: Letter) -> Result<(), u32> {
     match letter {
         Letter::T => {}
         Letter::A => state.seen_a = true,
+        Letter::C => state.seen_c = true,
         Letter::S => state.seen_s = true,
     }
     Ok(())
@@ -248,6 +274,7 @@ fn check_order(state: &mut State, letter: Letter) -> Result<(), u32> {
 enum Letter {
     T,
     A,
+    C,
     S,
 }
 
@@ -258,7 +285,7 @@ struct Line<'a> {
     numbers: [u32; 4],
 }
 
-/// The text before the LF, as a T, A or S line.
+/// The text before the LF, as a T, A, C or S line.
 fn shape(text: &[u8]) -> Option<Line<'_>> {
     let fields = six_fields(text)?;
     Some(Line {
@@ -294,11 +321,12 @@ pub fn six_fields(text: &[u8]) -> Option<Fields<'_>> {
     })
 }
 
-/// "Field 1 is one of the letters T, A, S."
+/// "Field 1 is one of the letters T, A, S." C is admitted beside them.
 fn shape_letter(field: &[u8]) -> Option<Letter> {
     match field {
         b"T" => Some(Letter::T),
         b"A" => Some(Letter::A),
+        b"C" => Some(Letter::C),
         b"S" => Some(Letter::S),
         _ => None,
     }
@@ -552,26 +580,35 @@ fn sorts_fit(state: &State, literal: &Literal) -> bool {
     }
 }
 
-fn check_a(state: &mut State, line: &Line) -> Result<(), u32> {
+/// The literal on an A or C line: its word in field 2, its terms in fields 3
+/// and 4. The fields that are left over by the letter come along.
+fn check_literal(state: &State, line: &Line, unused: &[u32]) -> Result<Literal, u32> {
     // 4: "word not known for this letter"
     let Some(word) = literal_word(line.word) else {
         return Err(4);
     };
     // "T and A lines hold their arguments from field 3 on, in the order given."
-    let [left, right, field5, field6] = line.numbers;
+    let [left, right, _, _] = line.numbers;
     // 6: "unused field not 0"
-    if !all_zero(&[field5, field6]) {
+    if !all_zero(unused) {
         return Err(6);
     }
     // 8: "a term field names no term made so far"
     if state.term(left).is_none() || state.term(right).is_none() {
         return Err(8);
     }
-    // 9: "wrong sort in T, A"
+    // 9: "wrong sort in T, A". "C lines meet 8 and 9 too".
     let literal = Literal { word, left, right };
     if !sorts_fit(state, &literal) {
         return Err(9);
     }
+    Ok(literal)
+}
+
+fn check_a(state: &mut State, line: &Line) -> Result<(), u32> {
+    let [_, _, field5, field6] = line.numbers;
+    // 4, 6, 8, 9
+    let literal = check_literal(state, line, &[field5, field6])?;
     // 15: "an A line or any alternative would pass 1,000 places"
     if state.branch.len() + 1 > MOST_PLACES {
         return Err(15);
@@ -579,6 +616,32 @@ fn check_a(state: &mut State, line: &Line) -> Result<(), u32> {
     // "Each takes the next place on the branch, counted from 1."
     state.assumptions.push(literal);
     state.branch.push(literal);
+    Ok(())
+}
+
+/// "Admit C lines between A and S: word, two terms, clause number, 0."
+fn check_c(state: &mut State, line: &Line) -> Result<(), u32> {
+    let [_, _, number, field6] = line.numbers;
+    // 4, 6, 8, 9
+    let literal = check_literal(state, line, &[field6])?;
+    // 21: "checked after 9, is clause number 0 or one neither the last nor the
+    // next, a ninth literal, or a 401st C line"
+    let last = state.clauses.len() as u32;
+    let next = last + 1;
+    if number == 0 || (number != last && number != next) {
+        return Err(21);
+    }
+    if number == last && state.clauses[last as usize - 1].len() >= MOST_LITERALS {
+        return Err(21);
+    }
+    if state.c_lines() >= MOST_C_LINES {
+        return Err(21);
+    }
+    // "They take no place."
+    if number == next {
+        state.clauses.push(Vec::new());
+    }
+    state.clauses[number as usize - 1].push(literal);
     Ok(())
 }
 
@@ -594,10 +657,13 @@ struct Waiting {
 
 struct State {
     seen_a: bool,
+    seen_c: bool,
     seen_s: bool,
     /// Term number n stands at index n - 1.
     terms: Vec<Term>,
     assumptions: Vec<Literal>,
+    /// Clause number n stands at index n - 1.
+    clauses: Vec<Vec<Literal>>,
     /// Place n stands at index n - 1.
     branch: Vec<Literal>,
     /// The alternative to be taken next stands last.
@@ -612,15 +678,30 @@ impl State {
     fn new() -> State {
         State {
             seen_a: false,
+            seen_c: false,
             seen_s: false,
             terms: Vec::new(),
             assumptions: Vec::new(),
+            clauses: Vec::new(),
             branch: Vec::new(),
             waiting: Vec::new(),
             closed: false,
             steps: 0,
             closings: 0,
         }
+    }
+
+    fn assumed(self) -> Assumed {
+        Assumed {
+            terms: self.terms,
+            literals: self.assumptions,
+            clauses: self.clauses,
+        }
+    }
+
+    /// How many C lines there are so far.
+    fn c_lines(&self) -> usize {
+        self.clauses.iter().map(Vec::len).sum()
     }
 
     fn term(&self, number: u32) -> Option<&Term> {
@@ -639,6 +720,11 @@ impl State {
     fn literal(&self, place: u32) -> Option<Literal> {
         let index = (place as usize).checked_sub(1)?;
         self.branch.get(index).copied()
+    }
+
+    fn clause(&self, number: u32) -> Option<&[Literal]> {
+        let index = (number as usize).checked_sub(1)?;
+        self.clauses.get(index).map(Vec::as_slice)
     }
 
     /// The number of the term with this word and these arguments, if it stands
@@ -705,13 +791,15 @@ impl State {
     }
 
     /// "Fresh" means an `rfv` term that occurs in no literal now on the
-    /// branch, not even inside a larger term.
+    /// branch, not even inside a larger term. "A fresh w must also be absent
+    /// from every clause, split or not."
     fn fresh(&self, number: u32) -> bool {
         if self.arguments(number, TermWord::Rfv).is_none() {
             return false;
         }
         let holding = self.terms_holding(number);
-        for literal in &self.branch {
+        let in_clauses = self.clauses.iter().flatten();
+        for literal in self.branch.iter().chain(in_clauses) {
             if holding.contains(&literal.left) || holding.contains(&literal.right) {
                 return false;
             }
@@ -775,6 +863,7 @@ enum Rule {
     Rdm,
     Cls,
     Emp,
+    Cla,
 }
 
 fn rule_of_word(word: &[u8]) -> Option<Rule> {
@@ -808,12 +897,13 @@ fn rule_of_word(word: &[u8]) -> Option<Rule> {
         b"rdm" => Some(Rule::Rdm),
         b"cls" => Some(Rule::Cls),
         b"emp" => Some(Rule::Emp),
+        b"cla" => Some(Rule::Cla),
         _ => None,
     }
 }
 
 /// The column "Uses": "Which fields each rule uses is one fixed table", of
-/// twenty-nine rows without `fir`.
+/// thirty rows without `fir` and with `cla`.
 fn uses(rule: Rule) -> &'static str {
     match rule {
         Rule::Eqr => "pq",
@@ -845,6 +935,7 @@ fn uses(rule: Rule) -> &'static str {
         Rule::Rdm => "t",
         Rule::Cls => "pq",
         Rule::Emp => "p",
+        Rule::Cla => "t",
     }
 }
 
@@ -868,9 +959,10 @@ impl Step {
         uses(self.rule).contains(field)
     }
 
-    /// "The t of `rep` is a side", so it is no term field.
+    /// "The t of `rep` is a side", so it is no term field; that of `cla` is a
+    /// clause number.
     fn t_is_term(&self) -> bool {
-        self.uses('t') && self.rule != Rule::Rep
+        self.uses('t') && self.rule != Rule::Rep && self.rule != Rule::Cla
     }
 }
 
@@ -969,8 +1061,11 @@ fn check_sorts(state: &State, step: &Step) -> Result<(), u32> {
     Ok(())
 }
 
-/// 11: "a place used is not on the branch"
+/// 11: "a place used is not on the branch". "a `cla` on no clause gets 11"
 fn check_places(state: &State, step: &Step) -> Result<(), u32> {
+    if step.rule == Rule::Cla && state.clause(step.t).is_none() {
+        return Err(11);
+    }
     if step.uses('p') && state.literal(step.p).is_none() {
         return Err(11);
     }
@@ -1044,7 +1139,7 @@ fn close(state: &mut State) {
 }
 
 // ---------------------------------------------------------------------------
-// The twenty-nine rules
+// The thirty rules
 // ---------------------------------------------------------------------------
 
 /// What a step adds, or `None` when what its rule needs is not so. Freshness
@@ -1081,6 +1176,7 @@ fn conclude(state: &State, step: &Step) -> Option<Conclusion> {
         Rule::Rdm => rdm(state, t),
         Rule::Cls => cls(state, p, q),
         Rule::Emp => emp(state, p),
+        Rule::Cla => cla(state, t),
     }
 }
 
@@ -1393,4 +1489,14 @@ fn emp(state: &State, p: u32) -> Option<Conclusion> {
     let (_, region) = state.sides(p, In)?;
     state.arguments(region, TermWord::Emp)?;
     Some(Conclusion::Closes)
+}
+
+/// "Rule `cla` names a clause number in t and splits into its literals in
+/// order." A single literal is a single alternative, and nothing waits.
+fn cla(state: &State, t: u32) -> Option<Conclusion> {
+    let mut alternatives = Vec::new();
+    for literal in state.clause(t)? {
+        alternatives.push(vec![lit(literal.left, literal.word, literal.right)]);
+    }
+    splits(alternatives)
 }

@@ -1,12 +1,12 @@
 //! An evaluator of assumptions in a heap, written from document 01 and from the
-//! request "Try a heap against the assumptions" alone, for plainness only.
-//! Sentences in quotes are theirs.
+//! requests "Try a heap against the assumptions" and "Assumptions with an or in
+//! them" alone, for plainness only. Sentences in quotes are theirs.
 
 use std::collections::BTreeSet;
 
 use crate::independent::{all_zero, check_length, each_line, read_before_steps, six_fields};
-use crate::independent::{Literal, Refusal, Term, TermWord};
-use crate::meaning::{literal_true, values_of_terms, variables_of};
+use crate::independent::{Assumed, Refusal, TermWord};
+use crate::meaning::{clause_true, literal_true, values_of_terms, variables_of};
 use crate::meaning::{Heap, Value, Values, Variable};
 
 /// "`D,siz` [..] gives references, fields, classes (1 to 64, 16, 16)"
@@ -23,8 +23,8 @@ const MOST_CLASSES: u32 = 16;
 /// bytes get one reply.
 pub fn evaluate(checker: &[u8], heap: &[u8]) -> [u32; 3] {
     // "The checker file's T and A lines are checked first, as by the checker
-    // (1 by its whole length, 17 never), then the heap file"
-    let (terms, literals) = match read_before_steps(checker) {
+    // (1 by its whole length, 17 never), then the heap file"; C lines with them.
+    let assumed = match read_before_steps(checker) {
         Ok(assumed) => assumed,
         Err((number, line)) => return [number, 1, line],
     };
@@ -32,20 +32,29 @@ pub fn evaluate(checker: &[u8], heap: &[u8]) -> [u32; 3] {
         Ok(said) => said,
         Err((number, line)) => return [number, 2, line],
     };
-    [0, 0, first_false_line(&terms, &literals, &said)]
+    [0, 0, first_false_line(&assumed, &said)]
 }
 
-/// The line of the first A line that is false, 0 where all hold.
-fn first_false_line(terms: &[Term], literals: &[Literal], said: &Said) -> u32 {
+/// The line of the first A line that is false. "Where no A line is false, the
+/// heap evaluator reports the last line of the first clause with no true
+/// literal", and 0 where all hold.
+fn first_false_line(assumed: &Assumed, said: &Said) -> u32 {
+    let terms = &assumed.terms;
     let heap = said.heap();
     let values = said.values(&variables_of(terms));
     let known = values_of_terms(terms, &heap, &values).expect("every term has a value");
-    // The lines read are the T lines and then the A lines.
-    let mut line = terms.len() as u32;
-    for literal in literals {
+    // The lines read are the T lines, then the A lines, then the C lines.
+    let mut line = terms.len();
+    for literal in &assumed.literals {
         line += 1;
         if !literal_true(literal, &known, &heap).expect("every literal is true or false") {
-            return line;
+            return line as u32;
+        }
+    }
+    for clause in &assumed.clauses {
+        line += clause.len();
+        if !clause_true(clause, &known, &heap).expect("every literal is true or false") {
+            return line as u32;
         }
     }
     0

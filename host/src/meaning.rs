@@ -1,10 +1,11 @@
 //! "Meaning" of document 01 for small concrete heaps. Sentences in quotes are
-//! the document's. Its clause that some reference is allocated is struck.
+//! the document's. Its clause that some reference is allocated is struck; what
+//! clauses mean comes from the request "Assumptions with an or in them".
 
 use std::collections::BTreeSet;
 
-use crate::independent::{read, sort_of_word, takes_name};
-use crate::independent::{Literal, LiteralWord, Sort, Term, TermWord};
+use crate::independent::{read_assumed, sort_of_word, takes_name};
+use crate::independent::{Assumed, Literal, LiteralWord, Sort, Term, TermWord};
 
 /// "A finite heap has a finite set of references with `nul` in it, non-empty
 /// finite sets of fields and classes, and a partial order `le` on classes."
@@ -177,8 +178,8 @@ impl Values {
 
 /// The variables on the T lines of a well formed file, in their order.
 pub fn variables(file: &[u8]) -> Option<Vec<Variable>> {
-    let (terms, _) = read(file)?;
-    Some(variables_of(&terms))
+    let assumed = read_assumed(file)?;
+    Some(variables_of(&assumed.terms))
 }
 
 /// The variables among the terms of a table, in their order.
@@ -401,27 +402,49 @@ fn is_below(known: &[Value], heap: &Heap, left: u32, right: u32) -> Option<bool>
     heap.le(a, b)
 }
 
-/// Whether all assumed literals are true. `None` when the question makes no
-/// sense: the T and A lines are not well formed, the heap is no finite heap, a
-/// value does not fit, or a variable has none.
-pub fn assumptions(file: &[u8], heap: &Heap, values: &Values) -> Option<bool> {
-    let (terms, literals) = read(file)?;
-    if !heap.is_finite_heap() || !values.fit(heap) {
-        return None;
+/// Whether at least one literal of a clause is true.
+pub fn clause_true(clause: &[Literal], known: &[Value], heap: &Heap) -> Option<bool> {
+    let mut one_true = false;
+    for literal in clause {
+        if literal_true(literal, known, heap)? {
+            one_true = true;
+        }
     }
-    let known = values_of_terms(&terms, heap, values)?;
+    Some(one_true)
+}
+
+/// Whether "all A lines and at least one literal of every clause" are true, when
+/// the values of all terms are known.
+pub fn assumed_true(assumed: &Assumed, known: &[Value], heap: &Heap) -> Option<bool> {
     // "where a file assumes nothing, all that it assumes counts as true"
     let mut all_true = true;
-    for literal in &literals {
-        if !literal_true(literal, &known, heap)? {
+    for literal in &assumed.literals {
+        if !literal_true(literal, known, heap)? {
+            all_true = false;
+        }
+    }
+    for clause in &assumed.clauses {
+        if !clause_true(clause, known, heap)? {
             all_true = false;
         }
     }
     Some(all_true)
 }
 
-/// Whether all assumed literals of a well formed file are true. False also
-/// where `assumptions` gives no answer.
+/// Whether all that a file assumes is true. `None` when the question makes no
+/// sense: the T, A and C lines are not well formed, the heap is no finite heap,
+/// a value does not fit, or a variable has none.
+pub fn assumptions(file: &[u8], heap: &Heap, values: &Values) -> Option<bool> {
+    let assumed = read_assumed(file)?;
+    if !heap.is_finite_heap() || !values.fit(heap) {
+        return None;
+    }
+    let known = values_of_terms(&assumed.terms, heap, values)?;
+    assumed_true(&assumed, &known, heap)
+}
+
+/// Whether all that a well formed file assumes is true. False also where
+/// `assumptions` gives no answer.
 pub fn assumptions_true(file: &[u8], heap: &Heap, values: &Values) -> bool {
     assumptions(file, heap, values) == Some(true)
 }

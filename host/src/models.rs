@@ -1,9 +1,10 @@
-//! Looks for small finite heaps that make all assumptions of a file true.
+//! Looks for small finite heaps that make all assumptions of a file true, its A
+//! lines and its clauses.
 
 use std::collections::BTreeSet;
 
-use crate::independent::{read, takes_name, Literal, Term, TermWord};
-use crate::meaning::{literal_true, values_of_terms, Heap, Value, Values, Variable};
+use crate::independent::{read_assumed, takes_name, Assumed, TermWord};
+use crate::meaning::{assumed_true, values_of_terms, Heap, Value, Values, Variable};
 use crate::random::Random;
 
 /// Where the numbers come from that a heap and values are made of.
@@ -75,15 +76,14 @@ pub struct Search {
 
 /// The terms and assumptions of a file.
 pub struct Question {
-    terms: Vec<Term>,
-    assumptions: Vec<Literal>,
+    assumed: Assumed,
 }
 
 impl Question {
-    /// `None` when the T and A lines are not well formed.
+    /// `None` when the T, A and C lines are not well formed.
     pub fn of_file(file: &[u8]) -> Option<Question> {
-        let (terms, assumptions) = read(file)?;
-        Some(Question { terms, assumptions })
+        let assumed = read_assumed(file)?;
+        Some(Question { assumed })
     }
 
     /// Of so many heaps and values at random, those that are a model.
@@ -158,15 +158,13 @@ impl Question {
 
     /// Whether all assumptions are true in this heap, with these values.
     pub fn holds(&self, heap: &Heap, values: &Values) -> bool {
-        let known = values_of_terms(&self.terms, heap, values).expect("terms have values");
-        self.assumptions.iter().all(|literal| {
-            literal_true(literal, &known, heap).expect("assumptions are true or false")
-        })
+        let known = values_of_terms(&self.assumed.terms, heap, values).expect("terms have values");
+        assumed_true(&self.assumed, &known, heap).expect("assumptions are true or false")
     }
 
     fn values(&self, heap: &Heap, choices: &mut impl Choices) -> Values {
         let mut given = Vec::new();
-        for term in &self.terms {
+        for term in &self.assumed.terms {
             if takes_name(term.word) {
                 let variable = Variable {
                     word: term.word,

@@ -1,5 +1,5 @@
 //! The claim about accepted files, tried on small ones: no finite heap makes
-//! all their assumptions true.
+//! all their assumptions true, every A line and a literal of every clause.
 
 use std::collections::BTreeSet;
 use std::fmt;
@@ -23,6 +23,8 @@ pub struct Trials {
     pub accepted: usize,
     /// Damaged files that a checker accepts all the same.
     pub damaged_accepted: usize,
+    /// Accepted files that assume a clause.
+    pub with_clauses: usize,
     /// Refused files with one assumption left out or denied.
     pub changed: usize,
     /// Those of them with a model.
@@ -39,9 +41,9 @@ impl fmt::Display for Trials {
     fn fmt(&self, f: &mut fmt::Formatter) -> fmt::Result {
         writeln!(
             f,
-            "no model of {} accepted and {} damaged but accepted files in {} heaps; \
-             all smallest heaps tried on {}",
-            self.accepted, self.damaged_accepted, self.heaps, self.complete
+            "no model of {} accepted and {} damaged but accepted files, {} with clauses, in {} \
+             heaps; all smallest heaps tried on {}",
+            self.accepted, self.damaged_accepted, self.with_clauses, self.heaps, self.complete
         )?;
         writeln!(
             f,
@@ -97,6 +99,11 @@ fn try_tableau(
     Ok(())
 }
 
+fn has_clause(file: &[u8]) -> bool {
+    let mut lines = file.split(|byte| *byte == b'\n');
+    lines.any(|line| line.starts_with(b"C,"))
+}
+
 fn first_lines(file: &[u8], count: usize) -> &[u8] {
     let lines = file.split_inclusive(|byte| *byte == b'\n').take(count);
     &file[..lines.map(<[u8]>::len).sum()]
@@ -108,6 +115,7 @@ fn refute_model(file: &[u8], random: &mut Random, trials: &mut Trials) -> Result
         Some(search) if search.found == 0 => {
             trials.heaps += search.tried;
             trials.complete += usize::from(search.complete);
+            trials.with_clauses += usize::from(has_clause(file));
             Ok(())
         }
         _ => Err(file.to_vec()),

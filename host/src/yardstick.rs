@@ -3,6 +3,7 @@
 //! a literal into a number each, and changes the tree in place. `evaluator` is
 //! the yardstick of the evaluator, with the same reader and table.
 
+mod clauses;
 pub mod evaluator;
 mod literals;
 mod mentions;
@@ -34,7 +35,7 @@ pub fn call(file: &[u8], reply: &mut [u8]) -> u32 {
     numbers[0]
 }
 
-/// Number, line, T lines, A lines, S lines, closings.
+/// Number, line, T lines, assumptions, S lines, closings.
 pub fn check(file: &[u8]) -> [u32; 6] {
     if file.len() > MOST_BYTES {
         return [Refusal::TooLong as u32, 0, 0, 0, 0, 0];
@@ -46,8 +47,9 @@ pub fn check(file: &[u8]) -> [u32; 6] {
     }
 }
 
-/// The T lines, the A lines and the S lines in turn: a loop for each letter
-/// needs no test of the order. Gives the counts of lines and of closings.
+/// The T lines, the A lines, the C lines and the S lines in turn: a loop for
+/// each letter needs no test of the order. Gives the counts of terms, of what
+/// is assumed, of steps and of closings.
 #[inline(always)]
 fn run(reader: &mut Reader) -> Result<[u32; 4], Refusal> {
     let mut checker = Checker::new();
@@ -60,7 +62,11 @@ fn run(reader: &mut Reader) -> Result<[u32; 4], Refusal> {
         checker.assume(reader.line)?;
         reader.read()?;
     }
-    let assumptions = checker.tree.branch().len() as u32;
+    while reader.line.letter == Some(b'C') {
+        checker.assume_among(reader.line)?;
+        reader.read()?;
+    }
+    let assumptions = checker.assumptions();
     let mut steps = 0;
     while reader.line.letter == Some(b'S') {
         if checker.tree.is_closed() {

@@ -117,6 +117,29 @@ fn each_limit_and_its_neighbour_above() {
     ]);
 }
 
+/// Two assumptions that deny each other, these clauses of one literal again and
+/// again, and the closing.
+fn with_clauses(sizes: &[usize]) -> Vec<u8> {
+    let mut text = String::from("T,rfv,1,0,0,0\nT,rgv,1,0,0,0\nA,in,1,2,0,0\nA,ni,1,2,0,0\n");
+    for (number, size) in (1..).zip(sizes) {
+        text += &format!("C,in,1,2,{number},0\n").repeat(*size);
+    }
+    text += "S,cls,1,2,0,0\n";
+    text.into_bytes()
+}
+
+#[test]
+fn each_limit_of_clauses_and_its_neighbour_above() {
+    let of_50 = [8; 50];
+    let of_51 = [&of_50[..], &[1]].concat();
+    assert_eq!(check(&with_clauses(&[8])), [0, 0, 2, 3, 1, 1]);
+    assert_eq!(check(&with_clauses(&[9])), [21, 13, 0, 0, 0, 0]);
+    assert_eq!(check(&with_clauses(&of_50)), [0, 0, 2, 52, 1, 1]);
+    assert_eq!(check(&with_clauses(&of_51)), [21, 405, 0, 0, 0, 0]);
+    assert_eq!(check(&with_clauses(&[1; 400])), [0, 0, 2, 402, 1, 1]);
+    assert_eq!(check(&with_clauses(&[1; 401])), [21, 405, 0, 0, 0, 0]);
+}
+
 #[test]
 fn each_old_failing_and_its_damaged_neighbour() {
     expect_pairs(&[
@@ -156,7 +179,7 @@ fn damaged(file: &[u8], random: &mut u32) -> Vec<u8> {
         (*random >> 8) as usize % below
     };
     let mut damaged = file.to_vec();
-    damaged[next(file.len())] = b"0123456789,\nTAS"[next(15)];
+    damaged[next(file.len())] = b"0123456789,\nTACS"[next(16)];
     damaged
 }
 

@@ -3,13 +3,18 @@
 mod cases;
 
 use cases::{all, Case};
-use std::collections::HashSet;
+use std::collections::{BTreeMap, HashSet};
 
-const RULES: [&str; 29] = [
+const RULES: [&str; 30] = [
     "eqr", "eql", "ext", "cpe", "cpi", "cue", "cui", "dfe", "dfi", "sge", "sgi", "cut", "all",
     "nul", "sep", "img", "wit", "ref", "sym", "trn", "sub", "rep", "ler", "let", "lea", "rdh",
-    "rdm", "cls", "emp",
+    "rdm", "cls", "emp", "cla",
 ];
+
+/// The refusals that a file can get.
+fn refusals() -> impl Iterator<Item = usize> {
+    (1..=17).chain([21])
+}
 
 /// Whether the reply says yes, and its six numbers.
 fn parts(case: &Case) -> (bool, [usize; 6]) {
@@ -51,8 +56,8 @@ fn count(file: &[u8], start: &str) -> usize {
 
 /// The count that the documents give.
 #[test]
-fn there_are_1_694_files() {
-    assert_eq!(all().len(), 1_694);
+fn there_are_2_541_files() {
+    assert_eq!(all().len(), 2_541);
 }
 
 #[test]
@@ -70,18 +75,30 @@ fn replies_have_the_right_form() {
         if yes {
             assert_eq!(numbers[..2], [0, 0], "{}", case.name);
         } else {
-            assert!((1..=17).contains(&numbers[0]), "{}", case.name);
+            assert!(refusals().any(|one| one == numbers[0]), "{}", case.name);
             assert_eq!(numbers[2..], [0, 0, 0, 0], "{}", case.name);
         }
     }
+}
+
+/// How many literals each clause has, by the clause numbers on the C lines.
+fn sizes_of_clauses(file: &[u8]) -> Vec<usize> {
+    let text = String::from_utf8_lossy(file);
+    let mut sizes = BTreeMap::new();
+    for line in text.lines().filter(|line| line.starts_with("C,")) {
+        let clause = line.split(',').nth(4).map(str::to_string);
+        *sizes.entry(clause).or_default() += 1;
+    }
+    sizes.into_values().collect()
 }
 
 #[test]
 fn counts_of_accepted_files() {
     for (case, numbers) in saying(true) {
         let closings = count(&case.file, "S,cls,") + count(&case.file, "S,emp,");
-        let counts = ["T", "A", "S"].map(|letter| count(&case.file, letter));
-        assert_eq!(numbers[2..5], counts, "{}", case.name);
+        let [terms, literals, steps] = ["T", "A", "S"].map(|letter| count(&case.file, letter));
+        let assumed = literals + sizes_of_clauses(&case.file).len();
+        assert_eq!(numbers[2..5], [terms, assumed, steps], "{}", case.name);
         assert_eq!(numbers[5], closings, "{}", case.name);
         assert_eq!(case.file.last(), Some(&b'\n'), "{}", case.name);
     }
@@ -117,18 +134,19 @@ fn every_rule_is_in_an_accepted_file() {
 #[test]
 fn every_number_is_given() {
     let given: HashSet<usize> = saying(false).iter().map(|row| row.1[0]).collect();
-    for number in 1..=17 {
+    for number in refusals() {
         assert!(given.contains(&number), "{number}");
     }
 }
 
-/// The refusal numbers that a well shaped S line with this rule can get. 3, 7
-/// and 10 are for other lines, and no rule uses all four fields.
+/// The refusal numbers that a well shaped S line with this rule can get. 3, 7,
+/// 10 and 21 are for other lines, and no rule uses all four fields.
 fn numbers_of(rule: &str) -> Vec<usize> {
     let is = |rules: &[&str]| rules.contains(&rule);
     let uses_a_term = is(&[
         "ext", "cpi", "cui", "dfi", "sgi", "cut", "img", "wit", "ref", "sub", "ler", "rdh", "rdm",
     ]);
+    // `cla` uses no place either, but gets 11 for its clause.
     let uses_no_place = is(&["sgi", "cut", "ref", "ler", "rdh", "rdm"]);
     let given = [
         (5, true),
@@ -136,11 +154,11 @@ fn numbers_of(rule: &str) -> Vec<usize> {
         (8, uses_a_term),
         (9, is(&["cut", "ler"])),
         (11, !uses_no_place),
-        (12, !is(&["cut", "ref", "ler"])),
+        (12, !is(&["cut", "ref", "ler", "cla"])),
         (13, is(&["ext", "wit"])),
         (14, is(&["sgi", "all", "nul", "img", "wit", "rdm"])),
         (15, !is(&["cls", "emp"])),
-        (16, is(&["ext", "cue", "sgi", "cut", "img", "rdm"])),
+        (16, is(&["ext", "cue", "sgi", "cut", "img", "rdm", "cla"])),
     ];
     given.iter().filter(|row| row.1).map(|row| row.0).collect()
 }
@@ -204,14 +222,43 @@ fn open_cuts(file: &[u8]) -> usize {
         .count()
 }
 
+/// The literals of the largest clause.
+fn most_literals(file: &[u8]) -> usize {
+    sizes_of_clauses(file).into_iter().max().unwrap_or(0)
+}
+
+/// Alternatives that wait at the most: one less than a clause has literals for
+/// each `cla` before the first closing, and one for each cut.
+#[test]
+fn clauses_reach_200_waiting_and_pass_it_by_one() {
+    let waiting = |file: &[u8]| {
+        let text = String::from_utf8_lossy(file);
+        let is_closing = |line: &&str| line.starts_with("S,cls,") || line.starts_with("S,emp,");
+        let open: Vec<&str> = text.lines().take_while(|line| !is_closing(line)).collect();
+        let splits = open.iter().filter(|line| line.starts_with("S,cla,"));
+        let pushed = most_literals(file).saturating_sub(1);
+        (splits.count() * pushed, open_cuts(file))
+    };
+    let by_clauses = |row: &(Case, [usize; 6]), most: usize| {
+        let (clauses, cuts) = waiting(&row.0.file);
+        clauses > 0 && clauses + cuts == most
+    };
+    assert!(saying(true).iter().any(|row| by_clauses(row, 200)));
+    let refused = saying(false);
+    let mut above = refused.iter().filter(|row| by_clauses(row, 201));
+    assert!(above.any(|row| row.1[0] == 16));
+}
+
 #[test]
 fn every_limit_is_reached_and_passed_by_one() {
     type Limit = (usize, usize, fn(&[u8]) -> usize);
-    let limits: [Limit; 4] = [
+    let limits: [Limit; 6] = [
         (1, 60_000, |file| file.len()),
         (7, 600, |file| count(file, "T,")),
         (15, 1_000, |file| count(file, "A,")),
         (16, 200, open_cuts),
+        (21, 400, |file| count(file, "C,")),
+        (21, 8, most_literals),
     ];
     for (number, limit, size) in limits {
         let most = saying(true).iter().map(|row| size(&row.0.file)).max();

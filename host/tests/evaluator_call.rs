@@ -126,7 +126,7 @@ fn damaged(file: &[u8], random: &mut u32) -> Vec<u8> {
     };
     let mut damaged = file.to_vec();
     if !file.is_empty() {
-        damaged[next(file.len())] = b"0123456789,\nTASD"[next(16)];
+        damaged[next(file.len())] = b"0123456789,\nTACSD"[next(17)];
     }
     damaged
 }

@@ -32,6 +32,43 @@ fn the_first_false_line_is_given() {
     expect(&format!("{TERMS}A,in,1,2,0,0\n"), member, [0, 0, 0]);
 }
 
+/// A clause is named by its last line, and after all A lines.
+#[test]
+fn the_first_clause_with_no_true_literal_is_given() {
+    let member = "D,siz,2,1,1,0\nD,alc,1,0,0,0\nD,rfv,1,1,0,0\nD,rgv,1,1,0,0\n";
+    let clauses = |lines: &str| format!("{TERMS}A,in,1,2,0,0\n{lines}");
+    expect(&clauses("C,ni,1,2,1,0\nC,in,1,2,1,0\n"), member, [0, 0, 0]);
+    expect(&clauses("C,ni,1,2,1,0\nC,ne,1,1,1,0\n"), member, [0, 0, 5]);
+    let second = "C,ni,1,2,1,0\nC,in,1,2,1,0\nC,ni,1,2,2,0\nC,ne,1,1,2,0\nC,ne,1,1,3,0\n";
+    expect(&clauses(second), member, [0, 0, 7]);
+    expect(&clauses(second), "D,siz,1,1,1,0\n", [0, 0, 3]);
+    // What is read of a clause counts, up to a line that begins an S line.
+    expect(
+        &clauses("C,ni,1,2,1,0\nS,C,in,1,2,1,0\n"),
+        member,
+        [0, 0, 4],
+    );
+}
+
+#[test]
+fn c_lines_are_checked_as_by_the_checker() {
+    let heap = "D,siz,1,1,1,0\n";
+    for (line, number) in [
+        ("C,in,1,2,1\n", 2),
+        ("C,cla,1,2,1,0\n", 4),
+        ("C,in,1,2,0,1\n", 6),
+        ("C,in,1,3,0,0\n", 8),
+        ("C,in,2,1,0,0\n", 9),
+        ("C,in,1,2,0,0\n", 21),
+        ("C,in,1,2,2,0\n", 21),
+    ] {
+        expect(&format!("{TERMS}{line}"), heap, [number, 1, 3]);
+    }
+    for late in ["T,nul,0,0,0,0\n", "A,in,1,2,0,0\n"] {
+        expect(&format!("{TERMS}C,in,1,2,1,0\n{late}"), heap, [3, 1, 4]);
+    }
+}
+
 #[test]
 fn the_checker_file_is_read_up_to_its_steps() {
     let heap = "D,siz,1,1,1,0\n";

@@ -33,19 +33,19 @@ fn all_is_true_in_each() {
 }
 
 /// With its word denied, the last line is the first false one: so all others
-/// are looked at before it.
+/// are looked at before it. A clause has no true literal but its last.
 #[test]
 fn every_assumption_counts() {
     for mut pair in full_pairs() {
         let text = String::from_utf8(pair.checker).expect("a file is ASCII");
         let lines = text.lines().count();
         let (before, last) = text.trim_end().rsplit_once('\n').expect("two lines");
-        let denied = match &last[..5] {
-            "A,eq," => last.replacen("eq", "ne", 1),
-            "A,ne," => last.replacen("ne", "eq", 1),
-            "A,in," => last.replacen("in", "ni", 1),
-            "A,ni," => last.replacen("ni", "in", 1),
-            "A,le," => last.replacen("le", "nl", 1),
+        let denied = match &last[2..5] {
+            "eq," => last.replacen("eq", "ne", 1),
+            "ne," => last.replacen("ne", "eq", 1),
+            "in," => last.replacen("in", "ni", 1),
+            "ni," => last.replacen("ni", "in", 1),
+            "le," => last.replacen("le", "nl", 1),
             _ => last.replacen("nl", "le", 1),
         };
         pair.checker = format!("{before}\n{denied}\n").into_bytes();
@@ -59,6 +59,10 @@ fn full_files_are_full() {
     assert_eq!(count(&mixture.checker, "T,"), 600);
     assert_eq!(count(&mixture.checker, "A,"), 1_000);
     let all_facts = count(&mixture.heap, "D,");
+    let clauses = pair("600 terms, 400 C lines, full heap file");
+    assert_eq!(count(&clauses.checker, "T,"), 600);
+    assert_eq!(count(&clauses.checker, "C,"), 400);
+    assert_eq!(count(&clauses.heap, "D,"), all_facts);
     for kind in ["the most subjects", "600 `arv`, full heap file"] {
         assert_eq!(pair(kind).heap.len(), 60_000);
         assert_eq!(count(&pair(kind).heap, "D,"), all_facts);

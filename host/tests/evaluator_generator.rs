@@ -15,7 +15,7 @@ const SEED: u64 = 20_040_406;
 const BATCHES: u64 = 300;
 
 /// The refusals that a checker file can get, and those of a heap file.
-const CHECKER_REFUSALS: [u32; 10] = [1, 2, 3, 4, 6, 7, 8, 9, 10, 15];
+const CHECKER_REFUSALS: [u32; 11] = [1, 2, 3, 4, 6, 7, 8, 9, 10, 15, 21];
 const HEAP_REFUSALS: [u32; 7] = [1, 2, 3, 4, 6, 19, 20];
 
 fn some_pairs() -> impl Iterator<Item = Pair> {
@@ -81,7 +81,7 @@ fn all_are_true_often_and_any_line_is_the_first_false_one() {
         match evaluate(&pair.checker, &pair.heap) {
             [0, _, 0] => all_true += 1,
             [0, _, line] => {
-                false_lines.insert(assumptions_before(&pair.checker, line));
+                false_lines.insert(literals_before(&pair.checker, line));
             }
             _ => {}
         }
@@ -92,11 +92,50 @@ fn all_are_true_often_and_any_line_is_the_first_false_one() {
     assert!(false_lines.len() > 20 && false_lines.contains(&999));
 }
 
-/// How many A lines stand before a line.
-fn assumptions_before(checker: &[u8], line: u32) -> usize {
+fn is_clause_line(line: &&[u8]) -> bool {
+    line.starts_with(b"C,")
+}
+
+/// How many A and C lines stand before a line.
+fn literals_before(checker: &[u8], line: u32) -> usize {
     let lines = checker.split(|byte| *byte == b'\n');
     let before = lines.take(line as usize - 1);
-    before.filter(|line| line.starts_with(b"A,")).count()
+    let is_literal = |line: &&[u8]| line.starts_with(b"A,") || is_clause_line(line);
+    before.filter(is_literal).count()
+}
+
+/// The lines (from, up to) of the clause on a line, where it is a C line.
+fn clause_around(checker: &[u8], line: u32) -> Option<(u32, u32)> {
+    let lines = checker.split(|byte| *byte == b'\n');
+    let lines: Vec<&[u8]> = lines.take_while(|line| !line.starts_with(b"S,")).collect();
+    let clause = |line: &[u8]| line.split(|byte| *byte == b',').nth(4).map(<[u8]>::to_vec);
+    let wanted = lines
+        .get(line as usize - 1)
+        .filter(|line| is_clause_line(line))?;
+    let same = |other: &&&[u8]| is_clause_line(other) && clause(other) == clause(wanted);
+    let from = lines.iter().position(|line| same(&line))? as u32 + 1;
+    Some((from, from + lines.iter().filter(same).count() as u32))
+}
+
+/// A false clause is named by its last line, also where it has several.
+#[test]
+fn clauses_are_false_often() {
+    let mut sizes: BTreeMap<u32, usize> = BTreeMap::new();
+    for pair in some_pairs() {
+        let [number, _, line] = evaluate(&pair.checker, &pair.heap);
+        if number == 0 && line > 0 {
+            if let Some((from, to)) = clause_around(&pair.checker, line) {
+                assert_eq!(line + 1, to, "{}", show(&pair));
+                *sizes.entry(to - from).or_default() += 1;
+            }
+        }
+    }
+    println!("false clauses by size: {sizes:?}");
+    assert_eq!(
+        sizes.keys().copied().collect::<Vec<_>>(),
+        Vec::from_iter(1..=8)
+    );
+    assert!(sizes.values().all(|count| *count >= 5));
 }
 
 /// An accepted file and one that is refused, with heaps in which all is true
@@ -131,7 +170,12 @@ fn every_word_is_used() {
             }
         }
     }
-    for (letter, words) in [("T", &TERM_WORDS[..]), ("A", &LITERAL_WORDS), ("D", &WORDS)] {
+    for (letter, words) in [
+        ("T", &TERM_WORDS[..]),
+        ("A", &LITERAL_WORDS),
+        ("C", &LITERAL_WORDS),
+        ("D", &WORDS),
+    ] {
         for word in words {
             let start = format!("{letter},{word}");
             assert!(starts.contains(start.as_bytes()), "{start}");
@@ -155,7 +199,8 @@ fn all_sizes_from_one_to_the_limits_are_tried() {
 }
 
 /// A pair with every kind of line.
-const CHECKER: &[u8] = b"T,rfv,1,0,0,0\nT,rgv,2,0,0,0\nA,in,1,2,0,0\nS,cls,1,2,0,0\n";
+const CHECKER: &[u8] = b"T,rfv,1,0,0,0\nT,rgv,2,0,0,0\nA,in,1,2,0,0\n\
+    C,ni,1,2,1,0\nC,eq,1,1,1,0\nC,in,1,2,2,0\nS,cls,1,2,0,0\n";
 const HEAP: &[u8] = b"D,siz,12,2,2,0\nD,alc,1,0,0,0\nD,sub,0,1,0,0\nD,rgv,2,1,0,0\n\
     D,rfv,1,1,0,0\nD,arv,1,11,1,10\n";
 
@@ -207,7 +252,24 @@ fn line_from_0(checker: &[u8], heap: &[u8]) -> [u32; 3] {
 
 fn place_for_line(checker: &[u8], heap: &[u8]) -> [u32; 3] {
     match evaluate(checker, heap) {
-        [0, 0, line] if line > 0 => [0, 0, assumptions_before(checker, line) as u32 + 1],
+        [0, 0, line] if line > 0 => [0, 0, literals_before(checker, line) as u32 + 1],
+        reply => reply,
+    }
+}
+
+fn clauses_passed_over(checker: &[u8], heap: &[u8]) -> [u32; 3] {
+    match evaluate(checker, heap) {
+        [0, 0, line] if line > 0 && clause_around(checker, line).is_some() => [0, 0, 0],
+        reply => reply,
+    }
+}
+
+fn first_line_of_clause(checker: &[u8], heap: &[u8]) -> [u32; 3] {
+    match evaluate(checker, heap) {
+        [0, 0, line] if line > 0 => {
+            let clause = clause_around(checker, line);
+            [0, 0, clause.map_or(line, |(from, _)| from)]
+        }
         reply => reply,
     }
 }
@@ -264,10 +326,12 @@ fn any_word(checker: &[u8], heap: &[u8]) -> [u32; 3] {
     without_refusal(checker, heap, 4)
 }
 
-const WRONG: [(&str, Evaluator); 9] = [
+const WRONG: [(&str, Evaluator); 11] = [
     ("true to all", all_true),
     ("lines from 0", line_from_0),
     ("the place for the line", place_for_line),
+    ("clauses passed over", clauses_passed_over),
+    ("the first line of a clause", first_line_of_clause),
     ("the heap file first", heap_first),
     ("S lines not counted", steps_not_counted),
     ("stops at S without a comma", stops_at_any_s),

@@ -1,8 +1,9 @@
 //! The evaluators against the meaning: models that were searched for, files that
-//! are accepted and so have no model, and heaps at random.
+//! are accepted and so have no model, and heaps at random. All of it with clauses
+//! too.
 
 use host::evaluators::{evaluators, Reply};
-use host::generator::{batch, neighbour, small_tableau, Expected};
+use host::generator::{batch, neighbour, small_tableau, Expected, Tableau};
 use host::heap_lines::{heap_file, heap_lines, said_otherwise};
 use host::independent::check;
 use host::meaning::{assumptions, Heap, Values};
@@ -54,10 +55,33 @@ fn lines_before_steps(file: &[u8]) -> usize {
     lines.take_while(|line| !line.starts_with(b"S,")).count()
 }
 
+/// A line of a file, from 1.
+fn line_of(file: &[u8], number: usize) -> Option<&str> {
+    let text = file
+        .split(|byte| *byte == b'\n')
+        .nth(number.checked_sub(1)?)?;
+    std::str::from_utf8(text).ok()
+}
+
+/// The clause number on a C line.
+fn clause_of(file: &[u8], number: usize) -> Option<&str> {
+    let fields = line_of(file, number)?.strip_prefix("C,")?;
+    fields.split(',').nth(3)
+}
+
+/// Whether the line is one of a clause, and not its last.
+fn inside_clause(file: &[u8], number: usize) -> bool {
+    let clause = clause_of(file, number);
+    clause.is_some() && clause == clause_of(file, number + 1)
+}
+
 /// The line of the first false assumption: the first lines up to it, as a file,
-/// no longer have this model. 0 if they all have it.
+/// no longer have this model. A clause is not cut short. 0 if they all have it.
 fn first_false(file: &[u8], heap: &Heap, values: &Values) -> u32 {
     for count in 1..=lines_before_steps(file) {
+        if inside_clause(file, count) {
+            continue;
+        }
         let answer = assumptions(first_lines(file, count), heap, values);
         if !answer.expect("the lines are good") {
             return count as u32;
@@ -97,7 +121,45 @@ fn some_model(question: &Question, random: &mut Random) -> Model {
 }
 
 fn question(file: &[u8]) -> Question {
-    Question::of_file(file).expect("the T and A lines are good")
+    Question::of_file(file).expect("the T, A and C lines are good")
+}
+
+/// The file without its steps, and some of its last A lines turned into clauses
+/// of one literal or several.
+fn with_clauses(file: &[u8], random: &mut Random) -> Vec<u8> {
+    let text = std::str::from_utf8(file).expect("a tableau is ASCII");
+    let starting = |letter: &str| {
+        let lines = text.lines().filter(|line| line.starts_with(letter));
+        lines.map(String::from).collect::<Vec<_>>()
+    };
+    let [terms, literals, mut clauses] = ["T,", "A,", "C,"].map(starting);
+    let (kept, turned) = literals.split_at(random.below(literals.len() + 1));
+    let last = clauses.last().and_then(|line| line.split(',').nth(4));
+    let mut number: usize = last.map_or(0, |text| text.parse().expect("a clause number"));
+    let mut size = 0;
+    for line in turned {
+        if size == 0 || size == 8 || random.chance(1, 2) {
+            number += 1;
+            size = 0;
+        }
+        size += 1;
+        let fields: Vec<&str> = line.split(',').collect();
+        let [_, word, left, right, ..] = fields[..] else {
+            panic!("an A line has six fields");
+        };
+        clauses.push(format!("C,{word},{left},{right},{number},0"));
+    }
+    heap_file(&[&terms, kept, &clauses].concat())
+}
+
+/// A tableau's files with other assumptions, each with clauses too.
+fn changed_files(tableau: &Tableau, random: &mut Random) -> Vec<Vec<u8>> {
+    let mut files = Vec::new();
+    for file in tableau.with_other_assumptions() {
+        files.push(with_clauses(&file, random));
+        files.push(file);
+    }
+    files
 }
 
 #[test]
@@ -106,7 +168,8 @@ fn models_make_all_true() {
     let mut at_random = 0;
     for number in 0..150 {
         let mut random = Random::of_batch(SEED, number);
-        for file in small_tableau(&mut random).with_other_assumptions() {
+        let tableau = small_tableau(&mut random);
+        for file in changed_files(&tableau, &mut random) {
             let question = question(&file);
             if let Some(model) = question.all_models(200).first {
                 expect(&file, &model, ALL_TRUE, &mut random);
@@ -157,7 +220,8 @@ fn larger_accepted_files_are_never_all_true() {
     assert!(heaps > 300, "{heaps}");
 }
 
-/// Tries so many heaps on an accepted file. Each makes an A line false.
+/// Tries so many heaps on an accepted file. Each makes an A line or a clause
+/// false.
 fn try_accepted(file: &[u8], heaps: usize, random: &mut Random) -> usize {
     let question = question(file);
     let mut tried = 0;
@@ -170,23 +234,35 @@ fn try_accepted(file: &[u8], heaps: usize, random: &mut Random) -> usize {
             }
             let [number, of, line] = reply(file, &heap);
             assert_eq!([number, of], [0, 0]);
-            let before = first_lines(file, (line as usize).saturating_sub(1)).len();
-            let a_line = line > 0 && file[before..].starts_with(b"A,");
-            assert!(a_line, "{line}:\n{}", String::from_utf8_lossy(file));
+            let ends_an_assumption = is_assumption(file, line as usize);
+            assert!(
+                ends_an_assumption,
+                "{line}:\n{}",
+                String::from_utf8_lossy(file)
+            );
             tried += 1;
         }
     }
     tried
 }
 
+/// Whether this is an A line or the last line of a clause.
+fn is_assumption(file: &[u8], number: usize) -> bool {
+    let a_line = line_of(file, number).is_some_and(|text| text.starts_with("A,"));
+    a_line || clause_of(file, number).is_some() && !inside_clause(file, number)
+}
+
 #[test]
 fn replies_agree_with_the_meaning() {
     let mut all_true = 0;
+    let mut clauses_false = 0;
+    let mut clauses_true = 0;
     let mut lines = std::collections::BTreeSet::new();
     for number in 0..120 {
         let mut random = Random::of_batch(SEED + 1, number);
         let tableau = small_tableau(&mut random);
-        let mut files = tableau.with_other_assumptions();
+        let mut files = changed_files(&tableau, &mut random);
+        files.push(with_clauses(&tableau.bytes(), &mut random));
         files.push(tableau.bytes());
         for file in files {
             let question = question(&file);
@@ -196,6 +272,9 @@ fn replies_agree_with_the_meaning() {
                 expect(&file, &model, [0, 0, line], &mut random);
                 assert_eq!(line == 0, question.holds(&model.0, &model.1));
                 all_true += usize::from(line == 0);
+                clauses_false += usize::from(clause_of(&file, line as usize).is_some());
+                let last = clause_of(&file, lines_before_steps(&file));
+                clauses_true += usize::from(line == 0 && last.is_some());
                 lines.insert(line as usize - lines_of_terms(&file).min(line as usize));
             }
         }
@@ -203,6 +282,8 @@ fn replies_agree_with_the_meaning() {
     // Assumptions true, and false at many places.
     assert!(all_true > 50, "{all_true}");
     assert!(lines.len() > 5, "{lines:?}");
+    assert!(clauses_false > 50, "{clauses_false}");
+    assert!(clauses_true > 50, "{clauses_true}");
 }
 
 fn lines_of_terms(file: &[u8]) -> usize {
@@ -215,7 +296,7 @@ fn expect_form(checker: &[u8], heap: &[u8]) -> Reply {
     let [number, file, line] = reply(checker, heap);
     match file {
         0 => assert_eq!(number, 0),
-        1 => assert!([1, 2, 3, 4, 6, 7, 8, 9, 10, 15].contains(&number)),
+        1 => assert!([1, 2, 3, 4, 6, 7, 8, 9, 10, 15, 21].contains(&number)),
         2 => assert!([1, 2, 3, 4, 6, 19, 20].contains(&number)),
         _ => panic!("file {file}"),
     }
@@ -234,9 +315,9 @@ fn damage(file: &[u8], random: &mut Random) -> Vec<u8> {
     let count = lines.len();
     let line = random.below(count);
     match random.below(6) {
-        0 => bytes[byte] = random.pick(b"0123456789,\nDTASabclrsuvx"),
+        0 => bytes[byte] = random.pick(b"0123456789,\nDTACSabclrsuvx"),
         1 => drop(bytes.remove(byte)),
-        2 => bytes.insert(byte, random.pick(b"0123456789,\nDTAS")),
+        2 => bytes.insert(byte, random.pick(b"0123456789,\nDTACS")),
         3 => drop(lines.remove(line)),
         4 => lines.swap(line, random.below(count)),
         _ => lines.insert(line, lines[random.below(count)]),
@@ -252,7 +333,10 @@ fn damaged_files_get_a_reply() {
     let mut given = std::collections::BTreeSet::new();
     for number in 0..400 {
         let mut random = Random::of_batch(SEED + 2, number);
-        let checker = small_tableau(&mut random).bytes();
+        let mut checker = small_tableau(&mut random).bytes();
+        if random.chance(1, 2) {
+            checker = with_clauses(&checker, &mut random);
+        }
         let model = some_model(&question(&checker), &mut random);
         let [_, heap] = files_of(&model, &mut random);
         for _ in 0..20 {
@@ -262,7 +346,7 @@ fn damaged_files_get_a_reply() {
             given.insert((file, number));
         }
     }
-    for number in [2, 3, 4, 6, 8, 9, 10] {
+    for number in [2, 3, 4, 6, 8, 9, 10, 21] {
         assert!(given.contains(&(1, number)), "{number}");
     }
     for number in [2, 3, 4, 6, 19, 20] {
@@ -276,7 +360,7 @@ fn any_bytes_get_a_reply() {
     for length in 0..300 {
         let bytes: Vec<u8> = (0..length).map(|_| random.below(256) as u8).collect();
         let commas: Vec<u8> = (0..length)
-            .map(|_| random.pick(b"DTAS,,,,,sizalc01\n"))
+            .map(|_| random.pick(b"DTACS,,,,,sizalc01\n"))
             .collect();
         for checker in [&b""[..], &bytes, &commas] {
             for heap in [&b""[..], &bytes, &commas] {

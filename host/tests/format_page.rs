@@ -149,12 +149,32 @@ fn a_lines() {
     }
 }
 
+/// The words of A lines, on the same terms, with a clause number.
+#[test]
+fn c_lines() {
+    for [word, terms, _] in rows(PAGE, ["Word", "Terms", "True when"]) {
+        let sorts = if terms == "both of one sort, any" {
+            vec!["class", "class"]
+        } else {
+            arguments(&terms)
+        };
+        let [left, right] = [term(sorts[0]), term(sorts[1])];
+        let with = |fields| number_with('C', &word, fields);
+        assert_eq!(with([left, right, 1, 0]), OPEN, "{word}");
+        assert_eq!(with([left, right, 0, 0]), 21, "{word}");
+        assert_eq!(with([left, right, 2, 0]), 21, "{word}");
+        assert_eq!(with([left, right, 0, 1]), 6, "{word}");
+        assert_eq!(with([left, 6, 0, 0]), 8, "{word}");
+        assert_eq!(with([left, term("heap"), 0, 0]), 9, "{word}");
+    }
+}
+
 /// Check 6 comes before all that a rule needs, so that it tells a field that is
 /// used from one that is not.
 #[test]
 fn the_fields_of_every_rule() {
     let rows = rows(PAGE, ["Rule", "Uses", "Needs", "Adds"]);
-    assert_eq!(rows.len(), 29);
+    assert_eq!(rows.len(), 30);
     for [rule, uses, _, _] in rows {
         let uses: Vec<&str> = uses.split(' ').collect();
         for (at, field) in ["p", "q", "t", "w"].into_iter().enumerate() {
@@ -271,18 +291,19 @@ fn expect_subject(word: &str, cells: &[String; 4], fields: [u32; 4]) {
     }
 }
 
-/// After 0, the numbers of both headers with their comments.
+/// After 0, the numbers of both headers with their comments, in their order.
 #[test]
 fn the_numbers_are_those_of_the_headers() {
     let of_checker = constants(CHECKER_HEADER, "tabcheck_refusal");
     let of_evaluator = constants(EVALUATOR_HEADER, "tabeval_refusal");
-    let constants = [&of_checker[1..], &of_evaluator[1..]].concat();
+    let mut constants = [&of_checker[1..], &of_evaluator[1..]].concat();
+    constants.sort();
     let rows = rows(PAGE, ["No.", "When", "Example"]);
     let said = rows
         .iter()
         .map(|[number, when, _]| (number.parse().unwrap(), &when[..]));
     assert_eq!(said.collect::<Vec<(usize, &str)>>(), constants);
-    assert_eq!(rows.len(), 20);
+    assert_eq!(rows.len(), 21);
 }
 
 /// `heap_cases_shape.rs` says the same of the cases worked out by hand.
@@ -296,10 +317,10 @@ fn where_the_numbers_come_from() {
         let rows = rows.iter().filter(|row| row[column] != "never");
         rows.map(|row| row[0].parse().unwrap()).collect()
     };
-    assert_eq!(given(1), (1..=18).collect());
+    assert_eq!(given(1), (1..=18).chain([21]).collect());
     assert_eq!(
         given(2),
-        BTreeSet::from([1, 2, 3, 4, 6, 7, 8, 9, 10, 15, 18])
+        BTreeSet::from([1, 2, 3, 4, 6, 7, 8, 9, 10, 15, 18, 21])
     );
     assert_eq!(given(3), BTreeSet::from([1, 2, 3, 4, 6, 18, 19, 20]));
 }

@@ -26,6 +26,23 @@ fn they_are_full() {
     }
 }
 
+/// Those with clauses have all the C lines that there may be, and split often.
+#[test]
+fn clauses_are_many_and_split_often() {
+    let with_clauses = all().into_iter().map(|table| table.accepted);
+    let files: Vec<Vec<u8>> = with_clauses
+        .filter(|sample| sample.kind.starts_with("`cla`"))
+        .map(|sample| sample.bytes)
+        .collect();
+    assert_eq!(files.len(), 2);
+    for (file, size) in files.iter().zip([8, 2]) {
+        assert_eq!(lines_with(file, b'C'), 400);
+        let lines = file.split(|byte| *byte == b'\n');
+        let splits = lines.filter(|line| line.starts_with(b"S,cla,")).count();
+        assert!(splits > (STEPS - 100) / size, "{splits}");
+    }
+}
+
 /// The refused file differs in its last line alone.
 #[test]
 fn they_are_refused_at_the_last_line() {

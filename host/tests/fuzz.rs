@@ -1,6 +1,8 @@
 //! Compares the checkers on files made by the generator, and shows that the
 //! comparison finds checkers that are wrong.
 
+use std::collections::BTreeSet;
+
 use host::checkers::{plain_rust, Checker, Numbers, CHECKERS};
 use host::comparison::compare;
 use host::generator::{batch, FORMER_RULE, RULES};
@@ -12,7 +14,7 @@ const SEED: u64 = 20_040_404;
 const BATCHES: u64 = 300;
 
 /// The rules with no need of their own but a sort.
-const WITHOUT_NEEDS: [&str; 3] = ["cut", "ref", "ler"];
+const WITHOUT_NEEDS: [&str; 4] = ["cut", "ref", "ler", "cla"];
 const WITH_FRESH: [&str; 2] = ["ext", "wit"];
 /// The rules that add a term which no field or premise names.
 const WITH_LOOKUP: [&str; 6] = ["sgi", "all", "nul", "img", "wit", "rdm"];
@@ -40,6 +42,7 @@ fn checkers_agree() {
     assert_eq!(summary.never_refused(&WITH_FRESH, 13), Vec::<&str>::new());
     assert_eq!(summary.never_refused(&WITH_LOOKUP, 14), Vec::<&str>::new());
     assert!(summary.refused_steps[&(FORMER_RULE, 4)] >= FILES / 200);
+    assert!(summary.refused_steps[&("cla", 11)] >= FILES / 400);
 }
 
 /// Otherwise files with a variable at random would test no freshness.
@@ -54,7 +57,8 @@ fn a_variable_at_random_is_fresh_in_some_files() {
 /// A file with a line of each letter, and one that is refused after the tree
 /// is closed.
 const SMALL: &[u8] = b"T,rfv,1,0,0,0\nT,rgv,20,0,0,0\nA,in,1,2,0,0\nA,ni,1,2,0,0\n\
-    S,ref,0,0,1,0\nS,cls,1,2,0,0\nS,cut,0,0,1,2\n";
+    C,in,1,2,1,0\nC,ni,1,2,1,0\nC,eq,1,1,2,0\n\
+    S,ref,0,0,1,0\nS,cla,0,0,1,0\nS,cls,1,2,0,0\nS,cls,1,4,0,0\nS,cut,0,0,1,2\n";
 
 /// Every byte of a small file made every other, and every byte put in.
 #[test]
@@ -98,14 +102,30 @@ fn accepted_files_have_no_model() {
 // Checkers that are wrong
 // ---------------------------------------------------------------------------
 
+fn lines(file: &[u8]) -> impl Iterator<Item = &[u8]> {
+    file.split_inclusive(|byte| *byte == b'\n')
+}
+
+/// The number of the clause, where a line has the shape of a C line.
+fn clause_of(line: &[u8]) -> Option<&str> {
+    let text = std::str::from_utf8(line.strip_prefix(b"C,")?).ok()?;
+    text.split(',').nth(3)
+}
+
+/// How many clauses there are, if they are numbered without gaps.
+fn clauses(file: &[u8]) -> u32 {
+    let numbers: BTreeSet<&str> = lines(file).filter_map(clause_of).collect();
+    numbers.len() as u32
+}
+
 fn yes_to_all(file: &[u8]) -> Numbers {
     let count = |start: &str| {
-        let lines = file.split(|byte| *byte == b'\n');
-        let found = lines.filter(|line| line.starts_with(start.as_bytes()));
+        let found = lines(file).filter(|line| line.starts_with(start.as_bytes()));
         found.count() as u32
     };
     let closings = count("S,cls,") + count("S,emp,");
-    [0, 0, count("T"), count("A"), count("S"), closings]
+    let assumed = count("A") + clauses(file);
+    [0, 0, count("T"), assumed, count("S"), closings]
 }
 
 fn no_to_all(_: &[u8]) -> Numbers {
@@ -145,7 +165,7 @@ fn open_accepted(file: &[u8]) -> Numbers {
 fn one_less_waits(file: &[u8]) -> Numbers {
     let reply = plain_rust(file);
     let cuts = |text: &[u8]| text.starts_with(b"S,cut,");
-    let lines: Vec<&[u8]> = file.split(|byte| *byte == b'\n').collect();
+    let lines: Vec<&[u8]> = lines(file).collect();
     let run = lines.chunk_by(|a, b| cuts(a) && cuts(b));
     if reply[0] == 0 && run.into_iter().any(|run| run.len() >= 200) {
         return [16, 1, 0, 0, 0, 0];
@@ -153,7 +173,72 @@ fn one_less_waits(file: &[u8]) -> Numbers {
     reply
 }
 
-const WRONG: [Checker; 7] = [
+fn clauses_not_counted(file: &[u8]) -> Numbers {
+    let mut reply = plain_rust(file);
+    if reply[0] == 0 {
+        reply[3] -= clauses(file);
+    }
+    reply
+}
+
+/// What a file with other C lines gets, where that is a yes.
+fn with_other_clauses(file: &[u8], other: &[u8]) -> Numbers {
+    match plain_rust(other) {
+        [0, _, terms, _, steps, closings] => [0, 0, terms, yes_to_all(file)[3], steps, closings],
+        _ => plain_rust(file),
+    }
+}
+
+/// A clause of several literals is split without its last.
+fn last_literal_dropped(file: &[u8]) -> Numbers {
+    let lines: Vec<&[u8]> = lines(file).collect();
+    let same =
+        |one: &&[u8], next: &&[u8]| clause_of(one).is_some() && clause_of(one) == clause_of(next);
+    let groups = lines.chunk_by(same);
+    let kept = groups.flat_map(|group| &group[..1.max(group.len() - 1)]);
+    with_other_clauses(file, &kept.copied().collect::<Vec<_>>().concat())
+}
+
+/// The last clause, where no step splits it, may have w in it.
+fn last_clause_passed_over(file: &[u8]) -> Numbers {
+    let Some(last) = lines(file).filter_map(clause_of).last() else {
+        return plain_rust(file);
+    };
+    let split = format!("S,cla,0,0,{last},0\n");
+    if lines(file).any(|line| line == split.as_bytes()) {
+        return plain_rust(file);
+    }
+    let kept: Vec<&[u8]> = lines(file)
+        .filter(|line| clause_of(line) != Some(last))
+        .collect();
+    with_other_clauses(file, &kept.concat())
+}
+
+/// The clauses have the numbers in which they stand, whatever the file says.
+fn any_numbering(file: &[u8]) -> Numbers {
+    let mut text = Vec::new();
+    let (mut last, mut number) = (None, 0);
+    for line in lines(file) {
+        let Some(clause) = clause_of(line) else {
+            text.push(line.to_vec());
+            continue;
+        };
+        number += u32::from(last != Some(clause));
+        last = Some(clause);
+        let fields: Vec<&[u8]> = line.splitn(6, |byte| *byte == b',').collect();
+        text.push(
+            [
+                &fields[..4].join(&b','),
+                format!(",{number},").as_bytes(),
+                fields[5],
+            ]
+            .concat(),
+        );
+    }
+    with_other_clauses(file, &text.concat())
+}
+
+const WRONG: [Checker; 11] = [
     ("yes to all", yes_to_all),
     ("no to all", no_to_all),
     ("60,000 bytes are too many", too_long_early),
@@ -161,6 +246,10 @@ const WRONG: [Checker; 7] = [
     ("closings invented", closings_missing),
     ("an open tree taken for closed", open_accepted),
     ("200 waiting are too many", one_less_waits),
+    ("clauses not counted", clauses_not_counted),
+    ("a clause without its last literal", last_literal_dropped),
+    ("w in a clause that is not split", last_clause_passed_over),
+    ("clauses with any numbers", any_numbering),
 ];
 
 /// Alone against what is known beforehand, and beside the plain checker.

@@ -1,7 +1,7 @@
 //! The generator's files have what they are made for. All is read from the
 //! text of the files; no checker is run.
 
-use std::collections::{BTreeSet, HashSet};
+use std::collections::{BTreeMap, BTreeSet, HashSet};
 
 use host::generator::{batch, refusal, Expected, FORMER_RULE};
 
@@ -31,22 +31,39 @@ fn accepted_files() -> Vec<Vec<Line>> {
         .collect()
 }
 
-/// How many alternatives begin to wait at a step, as document 01 has it.
-fn pushes(rule: &str) -> usize {
+/// How many literals each clause has.
+fn clause_sizes(file: &[Line]) -> BTreeMap<usize, usize> {
+    let mut sizes = BTreeMap::new();
+    for (_, _, numbers) in file.iter().filter(|line| line.0 == "C") {
+        *sizes.entry(numbers[2]).or_default() += 1;
+    }
+    sizes
+}
+
+/// The clause that each step splits, in the order of the steps.
+fn split_clauses(file: &[Line]) -> Vec<usize> {
+    let splits = file.iter().filter(|line| line.1 == "cla");
+    splits.map(|(_, _, numbers)| numbers[2]).collect()
+}
+
+/// How many alternatives begin to wait at a step.
+fn pushes(rule: &str, numbers: [usize; 4], sizes: &BTreeMap<usize, usize>) -> usize {
     match rule {
         "ext" | "cue" | "sgi" | "cut" | "rdm" => 1,
         "img" => 2,
+        "cla" => sizes[&numbers[2]] - 1,
         _ => 0,
     }
 }
 
 fn most_waiting(file: &[Line]) -> usize {
+    let sizes = clause_sizes(file);
     let (mut waiting, mut most) = (0, 0);
-    for (letter, word, _) in file {
+    for (letter, word, numbers) in file {
         if letter != "S" {
             continue;
         }
-        waiting += pushes(word);
+        waiting += pushes(word, *numbers, &sizes);
         most = most.max(waiting);
         if word == "cls" || word == "emp" {
             waiting = waiting.saturating_sub(1);
@@ -93,6 +110,48 @@ fn accepted_files_are_varied() {
     assert!(count(&|file| file.len() > 300) >= 10);
 }
 
+/// Whether a clause is split while an alternative of another split of a clause
+/// waits.
+fn nests_splits(file: &[Line]) -> bool {
+    let sizes = clause_sizes(file);
+    // Of each alternative that waits, whether it is one of a clause.
+    let mut of_clauses = Vec::new();
+    for (_, word, numbers) in file.iter().filter(|line| line.0 == "S") {
+        let more = pushes(word, *numbers, &sizes);
+        if word == "cla" && more > 0 && of_clauses.contains(&true) {
+            return true;
+        }
+        of_clauses.resize(of_clauses.len() + more, word == "cla");
+        if word == "cls" || word == "emp" {
+            of_clauses.pop();
+        }
+    }
+    false
+}
+
+#[test]
+fn clauses_are_varied() {
+    let files = accepted_files();
+    let count = |asked: &dyn Fn(&[Line]) -> bool| files.iter().filter(|file| asked(file)).count();
+    let mut sizes: BTreeMap<usize, usize> = BTreeMap::new();
+    for file in &files {
+        let of_clauses = clause_sizes(file);
+        for clause in split_clauses(file) {
+            *sizes.entry(of_clauses[&clause]).or_default() += 1;
+        }
+    }
+    assert_eq!(
+        sizes.keys().copied().collect::<Vec<_>>(),
+        Vec::from_iter(1..=8)
+    );
+    assert!(sizes.values().all(|splits| *splits >= 10), "{sizes:?}");
+    let distinct = |file: &[Line]| BTreeSet::from_iter(split_clauses(file)).len();
+    assert!(count(&|file| distinct(file) < split_clauses(file).len()) >= 20);
+    assert!(count(&|file| distinct(file) < clause_sizes(file).len()) >= 20);
+    assert!(count(&|file| distinct(file) >= 3) >= 20);
+    assert!(count(&nests_splits) >= 20);
+}
+
 #[test]
 fn names_and_places_of_every_length() {
     let (mut names, mut places) = (BTreeSet::new(), BTreeSet::new());
@@ -123,6 +182,15 @@ fn every_kind_is_made() {
         "a variable taken at random",
         "a fresh variable taken twice",
         "a step by fir",
+        "w in a clause only",
+        "a clause numbered 0",
+        "a gap in the clauses",
+        "clauses going back",
+        "a ninth literal",
+        "a T or A line among the clauses",
+        "a clause before an A line",
+        "a split of no clause",
+        "a clause without its last alternative",
         "a term looked up left out",
         "a number changed",
         "a line dropped",
@@ -146,6 +214,14 @@ fn every_kind_is_made() {
         "201 wait",
         "200 wait after img",
         "201 wait after img",
+        "8 literals",
+        "9 literals",
+        "400 C lines",
+        "401 C lines",
+        "200 wait after cla",
+        "201 wait after cla",
+        "1,000 places after cla",
+        "1,001 places after cla",
     ] {
         assert!(kinds.contains(kind), "{kind}");
     }

@@ -21,19 +21,19 @@ const HEADER: &str = include_str!("../../include/tabcheck.h");
 const EVALUATOR_HEADER: &str = include_str!("../../include/tabeval.h");
 const README: &str = include_str!("../../README.md");
 
-/// The column "When" of the refusals, from 1.
+/// The column "When" of the refusals, from 1 to 18.
 const WHEN: [&str; 18] = [
     "over 60,000 bytes; line 0, before any line",
     "line not shaped as above, or no LF",
-    "T after A or S; A after S",
+    "T after A, C or S; A after C or S; C after S",
     "word not known for this letter",
     "S line when the tree is closed",
     "unused field not 0",
     "601st term",
     "a term field names no term made so far, or a name is 0",
-    "wrong sort in T, A, cut or ler",
+    "wrong sort in T, A, C, cut or ler",
     "term already made",
-    "a place used is not on the branch",
+    "a place used is not on the branch, or cla on no clause",
     "what the rule needs isn't so, freshness apart",
     "w not fresh",
     "a term to be added isn't in the table",
@@ -42,16 +42,19 @@ const WHEN: [&str; 18] = [
     "input ends with a branch open; line is last line plus 1",
     "reply buffer not 24 bytes; returned by the call, nothing written, before 1",
 ];
+/// That of 21.
+const WHEN_21: &str =
+    "clause number 0, or neither the last nor the next; a ninth literal in a clause; a 401st C line";
 
 #[test]
 fn refusal_numbers_are_the_documents() {
     let constants = constants(HEADER, "tabcheck_refusal");
     assert_eq!(constants[0].0, 0);
-    let refusals: Vec<(usize, &str)> = (1..).zip(WHEN).collect();
+    let refusals: Vec<(usize, &str)> = (1..).zip(WHEN).chain([(21, WHEN_21)]).collect();
     assert_eq!(constants[1..], refusals);
 }
 
-/// The evaluator's header has 1 to 18 by including the other.
+/// The evaluator's header has 1 to 18 and 21 by including the other.
 #[test]
 fn two_refusal_numbers_are_the_evaluators() {
     let constants = constants(EVALUATOR_HEADER, "tabeval_refusal");
@@ -66,7 +69,7 @@ fn the_six_numbers_are_in_the_replys_order() {
         "refusal number",
         "line",
         "T lines",
-        "A lines",
+        "A lines plus clauses",
         "S lines",
         "closings (cls and emp lines)",
     ];

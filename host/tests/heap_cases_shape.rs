@@ -54,8 +54,8 @@ fn has(file: &[u8], start: &str) -> bool {
 
 /// The count that the documents give.
 #[test]
-fn there_are_684_pairs() {
-    assert_eq!(all().len(), 684);
+fn there_are_898_pairs() {
+    assert_eq!(all().len(), 898);
 }
 
 #[test]
@@ -85,15 +85,28 @@ fn every_number_is_given_by_each_file() {
         let [number, file, _] = numbers(&case);
         given[file].insert(number);
     }
-    let checker = [1, 2, 3, 4, 6, 7, 8, 9, 10, 15];
+    let checker = [1, 2, 3, 4, 6, 7, 8, 9, 10, 15, 21];
     let heap = [1, 2, 3, 4, 6, 19, 20];
     assert_eq!(given[0], BTreeSet::from([0]));
     assert_eq!(given[1], BTreeSet::from(checker));
     assert_eq!(given[2], BTreeSet::from(heap));
 }
 
+/// The letter and the clause number of a line of the checker file, from 1.
+fn clause_at(file: &[u8], number: usize) -> Option<(u8, &[u8])> {
+    let text = line(file, number)?;
+    Some((*text.first()?, text.split(|&byte| byte == b',').nth(4)?))
+}
+
+/// Whether this is the last line of a clause.
+fn ends_a_clause(file: &[u8], number: usize) -> bool {
+    let clause = clause_at(file, number);
+    clause.is_some_and(|(letter, _)| letter == b'C') && clause != clause_at(file, number + 1)
+}
+
 /// 1 and 20 have line 0, 3 for an empty heap file line 1, any other refusal a
-/// line of its file. Without a refusal it is 0 or an A line.
+/// line of its file. Without a refusal it is 0, an A line, or the last line of a
+/// clause.
 #[test]
 fn lines_of_replies() {
     for case in all() {
@@ -103,7 +116,8 @@ fn lines_of_replies() {
             assert_eq!(at, 0, "{}", case.name);
         } else if file == 0 {
             let a_line = word_at(&case, "A").is_some();
-            assert!(at == 0 || a_line, "{}", case.name);
+            let clause = ends_a_clause(&case.checker, at);
+            assert!(at == 0 || a_line || clause, "{}", case.name);
         } else if !(number == 3 && case.heap.is_empty()) {
             let there = line(file_of(&case), at).is_some();
             assert!(there, "{}", case.name);
@@ -126,6 +140,19 @@ fn every_literal_word_is_alone_and_true_and_false() {
         let truth = |case: &Case| case.name.starts_with("truth");
         let used = |case: &Case| has(&case.checker, &format!("T,{word},"));
         assert!(all().iter().any(|case| truth(case) && used(case)), "{word}");
+    }
+}
+
+/// Beside clauses an A line is reported; a clause with A lines and without.
+#[test]
+fn a_lines_and_clauses_are_reported() {
+    for (letter, has_a_lines) in [("A", true), ("C", false), ("C", true)] {
+        let there = |case: &Case| {
+            let no_refusal = numbers(case)[1] == 0 && numbers(case)[2] != 0;
+            let both = has(&case.checker, "C,") && has(&case.checker, "A,") == has_a_lines;
+            no_refusal && both && word_at(case, letter).is_some()
+        };
+        assert!(all().iter().any(there), "{letter} {has_a_lines}");
     }
 }
 

@@ -1,10 +1,32 @@
 //! The cases of document 01 with a stated reply, and their neighbours. Expected
-//! replies are worked out by hand from the document, its rule `fir` struck.
+//! replies are worked out by hand from the document, its rule `fir` struck, and
+//! from the request "Assumptions with an or in them".
 
 mod examples;
 
 use examples::{file, rule_files, ALLOCATED, F, G, IMG, RDM, STRUCK, WIT};
 use host::independent::{call, check, reply_line, Reply};
+
+const RULES: [&str; 30] = [
+    "eqr", "eql", "ext", "cpe", "cpi", "cue", "cui", "dfe", "dfi", "sge", "sgi", "cut", "all",
+    "nul", "sep", "img", "wit", "ref", "sym", "trn", "sub", "rep", "ler", "let", "lea", "rdh",
+    "rdm", "cls", "emp", "cla",
+];
+
+/// A clause of two literals, each denied by an assumption. Terms: 1 u, 2 r, 3 s.
+/// Places: 1 u ni r, 2 u ni s, then 3 u in r, and 3 u in s.
+const OR: [&str; 10] = [
+    "T,rfv,1,0,0,0",
+    "T,rgv,1,0,0,0",
+    "T,rgv,2,0,0,0",
+    "A,ni,1,2,0,0",
+    "A,ni,1,3,0,0",
+    "C,in,1,2,1,0",
+    "C,in,1,3,1,0",
+    "S,cla,0,0,1,0",
+    "S,cls,3,1,0,0",
+    "S,cls,3,2,0,0",
+];
 
 fn yes(terms: u32, assumptions: u32, steps: u32, closings: u32) -> Reply {
     Reply {
@@ -551,21 +573,18 @@ fn old_sin_without_a_case_outside_all() {
 
 #[test]
 fn every_rule() {
-    let names = [
-        "eqr", "eql", "ext", "cpe", "cpi", "cue", "cui", "dfe", "dfi", "sge", "sgi", "cut", "all",
-        "nul", "sep", "img", "wit", "ref", "sym", "trn", "sub", "rep", "ler", "let", "lea", "rdh",
-        "rdm", "cls", "emp",
-    ];
     let files = rule_files();
-    assert_eq!(names.len(), 29);
-    assert_eq!(files.len(), 29);
-    for (name, example) in names.iter().zip(&files) {
-        assert_eq!(*name, example.rule);
+    assert_eq!(files.len(), RULES.len());
+    for example in &files {
+        let name = example.rule;
         let word = format!("S,{name},");
         assert!(example.lines.iter().any(|line| line.starts_with(&word)));
         let [terms, assumptions, steps, closings] = example.counts;
         let expected = yes(terms, assumptions, steps, closings);
         assert_eq!(check_lines(&example.lines), expected, "{name}");
+    }
+    for rule in RULES {
+        assert!(files.iter().any(|example| example.rule == rule), "{rule}");
     }
 }
 
@@ -574,7 +593,7 @@ fn every_rule_uses_its_fields() {
     // The column "Uses" of the document, written out a second time.
     let table = "eqr pq, eql pq, ext pw, cpe p, cpi pqt, cue p, cui pt, dfe p, dfi pqt, sge p,
                  sgi t, cut tw, all p, nul p, sep pq, img pt, wit pw, ref t, sym p, trn pq,
-                 sub ptw, rep pqt, ler t, let pq, lea pq, rdh t, rdm t, cls pq, emp p";
+                 sub ptw, rep pqt, ler t, let pq, lea pq, rdh t, rdm t, cls pq, emp p, cla t";
     let mut rows = 0;
     for row in table.split(',') {
         let words: Vec<&str> = row.split_whitespace().collect();
@@ -592,12 +611,11 @@ fn every_rule_uses_its_fields() {
             assert_eq!(reply.line, 1);
         }
     }
-    assert_eq!(rows, 29);
+    assert_eq!(rows, 30);
 }
 
 #[test]
 fn no_other_word_is_a_rule() {
-    let files = rule_files();
     let letters = || (b'a'..=b'z').map(char::from);
     let mut rules = 0;
     for first in letters() {
@@ -605,14 +623,14 @@ fn no_other_word_is_a_rule() {
             assert_eq!(check_text(&format!("S,{first}{second},0,0,0,0")), no(4, 1));
             for third in letters() {
                 let word = format!("{first}{second}{third}");
-                let known = files.iter().any(|example| example.rule == word);
+                let known = RULES.contains(&word.as_str());
                 let reply = check_text(&format!("S,{word},0,0,0,0"));
                 assert_eq!(reply.number != 4, known, "{word}");
                 rules += usize::from(known);
             }
         }
     }
-    assert_eq!(rules, 29);
+    assert_eq!(rules, 30);
 }
 
 #[test]
@@ -685,7 +703,8 @@ fn fir_is_not_known() {
         assert_eq!(check_lines(&with_more(&F, &[line])), no(2, 9), "{line:?}");
     }
     assert_eq!(check(b"S,fir,0,0,0,1"), no(2, 1));
-    // So does 3; under T and A `fir` was never known.
+    // So does 3; under T, A and C `fir` was never known.
+    assert_eq!(check(b"C,fir,0,0,0,1\n"), no(4, 1));
     assert_eq!(check(b"T,fir,0,0,0,1\n"), no(4, 1));
     assert_eq!(check(b"A,fir,0,0,0,1\n"), no(4, 1));
     assert_eq!(check_lines(&with_line(&F, 8, "T,fir,0,0,0,1")), no(3, 8));
@@ -792,6 +811,11 @@ fn words_of_other_letters() {
         "A,nul,0,0,0,0",
         "A,cls,0,0,0,0",
         "A,inn,0,0,0,0",
+        "A,cla,0,0,0,0",
+        "T,cla,0,0,0,0",
+        "C,nul,0,0,0,0",
+        "C,cla,0,0,1,0",
+        "C,inn,0,0,0,0",
         "S,rfv,0,0,0,0",
         "S,in,0,0,0,0",
         "S,zz,9,9,9,9",
@@ -867,7 +891,7 @@ fn t_line(word: &str, arguments: &[u32]) -> String {
 }
 
 #[test]
-fn sorts_on_a_lines() {
+fn sorts_on_a_and_c_lines() {
     let base = "T,rfv,1,0,0,0 T,rgv,1,0,0,0 T,arv,1,0,0,0 T,fnv,1,0,0,0 T,clv,1,0,0,0";
     for left in 1..=5 {
         for right in 1..=5 {
@@ -878,8 +902,12 @@ fn sorts_on_a_lines() {
                     _ => left == 5 && right == 5,
                 };
                 let expected = if good { no(17, 7) } else { no(9, 6) };
-                let line = format!("A,{word},{left},{right},0,0");
-                assert_eq!(check_text(&format!("{base} {line}")), expected, "{line}");
+                for line in [
+                    format!("A,{word},{left},{right},0,0"),
+                    format!("C,{word},{left},{right},1,0"),
+                ] {
+                    assert_eq!(check_text(&format!("{base} {line}")), expected, "{line}");
+                }
             }
         }
     }
@@ -888,6 +916,13 @@ fn sorts_on_a_lines() {
     assert_eq!(check_text(&format!("{base} A,in,1,2,0,1")), no(6, 6));
     assert_eq!(check_text(&format!("{base} A,in,2,6,0,0")), no(8, 6));
     assert_eq!(check_text(&format!("{base} A,in,0,2,0,0")), no(8, 6));
+    // And 21 after 9.
+    assert_eq!(check_text(&format!("{base} C,in,0,9,0,1")), no(6, 6));
+    assert_eq!(check_text(&format!("{base} C,in,1,2,1,1")), no(6, 6));
+    assert_eq!(check_text(&format!("{base} C,in,2,6,0,0")), no(8, 6));
+    assert_eq!(check_text(&format!("{base} C,in,0,2,0,0")), no(8, 6));
+    assert_eq!(check_text(&format!("{base} C,in,2,1,0,0")), no(9, 6));
+    assert_eq!(check_text(&format!("{base} C,in,1,2,0,0")), no(21, 6));
 }
 
 #[test]
@@ -1038,6 +1073,169 @@ fn alternatives_are_taken_last_split_first() {
 }
 
 // ---------------------------------------------------------------------------
+// Clauses
+// ---------------------------------------------------------------------------
+
+#[test]
+fn a_clause_is_split_into_its_literals() {
+    assert_eq!(check_lines(&OR), yes(3, 3, 3, 2));
+    assert_eq!(check_lines(&OR[..9]), no(17, 10));
+    assert_eq!(check_lines(&with_more(&OR, &[OR[7]])), no(5, 11));
+    // In order: u in r first.
+    assert_eq!(check_lines(&with_line(&OR, 9, OR[9])), no(12, 9));
+    assert_eq!(check_lines(&with_line(&OR, 10, OR[8])), no(12, 10));
+    // A C line takes no place.
+    assert_eq!(check_lines(&with_line(&OR, 8, OR[8])), no(11, 8));
+    // A clause of one literal is added, and the tree is closed on line 9.
+    let one = with_line(&OR, 7, "C,in,1,3,2,0");
+    assert_eq!(check_lines(&one), no(5, 10));
+    assert_eq!(check_lines(&one[..9]), yes(3, 4, 2, 1));
+    // Twice, in the first alternative.
+    let mut lines = OR[..8].to_vec();
+    lines.extend([OR[7], "S,cls,4,1,0,0", "S,cls,4,2,0,0", "S,cls,3,2,0,0"]);
+    assert_eq!(check_lines(&lines), yes(3, 3, 5, 3));
+    // Never: F closes by itself, and the clause is counted.
+    let mut lines = F[..6].to_vec();
+    lines.extend(["C,in,1,2,1,0", "C,in,1,3,1,0", "C,in,1,4,2,0"]);
+    lines.extend(&F[6..]);
+    assert_eq!(check_lines(&lines), yes(4, 4, 2, 1));
+}
+
+#[test]
+fn cla_on_no_clause() {
+    // Terms 1 to 3 and places 1 and 2 are no clauses.
+    for clause in ["0", "2", "3", "9999"] {
+        let line = format!("S,cla,0,0,{clause},0");
+        assert_eq!(check_lines(&with_line(&OR, 8, &line)), no(11, 8), "{line}");
+    }
+    assert_eq!(check_lines(&with_line(&F, 7, "S,cla,0,0,1,0")), no(11, 7));
+    for line in ["S,cla,1,0,0,0", "S,cla,0,1,1,0", "S,cla,0,0,1,1"] {
+        assert_eq!(check_lines(&with_line(&OR, 8, line)), no(6, 8), "{line}");
+    }
+}
+
+#[test]
+fn order_of_letters_with_c() {
+    for (number, line) in [
+        (5, "T,nul,0,0,0,0"),
+        (7, "T,nul,0,0,0,0"),
+        (7, "A,in,1,2,0,0"),
+        (9, "T,nul,0,0,0,0"),
+        (9, "A,in,1,2,0,0"),
+        (9, "C,in,1,2,1,0"),
+        (9, "C,in,1,2,0,0"),
+    ] {
+        let reply = check_lines(&with_line(&OR, number, line));
+        assert_eq!(reply, no(3, number as u32), "{line}");
+        assert_eq!(check_lines(&with_more(&OR, &[line])), no(3, 11), "{line}");
+    }
+    // Any kind may be missing.
+    let text = "T,rfv,1,0,0,0 T,emp,0,0,0,0 C,in,1,2,1,0 S,cla,0,0,1,0 S,emp,1,0,0,0";
+    assert_eq!(check_text(text), yes(2, 1, 2, 1));
+    assert_eq!(check(b"C,in,1,2,1,0\n"), no(8, 1));
+}
+
+/// The C lines with these clause numbers after two terms and u in emp, which
+/// closes the branch. C line n is line 3 + n.
+fn numbered(numbers: &[u32]) -> Vec<u8> {
+    let mut text = places(1);
+    for number in numbers {
+        text.extend(format!("C,in,1,2,{number},0\n").bytes());
+    }
+    text.extend(b"S,emp,1,0,0,0\n");
+    text
+}
+
+#[test]
+fn example_21() {
+    let good: [&[u32]; 4] = [&[1], &[1, 1], &[1, 2], &[1, 1, 2, 3, 3]];
+    for numbers in good {
+        let clauses = *numbers.last().unwrap();
+        assert_eq!(check(&numbered(numbers)), yes(2, 1 + clauses, 1, 1));
+    }
+    let bad: [&[u32]; 9] = [
+        &[0],
+        &[2],
+        &[9999],
+        &[1, 0],
+        &[1, 3],
+        &[1, 2, 1],
+        &[1, 2, 2, 4],
+        &[1, 2, 3, 2],
+        &[1, 1, 1, 1, 1, 1, 1, 1, 1],
+    ];
+    for numbers in bad {
+        let last = 3 + numbers.len() as u32;
+        assert_eq!(check(&numbered(numbers)), no(21, last), "{numbers:?}");
+    }
+}
+
+#[test]
+fn limits_of_clauses() {
+    assert_eq!(check(&numbered(&[1; 8])), yes(2, 2, 1, 1));
+    let ones: Vec<u32> = (1..=401).collect();
+    assert_eq!(check(&numbered(&ones[..400])), yes(2, 401, 1, 1));
+    assert_eq!(check(&numbered(&ones)), no(21, 404));
+    let eights: Vec<u32> = (0..401).map(|index| index / 8 + 1).collect();
+    assert_eq!(check(&numbered(&eights[..400])), yes(2, 51, 1, 1));
+    assert_eq!(check(&numbered(&eights)), no(21, 404));
+    // 15 is never for a C line.
+    let mut text = places(1_000);
+    text.extend(file(&["C,in,1,2,1,0", "S,emp,1000,0,0,0"]));
+    assert_eq!(check(&text), yes(2, 1_001, 1, 1));
+    let mut text = places(1_000);
+    text.extend(file(&["C,in,1,2,1,0", "S,cla,0,0,1,0"]));
+    assert_eq!(check(&text), no(15, 1_004));
+    let mut text = places(999);
+    text.extend(file(&["C,in,1,2,1,0", "S,cla,0,0,1,0", "S,emp,1000,0,0,0"]));
+    assert_eq!(check(&text), yes(2, 1_000, 2, 1));
+}
+
+#[test]
+fn limit_of_waiting_in_cla() {
+    // Each leaves seven waiting: 28 times 7 and four cuts are 200.
+    let splits = |clauses: usize, cuts: usize| {
+        let mut text = places(1);
+        text.extend(b"C,in,1,2,1,0\n".repeat(8));
+        text.extend(b"S,cla,0,0,1,0\n".repeat(clauses));
+        text.extend(b"S,cut,0,0,1,2\n".repeat(cuts));
+        text
+    };
+    let mut text = splits(28, 4);
+    text.extend(b"S,emp,1,0,0,0\n".repeat(201));
+    assert_eq!(check(&text), yes(2, 2, 28 + 4 + 201, 201));
+    assert_eq!(check(&splits(28, 5)), no(16, 3 + 8 + 28 + 5));
+    assert_eq!(check(&splits(29, 0)), no(16, 3 + 8 + 29));
+}
+
+#[test]
+fn freshness_beside_clauses() {
+    // Terms: 1 w, 2 v, 3 r, 4 typ(w), 5 typ(v). Place 1: r ne r.
+    let base = "T,rfv,1,0,0,0 T,rfv,2,0,0,0 T,rgv,1,0,0,0 T,typ,1,0,0,0 T,typ,2,0,0,0
+                A,ne,3,3,0,0";
+    let steps = "S,ext,1,0,0,1 S,cls,2,3,0,0 S,cls,3,2,0,0";
+    for clause in ["C,in,2,3,1,0", "C,le,5,5,1,0", "C,eq,3,3,1,0"] {
+        let text = format!("{base} {clause} {steps}");
+        assert_eq!(check_text(&text), yes(5, 2, 3, 2), "{clause}");
+    }
+    for clause in [
+        "C,in,1,3,1,0",
+        "C,eq,2,1,1,0",
+        "C,le,4,5,1,0",
+        "C,nl,5,4,1,0",
+        "C,eq,2,2,1,0 C,eq,2,2,1,0 C,eq,2,2,2,0 C,eq,4,4,2,0",
+    ] {
+        let before = base.split_whitespace().chain(clause.split_whitespace());
+        let line = before.count() as u32 + 1;
+        let text = format!("{base} {clause} {steps}");
+        assert_eq!(check_text(&text), no(13, line), "{clause}");
+    }
+    // Split: v in r is on the branch, and w only waits.
+    let split = "C,in,2,3,1,0 C,in,1,3,1,0 S,cla,0,0,1,0";
+    assert_eq!(check_text(&format!("{base} {split} {steps}")), no(13, 10));
+}
+
+// ---------------------------------------------------------------------------
 // Any bytes
 // ---------------------------------------------------------------------------
 
@@ -1053,8 +1251,9 @@ impl Dice {
 #[test]
 fn any_bytes_get_a_reply() {
     let mut dice = Dice(1);
-    let files: Vec<Vec<u8>> = rule_files().iter().map(|e| file(&e.lines)).collect();
-    let bytes = b"TAS,0123456789\nabcdeilmnpqrstuvwxy\r\0\xff";
+    let mut files: Vec<Vec<u8>> = rule_files().iter().map(|e| file(&e.lines)).collect();
+    files.push(file(&OR));
+    let bytes = b"TACS,0123456789\nabcdeilmnpqrstuvwxy\r\0\xff";
     for _ in 0..50_000 {
         let mut text = files[dice.below(files.len())].clone();
         for _ in 0..=dice.below(3) {
@@ -1065,10 +1264,14 @@ fn any_bytes_get_a_reply() {
         let lines = text.iter().filter(|byte| **byte == b'\n').count() as u32;
         if reply.yes {
             assert_eq!((reply.number, reply.line), (0, 0));
-            assert_eq!(reply.terms + reply.assumptions + reply.steps, lines);
+            // A clause has one C line or more, and is counted once.
+            let texts = text.split(|byte| *byte == b'\n');
+            let c_lines = texts.filter(|line| line.starts_with(b"C,")).count() as u32;
+            let counted = reply.terms + reply.assumptions + reply.steps;
+            assert!(counted <= lines && lines - counted <= c_lines.saturating_sub(1));
             assert!(reply.closings >= 1 && reply.closings <= reply.steps);
         } else {
-            assert!(reply.number >= 1 && reply.number <= 17);
+            assert!(reply.number >= 1 && reply.number <= 17 || reply.number == 21);
             assert_eq!(reply, no(reply.number, reply.line));
             assert!(reply.line >= 1 && reply.line <= lines + 1);
         }

@@ -1,12 +1,13 @@
-//! The meaning on small heaps worked out by hand, and every accepted example
-//! against many heaps.
+//! The meaning on small heaps worked out by hand, and every accepted example and
+//! case against many heaps.
 
+mod cases;
 mod examples;
 
 use std::collections::BTreeSet;
 
 use examples::{file, rule_files, ALLOCATED, F, IMG, STRUCK};
-use host::independent::{check, read, TermWord};
+use host::independent::{check, read_assumed, TermWord};
 use host::meaning::{
     assumptions, assumptions_true, values_of_terms, variables, Heap, Value, Values, Variable,
 };
@@ -104,7 +105,7 @@ fn values_of_small_terms() {
         ("T,dty,8,0,0,0", Value::Class(1)),
     ];
     let text: Vec<&str> = lines.iter().map(|(line, _)| *line).collect();
-    let (terms, _) = read(&file(&text)).unwrap();
+    let terms = read_assumed(&file(&text)).unwrap().terms;
     let values = values_of_terms(&terms, &small_heap(), &small_values()).unwrap();
     for ((line, expected), value) in lines.iter().zip(&values) {
         assert_eq!(expected, value, "{line}");
@@ -164,14 +165,87 @@ fn all_assumptions_count() {
     let lines = ["T,rfv,1,0,0,0", "A,eq,1,1,0,0", "A,ne,1,1,0,0"];
     assert!(assumptions_true(&file(&lines[..2]), &heap, &values));
     assert!(!assumptions_true(&file(&lines), &heap, &values));
-    // What the S lines say does not matter.
+    // What the S lines say does not matter, clauses or not.
+    let lines = ["T,rfv,1,0,0,0", "C,eq,1,1,1,0", "S,cla,0,0,9,9"];
+    assert!(assumptions_true(&file(&lines), &heap, &values));
     let lines = ["T,rfv,1,0,0,0", "A,eq,1,1,0,0", "S,cls,1,1,0,0"];
     assert!(assumptions_true(&file(&lines), &heap, &values));
+}
+
+/// A t stands for u eq u, which is true, an f for u ne u.
+#[test]
+fn one_literal_of_every_clause_counts() {
+    let (heap, values) = (small_heap(), small_values());
+    let word = |truth: char| if truth == 't' { "eq" } else { "ne" };
+    let rows: [(&str, &[&str], bool); 14] = [
+        ("", &["t"], true),
+        ("", &["f"], false),
+        ("", &["tf"], true),
+        ("", &["ft"], true),
+        ("", &["ff"], false),
+        ("", &["ffffffft"], true),
+        ("", &["ffffffff"], false),
+        ("", &["t", "f"], false),
+        ("", &["f", "t"], false),
+        ("", &["ft", "tf"], true),
+        ("", &["tt", "ff", "t"], false),
+        ("t", &["ft"], true),
+        ("t", &["ff"], false),
+        ("f", &["tt"], false),
+    ];
+    for (literals, clauses, expected) in rows {
+        let mut text = String::from("T,rfv,1,0,0,0\n");
+        for truth in literals.chars() {
+            text += &format!("A,{},1,1,0,0\n", word(truth));
+        }
+        for (index, clause) in clauses.iter().enumerate() {
+            for truth in clause.chars() {
+                text += &format!("C,{},1,1,{},0\n", word(truth), index + 1);
+            }
+        }
+        let answer = assumptions(text.as_bytes(), &heap, &values);
+        assert_eq!(answer, Some(expected), "{text}");
+        let question = Question::of_file(text.as_bytes()).unwrap();
+        assert_eq!(question.holds(&heap, &values), expected, "{text}");
+    }
+}
+
+/// u = 1 and v = 3, r = {1, 2} and s = {2}.
+#[test]
+fn truth_of_small_clauses() {
+    let terms = [
+        "T,rfv,1,0,0,0",
+        "T,rfv,2,0,0,0",
+        "T,rgv,1,0,0,0",
+        "T,rgv,2,0,0,0",
+    ];
+    let clauses: [(&[&str], bool); 6] = [
+        (&["C,in,1,3,1,0", "C,in,1,4,1,0"], true),
+        (&["C,in,1,4,1,0", "C,in,1,3,1,0"], true),
+        (&["C,in,1,4,1,0", "C,in,2,3,1,0"], false),
+        (&["C,in,2,3,1,0", "C,in,2,4,1,0", "C,eq,1,2,1,0"], false),
+        (&["C,in,2,3,1,0", "C,in,2,4,1,0", "C,ne,3,4,1,0"], true),
+        (&["C,in,1,3,1,0", "C,in,1,4,2,0"], false),
+    ];
+    for (clause, expected) in clauses {
+        let lines = [&terms[..], clause].concat();
+        let answer = assumptions(&file(&lines), &small_heap(), &small_values());
+        assert_eq!(answer, Some(expected), "{clause:?}");
+    }
 }
 
 #[test]
 fn questions_without_sense() {
     let (heap, values) = (small_heap(), small_values());
+    for line in [
+        "C,eq,1,1,0,0",
+        "C,eq,1,1,2,0",
+        "C,eq,1,2,1,0",
+        "C,in,1,1,1,0",
+    ] {
+        let lines = ["T,rfv,1,0,0,0", line];
+        assert_eq!(assumptions(&file(&lines), &heap, &values), None, "{line}");
+    }
     assert_eq!(assumptions(b"T,nul\n", &heap, &values), None);
     assert_eq!(assumptions(b"T,rfv,3,0,0,0\n", &heap, &values), None);
     let after_s = ["S,ref,0,0,1,0", "T,nul,0,0,0,0"];
@@ -338,7 +412,7 @@ fn values_with_nothing_allocated() {
         ("T,dty,6,0,0,0", Value::Class(1), Value::Class(0)),
     ];
     let text: Vec<&str> = lines.iter().map(|(line, _, _)| *line).collect();
-    let (terms, _) = read(&file(&text)).unwrap();
+    let terms = read_assumed(&file(&text)).unwrap().terms;
     let started = values_of_terms(&terms, &started_heap(), &started_values()).unwrap();
     let nul = values_of_terms(&terms, &nul_heap(), &nul_values()).unwrap();
     for (number, (line, of_started, of_nul)) in lines.iter().enumerate() {
@@ -527,13 +601,126 @@ fn accepted_files_have_no_model() {
         let text = file(&example.lines);
         let reply = check(&text);
         assert!(reply.yes, "{}", example.rule);
-        let (terms, literals) = read(&text).unwrap();
-        assert_eq!(example.counts[0], terms.len() as u32);
-        assert_eq!(example.counts[1], literals.len() as u32);
+        let assumed = read_assumed(&text).unwrap();
+        let count = assumed.literals.len() + assumed.clauses.len();
+        assert_eq!(example.counts[0], assumed.terms.len() as u32);
+        assert_eq!(example.counts[1], count as u32);
         assert!(models(&text).is_empty(), "{}", example.rule);
     }
     assert!(check(&file(&ALLOCATED)).yes);
     assert!(models(&file(&ALLOCATED)).is_empty());
+}
+
+#[test]
+fn accepted_cases_have_no_model() {
+    let mut with_clauses = 0;
+    for case in cases::all() {
+        if !case.reply.starts_with("yes") {
+            continue;
+        }
+        let question = Question::of_file(&case.file).expect(case.name);
+        assert_eq!(question.all_models(200).found, 0, "{}", case.name);
+        let at_random = question.random_models(50, &mut Random::new(1));
+        assert_eq!(at_random, 0, "{}", case.name);
+        let clauses = read_assumed(&case.file).expect(case.name).clauses;
+        with_clauses += usize::from(!clauses.is_empty());
+    }
+    assert!(with_clauses > 100, "{with_clauses}");
+}
+
+/// Accepted files with clauses, each alternative closed.
+const CLAUSES: [&[&str]; 3] = [
+    // u in r or u in s; neither.
+    &[
+        "T,rfv,1,0,0,0",
+        "T,rgv,1,0,0,0",
+        "T,rgv,2,0,0,0",
+        "A,ni,1,2,0,0",
+        "A,ni,1,3,0,0",
+        "C,in,1,2,1,0",
+        "C,in,1,3,1,0",
+        "S,cla,0,0,1,0",
+        "S,cls,3,1,0,0",
+        "S,cls,3,2,0,0",
+    ],
+    // u eq nul or v eq nul; u in all, v in all. Terms: 1 u, 2 v, 3 nul, 4 all.
+    &[
+        "T,rfv,1,0,0,0",
+        "T,rfv,2,0,0,0",
+        "T,nul,0,0,0,0",
+        "T,all,0,0,0,0",
+        "A,in,1,4,0,0",
+        "A,in,2,4,0,0",
+        "C,eq,1,3,1,0",
+        "C,eq,2,3,1,0",
+        "S,nul,1,0,0,0",
+        "S,nul,2,0,0,0",
+        "S,cla,0,0,1,0",
+        "S,cls,5,3,0,0",
+        "S,cls,5,4,0,0",
+    ],
+    // u in r or u in s, and u ni r or u ni s; r eq s.
+    &[
+        "T,rfv,1,0,0,0",
+        "T,rgv,1,0,0,0",
+        "T,rgv,2,0,0,0",
+        "A,eq,2,3,0,0",
+        "C,in,1,2,1,0",
+        "C,in,1,3,1,0",
+        "C,ni,1,2,2,0",
+        "C,ni,1,3,2,0",
+        "S,cla,0,0,1,0", // 2 u in r
+        "S,eqr,1,2,0,0", // 3 u in s
+        "S,cla,0,0,2,0", // 4 u ni r
+        "S,cls,2,4,0,0", // 4 u ni s
+        "S,cls,3,4,0,0", // 2 u in s
+        "S,eql,1,2,0,0", // 3 u in r
+        "S,cla,0,0,2,0", // 4 u ni r
+        "S,cls,3,4,0,0", // 4 u ni s
+        "S,cls,2,4,0,0",
+    ],
+];
+
+#[test]
+fn closed_clauses_have_no_model() {
+    for lines in CLAUSES {
+        let text = file(lines);
+        assert!(check(&text).yes, "{lines:?}");
+        assert!(models(&text).is_empty(), "{lines:?}");
+        let search = Question::of_file(&text).unwrap().all_models(1_000);
+        assert_eq!((search.found, search.complete), (0, true), "{lines:?}");
+    }
+}
+
+/// An A line or a whole clause left out, or a literal u eq u more in the last
+/// clause.
+#[test]
+fn weaker_clauses_have_models() {
+    let clause_number = |line: &str| line.split(',').nth(4).map(str::to_string);
+    for lines in CLAUSES {
+        let mut weaker = Vec::new();
+        for (index, line) in lines.iter().enumerate() {
+            if line.starts_with("A,") {
+                let mut rest = lines.to_vec();
+                rest.remove(index);
+                weaker.push(rest);
+            }
+        }
+        let last = lines.iter().rposition(|line| line.starts_with("C,"));
+        let last = last.expect("there is a clause");
+        let number = clause_number(lines[last]);
+        let mut rest = lines.to_vec();
+        rest.retain(|line| !line.starts_with("C,") || clause_number(line) != number);
+        weaker.push(rest);
+        let literal = format!("C,eq,1,1,{},0", number.expect("five fields"));
+        let mut longer = lines.to_vec();
+        longer.insert(last + 1, &literal);
+        weaker.push(longer);
+        for lines in &weaker {
+            assert!(!check(&file(lines)).yes, "{lines:?}");
+            assert!(!models(&file(lines)).is_empty(), "{lines:?}");
+        }
+    }
 }
 
 #[test]
@@ -607,6 +794,13 @@ fn every_smallest_heap_is_tried_once() {
     // 17 * 4 tried, and u is in r for one of the last four.
     let lines = ["T,rfv,1,0,0,0", "T,rgv,1,0,0,0", "A,in,1,2,0,0"];
     assert_eq!(in_turn(&lines, 1_000), (17, 111, true));
+    // One literal of the clause is true everywhere, none, or where u is in r.
+    let (u_in_r, u_eq_u, u_ne_u) = ("C,in,1,2,1,0", "C,eq,1,1,1,0", "C,ne,1,1,1,0");
+    let terms_of_clause = &lines[..2];
+    let with = |clause: &[&'static str]| [terms_of_clause, clause].concat();
+    assert_eq!(in_turn(&with(&[u_in_r, u_eq_u]), 1_000), (111, 111, true));
+    assert_eq!(in_turn(&with(&[u_ne_u]), 1_000), (0, 111, true));
+    assert_eq!(in_turn(&with(&[u_ne_u, u_in_r]), 1_000), (17, 111, true));
     // h has one value, or four.
     assert_eq!(in_turn(&["T,arv,1,0,0,0"], 1_000), (145, 145, true));
     // At most so many of the 1, 8, 2 and 32.

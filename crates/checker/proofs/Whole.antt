@@ -2,7 +2,8 @@
 use mathlib.Core.Path.{_≡_, refl, sym, _∙_, ap}
 use mathlib.Core.Bool.{Bool, true, false}
 use mathlib.Core.List.{List, _++_}
-use Prim.Native.Nat.{ℕ, _<_, _≤_}
+use mathlib.Core.Logic.{_⊎_, inl, inr}
+use Prim.Native.Nat.{ℕ, _+_, _<_, _≤_}
 use native.Mathlib.Numerals.{add-one}
 use native.Mathlib.Omega.{arith}
 use lib.ListN.{length, getD}
@@ -12,7 +13,7 @@ use Rattle.tableau.specs.Basics.{bytes}
 use Rattle.tableau.specs.Claims.{BeginsWithYes, NoHeap, Demand3}
 use Rattle.tableau.specs.File.{maxBytes}
 use Rattle.tableau.specs.Tree.{passed}
-use Rattle.tableau.specs.Reply.{start, stopped, refuse, atEnd, verdictOn, Verdict, verdict, Reply, replyOf, reply, reasonNumber, sixNumbers, replyBytes}
+use Rattle.tableau.specs.Reply.{start, stopped, accept, refuse, atEnd, verdictOn, Verdict, verdict, Reply, replyOf, reply, reasonNumber, sixNumbers, replyBytes}
 use Rattle.tableau.specs.Reply.{commaNumbers, yesOrNo, replyLine, call, bufferLength}
 use Rattle.tableau.proofs.Counts.{number-in-range}
 use Rattle.tableau.proofs.Soundness.{demand3}
@@ -38,11 +39,11 @@ short-enough file h = rw (le-leb (length file) maxBytes h, verdict)
 pub lines-stop : (file : List ℕ) → length file ≤ maxBytes → (r : Reason) (i : ℕ) → checkFrom file 0 0 (passed start) ≡ stopped r i → refuse r i ≡ verdict file
 lines-stop file h r i e = sym (ap verdictOn e) ∙ short-enough file h
 
-pub lines-end : (file : List ℕ) → length file ≤ maxBytes → {A : Arrays} {t : Tree} {g : Progress} → Finished file A t g → verdictAtEnd g ≡ verdict file
+pub lines-end : (file : List ℕ) → length file ≤ maxBytes → {A : Arrays} {words : List ℕ} {t : Tree} {g : Progress} → Finished file A words t g → verdictAtEnd g ≡ verdict file
 lines-end file h {t = t} {g = g} F = go (g .closed) ∙ sym (ap verdictOn (F .runs)) ∙ short-enough file h
   where
-    go : (b : Bool) → verdictIf b g ≡ atEnd (stateAt (F .table) (treeOf unpackLiteral t) g) (statusOf b (treeOf unpackLiteral t)) (g .lines)
-    go true = refl
+    go : (b : Bool) → verdictIf b g ≡ atEnd (stateAt (F .table) (F .clauses) (treeOf unpackLiteral t) g) (statusOf b (treeOf unpackLiteral t)) (g .lines)
+    go true = ap (λ n. accept (record { terms = g .counts .terms; assumptions = g .counts .assumptions + n; steps = g .counts .steps; closings = g .counts .closings })) (sym (F .clausesHeld .last))
     go false = ap (refuse Reason.BranchOpen) (add-one (g .lines))
 
 -- THE REPLY
@@ -50,21 +51,29 @@ pub replied : (file : List ℕ) (v : Verdict) {r : Reply} → v ≡ verdict file
 unfolding reply
 replied file v e h = h ∙ ap replyOf e
 
-pub number-small : (file : List ℕ) → reply file .number ≤ 17
+pub number-small : (file : List ℕ) → reply file .number ≤ 21
 number-small file = go (reply file .isYes) refl
   where
-    go : (b : Bool) → reply file .isYes ≡ b → reply file .number ≤ 17
+    either : (reply file .number ≡ 21) ⊎ ((1 ≤ reply file .number) × (reply file .number ≤ 17)) → reply file .number ≤ 21
+    either (inl e) = omega (arith, e)
+    either (inr e) = omega (arith, e .1)
+
+    go : (b : Bool) → reply file .isYes ≡ b → reply file .number ≤ 21
     go true e = omega (arith, number-in-range file .0 e)
-    go false e = number-in-range file .1 e .1
+    go false e = either (number-in-range file .1 e)
 
 -- DEMAND 3 of the number
 pub no-heap : (file : List ℕ) → reply file .number ≡ 0 → NoHeap file
 unfolding Demand3
 no-heap file h = go (reply file .isYes) refl
   where
+    either : (reply file .number ≡ 21) ⊎ ((1 ≤ reply file .number) × (reply file .number ≤ 17)) → ⊥
+    either (inl e) = omega (arith, e, h)
+    either (inr e) = omega (arith, e .0, h)
+
     go : (b : Bool) → reply file .isYes ≡ b → NoHeap file
     go true e = demand3 file e
-    go false e = absurd (omega (arith, number-in-range file .1 e .0, h))
+    go false e = absurd (either (number-in-range file .1 e))
 
 -- DEMAND 3 of the line
 pub line-no-heap : (file : List ℕ) → BeginsWithYes (replyLine (reply file)) → NoHeap file

@@ -28,10 +28,18 @@ fn check(file: &[u8]) -> Verdict
     let mut chains: [u16; table::LINKS] = [0; table::LINKS];
     let mut rows: [u64; mentions::WORDS] = [0; mentions::WORDS];
     let mut prefix: [u64; freshness::PREFIX_WORDS] = [0; freshness::PREFIX_WORDS];
+    let mut clauses: [u32; clauses::WORDS] = [0; clauses::WORDS];
     let run = Run {
         tree: Tree::empty(),
     };
-    let ran = run.run(file, &mut terms, &mut chains, &mut rows, &mut prefix);
+    let ran = run.run(
+        file,
+        &mut terms,
+        &mut chains,
+        &mut rows,
+        &mut prefix,
+        &mut clauses,
+    );
     let end = ran.end;
     match end {
         RunEnd::Stopped(reason, line) => Verdict::Refused(reason, line),

@@ -1,21 +1,19 @@
 -- What a step infers is what the function of its rule concludes.
 use mathlib.Core.Path.{_≡_, refl, sym, _∙_, ap, ap₂, subst}
 use mathlib.Core.Bool.{Bool, true, not, _||_, or-false}
-use mathlib.Core.List.{List}
+use mathlib.Core.List.{List, []}
 use mathlib.Core.Option.{Option}
 use Prim.Native.Nat.{ℕ}
+use native.Mathlib.Omega.{arith}
 use lib.Dec.{eqb}
+use borrow.Author.Tests.{eq-eqb}
 use Rattle.tableau.specs.declared.Rule.{Rule}
-use Rattle.tableau.specs.declared.Side.{Side}
-use Rattle.tableau.specs.declared.TermNumber.{TermNumber}
 use Rattle.tableau.specs.Words.{ruleNames}
-use Rattle.tableau.specs.Fields.{ThirdField, TermField, unused, side, term, of, ruleFields}
+use Rattle.tableau.specs.Fields.{ThirdField, TermField, unused, side, clause, term, of, ruleFields}
 use Rattle.tableau.specs.Terms.{Table, Literal}
 use Rattle.tableau.specs.Tree.{answer}
-use Rattle.tableau.proofs.Places.{rules, placeOf, every-rule, same-rule}
-use Rattle.syntax.specs.declared.ThirdField as declared
-use Rattle.syntax.specs.Syntax.{ThirdFits}
-use Rattle.syntax.proofs.Sides.{isSide, side-fits}
+use Rattle.tableau.proofs.Places.{rules, placeOf, allOf, every-rule, same-rule}
+use Rattle.syntax.specs.Syntax.{kindOf}
 use Rattle.packing.specs.declared.LiteralView.{LiteralView}
 use Rattle.table.specs.Held.{Searchable}
 use Rattle.rules.specs.declared.outcome.Outcome.{Outcome}
@@ -26,6 +24,7 @@ use Rattle.conclusions.specs.Infers.{atPlace, ThirdGiven, TermGiven, Giv
 abbrev thirdOf : ThirdField → ℕ → ℕ
 thirdOf unused n = 0
 thirdOf side n = n
+thirdOf clause n = n
 thirdOf term n = n
 thirdOf (of s) n = n
 
@@ -37,6 +36,7 @@ fourthOf (of s) n = n
 third-of : (f : ThirdField) (n : ℕ) → ThirdGiven f n → n ≡ thirdOf f n
 third-of unused n h = h
 third-of side n h = refl
+third-of clause n h = refl
 third-of term n h = refl
 third-of (of s) n h = refl
 
@@ -51,9 +51,9 @@ given-as {t = t} {w = w} e g = subst (λ (z : Rule). Given z t w) e g
 
 -- WHAT A STEP INFERS is what the function of its rule concludes
 same-answer : (table : Table) (fresh : Bool) (P Q : Option Literal) (t w : ℕ) (x : Rule) → Given x t w
-    → answer table fresh P Q t w x ≡ answer table fresh P Q (thirdOf (ruleFields x .t) t) (fourthOf (ruleFields x .w) w) x
+    → answer table fresh P Q [] t w x ≡ answer table fresh P Q [] (thirdOf (ruleFields x .t) t) (fourthOf (ruleFields x .w) w) x
 same-answer table fresh P Q t w x g =
-    ap₂ (λ (k l : ℕ). answer table fresh P Q k l x) (third-of (ruleFields x .t) t (g .third)) (fourth-of (ruleFields x .w) w (g .fourth))
+    ap₂ (λ (k l : ℕ). answer table fresh P Q [] k l x) (third-of (ruleFields x .t) t (g .third)) (fourth-of (ruleFields x .w) w (g .fourth))
 
 module _ {x y : Rule} {P Q : LiteralView} {t w : ℕ} {fresh : Bool} {terms chains : List ℕ} {r : Outcome} {A : Table → Type 0} (e : x ≡ y)
     (g : Given x t w) (f : (table : Table) → Searchable table terms chains → A table) where
@@ -75,15 +75,29 @@ module _ {x y : Rule} {P Q : LiteralView} {t w : ℕ} {fresh : Bool} {terms chai
     answers = λ table S. same-answer table fresh (atPlace (ruleFields y .p) P) (atPlace (ruleFields y .q) Q) t w y (given-as e g) ∙ C .answers table (f table S);
   }
 
--- THE SIDE: only `rep` has one
-pub is-rep : (x : Rule) (s : Side) → ThirdFits (ruleFields x .t) (declared.ThirdField.Side s) → x ≡ Rule.Rep
-unfolding rules ruleNames ruleFields
-is-rep x s h = same-rule x Rule.Rep (go (every-rule (λ y. eqb (placeOf y) (placeOf Rule.Rep) || not (isSide (ruleFields y .t))) refl x) (ap isSide (side-fits (ruleFields x .t) s h)))
+-- FIELD t: only that of `rep` is a side, and only that of `cla` a clause number
+abbrev hasKind : ℕ → Rule → Bool
+hasKind k x = eqb (kindOf (ruleFields x .t)) k
+
+only : (k : ℕ) (y : Rule) → allOf (λ x. eqb (placeOf x) (placeOf y) || not (hasKind k x)) rules ≡ true → (x : Rule) → kindOf (ruleFields x .t) ≡ k → x ≡ y
+only k y h x e = same-rule x y (go (every-rule (λ x. eqb (placeOf x) (placeOf y) || not (hasKind k x)) h x) (eq-eqb (kindOf (ruleFields x .t)) k e))
   where
     go : {a b : Bool} → a || not b ≡ true → b ≡ true → a ≡ true
     go {a} {b} e q = sym (or-false a) ∙ (λ i. a || not (sym q i)) ∙ e
 
--- a field t that is a term is not that of `rep`
-pub not-rep : {x : Rule} (t : TermNumber) → ThirdFits (ruleFields x .t) (declared.ThirdField.Term t) → x ≡ Rule.Rep → ⊥
+pub is-rep : (x : Rule) → kindOf (ruleFields x .t) ≡ 1 → x ≡ Rule.Rep
+unfolding rules ruleNames ruleFields
+is-rep = only 1 Rule.Rep refl
+
+pub is-cla : (x : Rule) → kindOf (ruleFields x .t) ≡ 2 → x ≡ Rule.Cla
+unfolding rules ruleNames ruleFields
+is-cla = only 2 Rule.Cla refl
+
+-- a field t that is a term is not that of `rep`, nor of `cla`
+pub not-rep : {x : Rule} → kindOf (ruleFields x .t) ≡ 0 → x ≡ Rule.Rep → ⊥
 unfolding ruleFields
-not-rep t h e = rw e at h
+not-rep h e = let z : _≡_ {A = ℕ} 1 0 = rw e at h in omega arith
+
+pub not-cla : {x : Rule} → kindOf (ruleFields x .t) ≡ 0 → x ≡ Rule.Cla → ⊥
+unfolding ruleFields
+not-cla h e = let z : _≡_ {A = ℕ} 2 0 = rw e at h in omega arith

@@ -1,11 +1,11 @@
 -- What a rule is given, and what it answers: checks 12 to 14.
 use mathlib.Core.Path.{_≡_}
 use mathlib.Core.Bool.{Bool}
-use mathlib.Core.List.{List}
+use mathlib.Core.List.{List, []}
 use mathlib.Core.Option.{Option, none, some}
 use Prim.Native.Nat.{ℕ}
 use Rattle.tableau.specs.declared.Rule.{Rule}
-use Rattle.tableau.specs.Fields.{PlaceField, ThirdField, TermField, unused, place, side, term, of, ruleFields}
+use Rattle.tableau.specs.Fields.{PlaceField, ThirdField, TermField, unused, place, side, clause, term, of, ruleFields}
 use Rattle.tableau.specs.Terms.{Table, Literal}
 use Rattle.tableau.specs.Tree.{answer}
 use Rattle.packing.specs.declared.LiteralView.{LiteralView}
@@ -19,10 +19,11 @@ abbrev pub atPlace : PlaceField → LiteralView → Option Literal
 atPlace unused P = none
 atPlace place P = some (literalOf P)
 
--- the numbers of the fields t and w: 0 where the rule does not use the field, else that of a term, or any side
+-- the numbers of the fields t and w: 0 where the rule does not use the field, else that of a term, or any side or clause
 abbrev pub ThirdGiven : ThirdField → ℕ → Type 0
 ThirdGiven unused n = n ≡ 0
 ThirdGiven side n = Unit {0}
+ThirdGiven clause n = Unit {0}
 ThirdGiven term n = Small n
 ThirdGiven (of s) n = Small n
 
@@ -35,8 +36,8 @@ pub record Given (x : Rule) (t w : ℕ) : Type 0 where
   pub third : ThirdGiven (ruleFields x .t) t
   pub fourth : TermGiven (ruleFields x .w) w
 
--- the outcome is the answer of rule x
+-- the outcome is the answer of rule x, which looks at no clause
 pub record Infers (x : Rule) (P Q : LiteralView) (t w : ℕ) (fresh : Bool) (terms chains : List ℕ) (r : Outcome) : Type 0 where
   pub room : Room r
   pub answers : (table : Table) → Searchable table terms chains
-      → answer table fresh (atPlace (ruleFields x .p) P) (atPlace (ruleFields x .q) Q) t w x ≡ answerOf r
+      → answer table fresh (atPlace (ruleFields x .p) P) (atPlace (ruleFields x .q) Q) [] t w x ≡ answerOf r

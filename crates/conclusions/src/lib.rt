@@ -13,12 +13,12 @@ use tableau::TermNumber;
 ghost use Rattle.tableau.specs.Fields.{ruleFields};
 ghost use Rattle.tableau.specs.Terms.{Table};
 ghost use Rattle.table.specs.Held.{Searchable};
-ghost use Rattle.syntax.specs.Syntax.{ThirdFits, thirdIn};
+ghost use Rattle.syntax.specs.Syntax.{ThirdFits, thirdIn, NoClause};
 ghost use Rattle.syntax.specs.declared.ThirdField.{ThirdField as Third};
 ghost use Rattle.packing.specs.Packing.{SmallLiteral};
 ghost use Rattle.conclusions.specs.Infers.{Given, Infers};
 
-// The rules whose t is no side; `rep` does not come here, and is refused.
+// The rules whose t is a term; `rep` and `cla` do not come here, and are refused.
 fn by_rule(
     rule: Rule,
     p: LiteralView,
@@ -63,9 +63,11 @@ fn by_rule(
         Rule::Rdm => reads::rdm(t, terms, chains),
         Rule::Cls => closing::cls(p, q),
         Rule::Emp => closing::emp(p, terms),
+        Rule::Cla => Outcome::Refused(Reason::NeedNotMet),
     }
 }
 
+// Every rule but `cla`, which does not come here either.
 pub fn conclude(
     rule: Rule,
     p: LiteralView,
@@ -77,11 +79,13 @@ pub fn conclude(
     chains: &[u16; table::LINKS],
 ) -> Outcome
     requires { ⌜ ((table : Table) × Searchable table (now terms) (now chains)) ⌝ }
-    requires { ⌜ SmallLiteral p × SmallLiteral q × Given rule (thirdIn third) (w .0) × ThirdFits (ruleFields rule .t) third ⌝ }
+    requires { ⌜ SmallLiteral p × SmallLiteral q × Given rule (thirdIn third) (w .0) × ThirdFits (ruleFields rule .t) third × NoClause third ⌝ }
     ensures { λ r. ⌜ Infers rule p q (thirdIn third) (w .0) fresh (now (terms .entry)) (now (chains .entry)) r ⌝ }
 {
     match third {
         ThirdField::Side(side) => equality::rep(p, q, side),
         ThirdField::Term(t) => by_rule(rule, p, q, t, w, fresh, terms, chains),
+        // `cla` is no rule of these: its alternatives are the clause's.
+        ThirdField::Clause(_) => Outcome::Refused(Reason::NeedNotMet),
     }
 }

@@ -1,18 +1,19 @@
 -- The evaluator's tests are the meaning, in both directions.
 use mathlib.Core.Path.{_≡_, refl, sym, _∙_, ap, subst}
-use mathlib.Core.Bool.{Bool, true, false, not, Bool·beq, false≢true}
-use mathlib.Core.Logic.{_↔_, Iff·rfl}
+use mathlib.Core.Bool.{Bool, true, false, _||_, not, Bool·beq, false≢true}
+use mathlib.Core.Logic.{_↔_, Iff·rfl, _⊎_, inl, inr}
+use mathlib.Core.List.{List, [], _∷_}
 use Prim.Native.Nat.{ℕ, zero, suc}
 use borrow.Author.Tests.{not-true}
 use Rattle.tableau.specs.declared.Relation.{Relation}
 use Rattle.tableau.specs.Terms.{TermNo, Term, Literal, literal, sortIndex}
 use Rattle.tableau.specs.Meaning.{Below, widen, FiniteHeap, Region, Store, Value, reference, region, heap, field, class, kind, asRef, asRegion, asStore, asField, asClass}
-use Rattle.tableau.specs.Meaning.{Values, value, Holds, True}
+use Rattle.tableau.specs.Meaning.{Values, value, Holds, True, AnyTrue}
 use Rattle.tableau.proofs.Bools.{and-l, and-r, and-i, eqb-same}
 use Rattle.tableau.proofs.Values.{same-eq, same-refl, region-path, asSort, as-sort}
 use Rattle.tableau.proofs.Match.{same-sort}
 use Rattle.evaluation.specs.Orders.{each, each-out}
-use Rattle.evaluation.specs.Evaluation.{sameRegion, sameStore, agrees, isEq, holds, isTrue}
+use Rattle.evaluation.specs.Evaluation.{sameRegion, sameStore, agrees, isEq, holds, isTrue, anyPasses}
 
 pub each-in : (n : ℕ) (f : Below n → Bool) → ((x : Below n) → f x ≡ true) → each n f ≡ true
 unfolding each
@@ -34,6 +35,14 @@ eq-beq false false e = refl
 denied : {P : Type 0} (b : Bool) → (b ≡ true) ↔ P → (not b ≡ true) ↔ ¬ P
 denied true h = ((λ e. absurd (false≢true e)), (λ n. absurd (n (h .0 refl))))
 denied false h = ((λ e p. false≢true (h .1 p)), (λ n. refl))
+
+either : {P Q : Type 0} (a b : Bool) → (a ≡ true) ↔ P → (b ≡ true) ↔ Q → ((a || b) ≡ true) ↔ (P ⊎ Q)
+either true b p q = ((λ e. inl (p .0 refl)), (λ h. refl))
+either {P} {Q} false b p q = ((λ e. inr (q .0 e)), from)
+  where
+    from : P ⊎ Q → b ≡ true
+    from (inl x) = absurd (false≢true (p .1 x))
+    from (inr y) = q .1 y
 
 module _ (H : FiniteHeap) where
   region-eq : (r s : Region H) → sameRegion H r s ≡ true → r ≡ s
@@ -89,3 +98,8 @@ module _ {H : FiniteHeap} where
 -- THE TEST OF A LITERAL IS ITS TRUTH
 pub true-iff : {H : FiniteHeap} (ρ : Values H) (table : TermNo → Term) (l : Literal) → (isTrue ρ table l ≡ true) ↔ True ρ table l
 true-iff ρ table (literal R m n) = holds-iff R (value ρ table m) (value ρ table n)
+
+-- the test of several is the truth of one of them
+pub any-iff : {H : FiniteHeap} (ρ : Values H) (table : TermNo → Term) (ls : List Literal) → (anyPasses (isTrue ρ table) ls ≡ true) ↔ AnyTrue ρ table ls
+any-iff ρ table [] = (false≢true, (λ t. absurd t))
+any-iff ρ table (l ∷ ls) = either (isTrue ρ table l) _ (true-iff ρ table l) (any-iff ρ table ls)

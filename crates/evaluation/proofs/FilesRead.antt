@@ -7,14 +7,14 @@ use Prim.Native.Nat.{ℕ}
 use Rattle.tableau.specs.declared.Letter.{Letter}
 use Rattle.tableau.specs.Basics.{lookup, every}
 use Rattle.tableau.specs.File.{Line, letters, rank, inOrder, shape}
-use Rattle.tableau.specs.Words.{Command, make, assume, infer}
-use Rattle.tableau.specs.Terms.{Term, Literal, literal, written}
+use Rattle.tableau.specs.Words.{Command, make, assume, disjoin, infer}
+use Rattle.tableau.specs.Terms.{Term, Literal, literal, Disjunct, written}
 use Rattle.tableau.specs.Tree.{passed, isOpen}
 use Rattle.tableau.specs.Reply.{State}
-use Rattle.tableau.specs.Claims.{lineTerm, lineLiteral, allButLast, termsIn, literalsIn}
+use Rattle.tableau.specs.Claims.{lineTerm, lineLiteral, lineDisjunct, allButLast, termsIn, literalsIn}
 use Rattle.tableau.proofs.Bools.{clash}
 use Rattle.tableau.proofs.Checks.{passed-injective, require-passed, requireSome-passed, letterOf, command-letter, LinePassed, Run, done, next}
-use Rattle.tableau.proofs.Soundness.{line-term, line-literal, line-table, unsplit, line-branch}
+use Rattle.tableau.proofs.Soundness.{line-term, line-literal, line-disjunct, line-table, unsplit, line-branch}
 use Rattle.evaluation.specs.declared.FactWord.{FactWord}
 use Rattle.evaluation.specs.Facts.{heapLetters, factWords, factFields, Facts, sizeFirst, zeroUnlessUsed, mayFollow, runFact}
 use Rattle.evaluation.specs.Evaluation.{beginsStep, beforeSteps}
@@ -54,10 +54,14 @@ no-steps (l ∷ ls) = go (beginsStep l) refl (no-steps ls)
     go true e ih = tt
     go false e ih = (e, ih)
 
--- a line that passes and is no step adds a term, before any literal, or a literal
+-- a line that passes and is no step adds a term, before any literal, or a literal, before any of a clause, or a literal of a clause
 pub data OneAdded (σ : State) (l : List ℕ) (σ′ : State) : Type 0 where
-  term : (t : Term) → lineTerm (shape letters l) ≡ t ∷ [] → lineLiteral (shape letters l) ≡ [] → inOrder (σ .letter) Letter.T ≡ true → OneAdded σ l σ′
-  assumption : (L : Literal) → lineTerm (shape letters l) ≡ [] → lineLiteral (shape letters l) ≡ L ∷ [] → σ′ .letter ≡ Letter.A → OneAdded σ l σ′
+  term : (t : Term) → lineTerm (shape letters l) ≡ t ∷ [] → lineLiteral (shape letters l) ≡ [] → lineDisjunct (shape letters l) ≡ []
+      → inOrder (σ .letter) Letter.T ≡ true → OneAdded σ l σ′
+  assumption : (L : Literal) → lineTerm (shape letters l) ≡ [] → lineLiteral (shape letters l) ≡ L ∷ [] → lineDisjunct (shape letters l) ≡ []
+      → inOrder (σ .letter) Letter.A ≡ true → σ′ .letter ≡ Letter.A → OneAdded σ l σ′
+  disjunct : (d : Disjunct) → lineTerm (shape letters l) ≡ [] → lineLiteral (shape letters l) ≡ [] → lineDisjunct (shape letters l) ≡ d ∷ []
+      → σ′ .letter ≡ Letter.C → OneAdded σ l σ′
 
 module _ {σ σ′ : State} {l : List ℕ} (p : LinePassed σ l σ′) (h : beginsStep l ≡ false) where
   pub no-step : inOrder Letter.S (p .line .letter) ≡ false
@@ -68,12 +72,17 @@ module _ {σ σ′ : State} {l : List ℕ} (p : LinePassed σ l σ′) (h : begi
   one-added = go (p .command) refl (command-letter (p .line .letter) (p .line .word) (p .known))
     where
       go : (c : Command) → p .command ≡ c → letterOf (p .command) ≡ p .line .letter → OneAdded σ l σ′
-      go (make w) e k = term (written w (p .line .fields)) (rw (line-term p, e)) (rw (line-literal p, e)) (rw (← k, e) at (p .ordered))
+      go (make w) e k = term (written w (p .line .fields)) (rw (line-term p, e)) (rw (line-literal p, e)) (rw (line-disjunct p, e)) (rw (← k, e) at (p .ordered))
       go (assume R) e k =
-          assumption (literal R (p .line .fields .a) (p .line .fields .b)) (rw (line-term p, e)) (rw (line-literal p, e)) (p .run .letter ∙ ap letterOf e)
+          let n = p .line .fields in
+          assumption (literal R (n .a) (n .b)) (rw (line-term p, e)) (rw (line-literal p, e)) (rw (line-disjunct p, e)) (rw (← k, e) at (p .ordered)) (p .run .letter ∙ ap letterOf e)
+      go (disjoin R) e k =
+          let n = p .line .fields in
+          let d : Disjunct = record { clause = n .c; is = literal R (n .a) (n .b) } in
+          disjunct d (rw (line-term p, e)) (rw (line-literal p, e)) (rw (line-disjunct p, e)) (p .run .letter ∙ ap letterOf e)
       go (infer x) e k = clash (ap (inOrder Letter.S) (sym k ∙ ap letterOf e)) no-step
 
--- the table grows by the terms of the lines, and the branch by their literals
+-- the table grows by the terms of the lines, and the branch by their literals (the clauses by those of the lines: `run-clauses`)
 pub record Assumed (σ τ : State) (A : List Literal) (ls : List (List ℕ)) : Type 0 where
   pub table : τ .table ≡ σ .table ++ termsIn ls
   pub status : τ .status ≡ isOpen (unsplit (A ++ literalsIn ls))
@@ -85,15 +94,27 @@ run-assumed (next p r) n A o =
     let a = run-assumed r (n .1) _ (line-branch p (no-step p (n .0)) A o) in
     record { table = a .table ∙ rw (line-table p, append-assoc); status = a .status ∙ rw append-assoc }
 
--- after an A line comes no T line
-pub no-terms : {σ τ : State} {ls : List (List ℕ)} → Run LinePassed σ ls τ → NoSteps ls → σ .letter ≡ Letter.A → termsIn ls ≡ []
+-- after an A or C line comes no T line
+pub no-terms : {σ τ : State} {ls : List (List ℕ)} → Run LinePassed σ ls τ → NoSteps ls → inOrder (σ .letter) Letter.T ≡ false → termsIn ls ≡ []
 unfolding termsIn rank
 no-terms done n a = refl
 no-terms {σ} (next {σ′ = σ′} {l = l} {ls = ls} p r) n a = go (one-added p (n .0)) (no-terms r (n .1))
   where
-    go : OneAdded σ l σ′ → (σ′ .letter ≡ Letter.A → termsIn ls ≡ []) → lineTerm (shape letters l) ++ termsIn ls ≡ []
-    go (term t u v o) later = absurd (false≢true (rw a at o))
-    go (assumption L u v k) later = rw u (later k)
+    go : OneAdded σ l σ′ → (inOrder (σ′ .letter) Letter.T ≡ false → termsIn ls ≡ []) → lineTerm (shape letters l) ++ termsIn ls ≡ []
+    go (term t u v w o) later = clash o a
+    go (assumption L u v w o k) later = rw u (later (rw k))
+    go (disjunct d u v w k) later = rw u (later (rw k))
+
+-- after a C line comes no A line
+pub no-literals : {σ τ : State} {ls : List (List ℕ)} → Run LinePassed σ ls τ → NoSteps ls → σ .letter ≡ Letter.C → literalsIn ls ≡ []
+unfolding literalsIn rank
+no-literals done n a = refl
+no-literals {σ} (next {σ′ = σ′} {l = l} {ls = ls} p r) n a = go (one-added p (n .0)) (no-literals r (n .1))
+  where
+    go : OneAdded σ l σ′ → (σ′ .letter ≡ Letter.C → literalsIn ls ≡ []) → lineLiteral (shape letters l) ++ literalsIn ls ≡ []
+    go (term t u v w o) later = absurd (false≢true (rw a at o))
+    go (assumption L u v w o k) later = absurd (false≢true (rw a at o))
+    go (disjunct d u v w k) later = rw v (later k)
 
 -- THE HEAP FILE: what is known of a D line that passed
 pub record FactPassed (facts : Facts) (bs : List ℕ) (facts′ : Facts) : Type 0 where

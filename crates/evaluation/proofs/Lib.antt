@@ -7,6 +7,7 @@ pub mod Passable
 pub mod FactLines
 pub mod Finding
 pub mod HeapSaid
+pub mod ClauseLines
 pub mod Evaluated
 pub mod StepPrefix
 pub mod Computed

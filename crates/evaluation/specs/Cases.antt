@@ -5,6 +5,7 @@ use Prim.Native.String.{String}
 use lib.ListN.{take}
 use Rattle.tableau.specs.Cases.{fileOf, withLine, F}
 use Rattle.tableau.specs.Failings.{incident}
+use Rattle.tableau.specs.Disjunctions.{noJog, witnessInClause, gapInNumbers}
 use Rattle.evaluation.specs.Evaluation.{evaluation, evaluationLine}
 
 -- the record that the incident's receiver reads is `nul`
@@ -17,6 +18,10 @@ noRecord =
     "D,rgv,1,1,0,0" ∷
     []
 
+-- the value of `rfv` 1 is the one object, and in no region
+unfoldable pub oneObject : List String
+oneObject = "D,siz,2,1,1,0" ∷ "D,alc,1,0,0,0" ∷ "D,rfv,1,1,0,0" ∷ []
+
 pub record HeapCase : Type 0 where
   pub checker : List String
   pub file : List String
@@ -27,7 +32,7 @@ abbrev pub _⊩_⊢_ : List String → List String → String → HeapCase
 c ⊩ h ⊢ r = record { checker = c; file = h; says = r }
 
 unfoldable pub heapCases : List HeapCase
-unfolding F incident noRecord
+unfolding F incident noJog witnessInClause gapInNumbers noRecord oneObject
 heapCases =
     -- all true; the receiver is no object; its class; its record is in the image
     (incident ⊩ noRecord ⊢ "0,0,0") ∷
@@ -35,7 +40,14 @@ heapCases =
     (incident ⊩ noRecord ++ ("D,typ,1,1,0,0" ∷ []) ⊢ "0,0,11") ∷
     (incident ⊩ noRecord ++ ("D,arv,1,1,0,1" ∷ []) ⊢ "0,0,12") ∷
     -- an accepted file
-    (F ⊩ ("D,siz,2,1,1,0" ∷ "D,alc,1,0,0,0" ∷ "D,rfv,1,1,0,0" ∷ "D,rgv,1,1,0,0" ∷ "D,rgv,2,1,0,0" ∷ []) ⊢ "0,0,6") ∷
+    (F ⊩ oneObject ++ ("D,rgv,1,1,0,0" ∷ "D,rgv,2,1,0,0" ∷ []) ⊢ "0,0,6") ∷
+    -- clauses: a true literal in each; the last line of the first with none, alone, before another and behind another; a false A line before two such; a gap in the numbers
+    (noJog ⊩ oneObject ++ ("D,rgv,2,1,0,0" ∷ []) ⊢ "0,0,0") ∷
+    (noJog ⊩ oneObject ⊢ "0,0,6") ∷
+    (take 6 noJog ++ ("C,in,1,3,2,0" ∷ []) ⊩ oneObject ⊢ "0,0,6") ∷
+    (witnessInClause ⊩ oneObject ++ ("D,rgv,2,1,0,0" ∷ []) ⊢ "0,0,6") ∷
+    (witnessInClause ⊩ oneObject ++ ("D,rgv,1,1,0,0" ∷ "D,rgv,2,1,0,0" ∷ []) ⊢ "0,0,4") ∷
+    (gapInNumbers ⊩ oneObject ⊢ "21,1,3") ∷
     -- nothing assumed, nothing allocated
     ([] ⊩ ("D,siz,1,1,1,0" ∷ []) ⊢ "0,0,0") ∷
     -- the checker file's refusals come first; what follows the first line that begins `S,` is not read

@@ -1,15 +1,15 @@
 -- Truth as a test, the reply from the bytes of both files, and the forms in which it is given.
 use mathlib.Core.Path.{_≡_, refl}
-use mathlib.Core.Bool.{Bool, true, false, not, cond, Bool·beq}
+use mathlib.Core.Bool.{Bool, true, false, not, cond, _||_, Bool·beq}
 use mathlib.Core.List.{List, [], _∷_, _++_}
-use Prim.Native.Nat.{ℕ, suc}
+use Prim.Native.Nat.{ℕ, zero, suc, _+_}
 use lib.Dec.{eqb, leb}
 use lib.ListN.{length, take}
 use Rattle.tableau.specs.declared.Relation.{Relation}
 use Rattle.tableau.specs.declared.Reason.{Reason}
 use Rattle.tableau.specs.Basics.{bytes, sameBytes}
 use Rattle.tableau.specs.File.{split, LF, maxBytes}
-use Rattle.tableau.specs.Terms.{TermNo, Term, Literal, literal, at, sameSort}
+use Rattle.tableau.specs.Terms.{TermNo, ClauseNo, Term, Literal, literal, Clauses, clauseOf, lastClause, linesTo, at, sameSort}
 use Rattle.tableau.specs.Meaning.{_and_, same, FiniteHeap, Region, Store, Value, reference, region, heap, field, class, kind, asRef, asRegion, asStore, asField, asClass, Values, value, isIn, isLe}
 use Rattle.tableau.specs.Tree.{passed, Status, isOpen, isClosed}
 use Rattle.tableau.specs.Reply.{reasonNumber, State, start, runLine, RunEnd, stopped, ended, runLines, decimal, commaNumbers, numberBytes, Call}
@@ -55,6 +55,21 @@ abbrev pub firstFalse : (Literal → Bool) → ℕ → List Literal → ℕ
 firstFalse test i [] = 0
 firstFalse test i (l ∷ ls) = cond (test l) (firstFalse test (suc i) ls) (suc i)
 
+-- a literal that passes a test
+abbrev pub anyPasses : (Literal → Bool) → List Literal → Bool
+anyPasses test [] = false
+anyPasses test (l ∷ ls) = test l || anyPasses test ls
+
+-- "the last line of the first clause with no true literal": from clause k on, of which n are left, where i lines stand before the C lines; 0 where each has one
+unfoldable pub firstFalseClause : (Literal → Bool) → ℕ → Clauses → ClauseNo → ℕ → ℕ
+firstFalseClause test i C k zero = 0
+firstFalseClause test i C k (suc n) = cond (anyPasses test (clauseOf C k)) (firstFalseClause test i C (suc k) n) (i + linesTo C k)
+
+-- "where no A line is false"
+abbrev pub orClause : ℕ → ℕ → ℕ
+orClause zero i = i
+orClause (suc j) i = suc j
+
 -- "Reading of the checker file stops before the first line that begins `S,`."
 abbrev pub beginsStep : List ℕ → Bool
 beginsStep l = sameBytes (bytes "S,") (take 2 l)
@@ -84,9 +99,12 @@ assumptionsOf (isOpen τ) = τ .branch
 assumptionsOf isClosed = []
 
 module _ (σ : State) (facts : Facts) where
-  -- ".. else of the first false A line, 0 where all hold": the A lines follow the T lines, and each of these made a term
+  -- ".. else of the first false A line, 0 where all hold": the A lines follow the T lines, each of which made a term, and the C lines follow the A lines
   unfoldable pub falseLine : isOrder facts ≡ true → ℕ
-  falseLine ordered = firstFalse (isTrue (valuesOf facts ordered) (at (σ .table))) (length (σ .table)) (assumptionsOf (σ .status))
+  falseLine ordered =
+      let test = isTrue (valuesOf facts ordered) (at (σ .table)) in
+      let A = assumptionsOf (σ .status) in
+      orClause (firstFalse test (length (σ .table)) A) (firstFalseClause test (length (σ .table) + length A) (σ .clauses) 1 (lastClause (σ .clauses)))
 
   -- "20, after all of them, an order that isn't transitive and antisymmetric, with line 0"
   abbrev pub onHeap : (b : Bool) → isOrder facts ≡ b → Evaluation
@@ -108,7 +126,7 @@ abbrev pub afterLines : RunEnd State → List ℕ → Evaluation
 afterLines (stopped r i) heapFile = refusal r 1 i
 afterLines (ended σ i) heapFile = readHeap σ (leb (length heapFile) maxBytes) heapFile
 
--- "The checker file's T and A lines are checked first, as by the checker (1 by its whole length, 17 never)"
+-- "The checker file's T[, A and C] lines are checked first, as by the checker (1 by its whole length, 17 never)"
 abbrev pub readChecker : Bool → List ℕ → List ℕ → Evaluation
 readChecker true file heapFile = afterLines (runLines runLine (beforeSteps (split LF file)) 0 (passed start)) heapFile
 readChecker false file heapFile = refusal Reason.TooLong 1 0

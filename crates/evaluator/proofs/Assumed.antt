@@ -1,16 +1,18 @@
 -- What the lines before the first S line leave: a well-formed table, and literals that passed their checks.
 use mathlib.Core.Path.{_≡_, refl, sym, _∙_, ap, subst}
 use mathlib.Core.Bool.{true, false, true≢false}
-use mathlib.Core.List.{List, [], _∷_, _++_}
+use mathlib.Core.List.{List, [], _∷_, _++_, map-append}
 use Prim.Native.Nat.{ℕ}
 use Rattle.tableau.specs.declared.Letter.{Letter}
 use Rattle.tableau.specs.File.{rank, inOrder}
-use Rattle.tableau.specs.Words.{Command, make, assume, infer}
-use Rattle.tableau.specs.Terms.{Table, Literal, literal, at}
+use Rattle.tableau.specs.Basics.{four}
+use Rattle.tableau.specs.Words.{Command, make, assume, disjoin, infer}
+use Rattle.tableau.specs.Terms.{Table, Literal, literal, Disjunct, Clauses, disjuncts, at}
 use Rattle.tableau.specs.Tree.{Tree, isOpen}
 use Rattle.tableau.specs.Reply.{State}
 use Rattle.tableau.proofs.Bools.{clash}
 use Rattle.tableau.proofs.Checks.{letterOf, command-letter, Did, LinePassed, Run, done, next}
+use Rattle.tableau.proofs.ClauseLaws.{disjunct-as-assumption}
 use Rattle.tableau.proofs.WellFormed.{WellFormed}
 use Rattle.tableau.proofs.Soundness.{unsplit, line-well-formed}
 use Rattle.evaluation.specs.Evaluation.{beginsStep}
@@ -18,18 +20,22 @@ use Rattle.evaluation.proofs.FilesRead.{NoSteps, no-step}
 use Rattle.term_values.specs.Literals.{IsAssumption}
 use Rattle.evaluator.specs.Assumptions.{AllAssumptions}
 
--- the tree has one branch, its literals passed their checks on the table, and a T line may only come where there is none
+-- the tree has one branch, its literals and those of the clauses passed their checks on the table, and a T line may only come where there is none
 pub record Assumed (σ : State) : Type 0 where
   pub literals : List Literal
   pub status : σ .status ≡ isOpen (unsplit literals)
   pub checked : AllAssumptions (σ .table) literals
-  pub first : inOrder (σ .letter) Letter.T ≡ true → literals ≡ []
+  pub checkedToo : AllAssumptions (σ .table) (disjuncts (σ .clauses))
+  pub first : inOrder (σ .letter) Letter.T ≡ true → (literals ≡ []) × (σ .clauses ≡ [])
   pub wellFormed : WellFormed (at (σ .table))
 
 one-more : (table : Table) (ls : List Literal) (l : Literal) → AllAssumptions table ls → IsAssumption table l → AllAssumptions table (ls ++ (l ∷ []))
 unfolding AllAssumptions
 one-more table [] l a h = (h, tt)
 one-more table (x ∷ xs) l a h = (a .0, one-more table xs l (a .1) h)
+
+more-disjuncts : (C : Clauses) (d : Disjunct) → disjuncts (C ++ (d ∷ [])) ≡ disjuncts C ++ (d .is ∷ [])
+more-disjuncts C d = map-append (λ x. x .is) C (d ∷ [])
 
 line-assumed : {σ σ′ : State} {l : List ℕ} (p : LinePassed σ l σ′) → beginsStep l ≡ false → Assumed σ → Assumed σ′
 unfolding AllAssumptions rank
@@ -43,9 +49,10 @@ line-assumed {σ} {σ′} {l} p h A = go (p .command) refl (p .run .did) (comman
         let none = A .first (rw (← k, e) at (p .ordered)) in
         record {
           literals = [];
-          status = d .1 ∙ ap isOpen (tree-is ∙ ap unsplit none);
+          status = d .1 ∙ ap isOpen (tree-is ∙ ap unsplit (none .0));
           checked = tt;
-          first = λ o. refl;
+          checkedToo = rw (d .2, none .1) tt;
+          first = λ o. (refl, d .2 ∙ none .1);
           wellFormed = line-well-formed p (A .wellFormed);
         }
     go (assume R) e d k =
@@ -54,6 +61,19 @@ line-assumed {σ} {σ′} {l} p h A = go (p .command) refl (p .run .did) (comman
           literals = A .literals ++ (literal R (n .a) (n .b) ∷ []);
           status = d .1 ∙ ap (λ (t : Tree). isOpen (record { branch = t .branch ++ (literal R (n .a) (n .b) ∷ []); waiting = t .waiting })) tree-is;
           checked = subst (λ (x : Table). AllAssumptions x (A .literals ++ (literal R (n .a) (n .b) ∷ []))) (sym (d .0)) (one-more (σ .table) (A .literals) _ (A .checked) (R, n, d .2));
+          checkedToo = rw (d .0, d .3) (A .checkedToo);
+          first = λ o. absurd (true≢false (sym o ∙ ap (λ (x : Letter). inOrder x Letter.T) (p .run .letter ∙ ap letterOf e)));
+          wellFormed = line-well-formed p (A .wellFormed);
+        }
+    go (disjoin R) e d k =
+        let n = p .line .fields in
+        let D : Disjunct = record { clause = n .c; is = literal R (n .a) (n .b) } in
+        let h = one-more (σ .table) (disjuncts (σ .clauses)) (literal R (n .a) (n .b)) (A .checkedToo) (R, four (n .a) (n .b) 0 (n .d), sym (disjunct-as-assumption (σ .table) R n) ∙ d .2 .line) in
+        record {
+          literals = A .literals;
+          status = d .1 ∙ ap isOpen tree-is;
+          checked = rw (d .0) (A .checked);
+          checkedToo = rw (d .0, d .2 .after, more-disjuncts (σ .clauses) D) h;
           first = λ o. absurd (true≢false (sym o ∙ ap (λ (x : Letter). inOrder x Letter.T) (p .run .letter ∙ ap letterOf e)));
           wellFormed = line-well-formed p (A .wellFormed);
         }

@@ -16,12 +16,12 @@ use Rattle.evaluation.specs.Claims.{Means, EqualsMeaning, NeverAllTrue}
 use Rattle.evaluation.proofs.Evaluated.{evaluation-cases, equals-meaning, never-all-true}
 
 -- NUMBERS fit four bytes
-reason-small : (r : Reason) → reasonNumber r ≤ 20
+reason-small : (r : Reason) → reasonNumber r ≤ 21
 unfolding reasonNumber
-reason-small r = leb-true _ 20 (every-value reason-type.enum refl (λ x. leb (reasonNumber x) 20) refl r)
+reason-small r = leb-true _ 21 (every-value reason-type.enum refl (λ x. leb (reasonNumber x) 21) refl r)
 
-pub number-small : (file heap : List ℕ) → evaluation file heap .number ≤ 20
-number-small file heap = evaluation-cases file heap (λ e. e .number ≤ 20) (λ r k i. reason-small r) (λ σ facts p o. omega arith)
+pub number-small : (file heap : List ℕ) → evaluation file heap .number ≤ 21
+number-small file heap = evaluation-cases file heap (λ e. e .number ≤ 21) (λ r k i. reason-small r) (λ σ facts p o. omega arith)
 
 -- THE CALL
 pub buffer-right : (file heap b : List ℕ) → length b ≡ evaluationLength

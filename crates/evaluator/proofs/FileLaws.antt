@@ -50,9 +50,9 @@ module _ (file heap : List ℕ) where
     pub file-stops : (r : Reason) (i : ℕ) → checkFrom (take k file) 0 0 (passed start) ≡ stopped r i → evaluation file heap ≡ refusal r 1 i
     file-stops r i e = file-runs e
 
-    module _ {A : Arrays} {t : Tree} {g : Progress} (F : Finished (take k file) A t g) where
+    module _ {A : Arrays} {words : List ℕ} {t : Tree} {g : Progress} (F : Finished (take k file) A words t g) where
       abbrev state : State
-      state = stateAt (F .table) (treeOf unpackLiteral t) g
+      state = stateAt (F .table) (F .clauses) (treeOf unpackLiteral t) g
 
       pub file-ends : evaluation file heap ≡ readHeap state (leb (length heap) maxBytes) heap
       file-ends = file-runs (F .runs)
@@ -62,14 +62,14 @@ module _ (file heap : List ℕ) where
       assumed =
           let r : Run LinePassed start (linesRead file) state = rw (← part-lines) (lines-passed LinePassed runLine (λ σ σ′. line-passed σ) (split LF (take k file)) 0 start (F .runs)) in
           let n : NoSteps (linesRead file) = rw (lines-read (split LF file)) (no-steps (linesOf file)) in
-          run-assumed r n (record { literals = []; status = refl; checked = tt; first = λ o. refl; wellFormed = empty-well-formed })
+          run-assumed r n (record { literals = []; status = refl; checked = tt; checkedToo = tt; first = λ o. (refl, refl); wellFormed = empty-well-formed })
 
       -- the branch is the only one, and its literals are those assumed
       literals-are : (c : Bool) (τ : specification.Tree) (ls : List Literal) → statusOf c τ ≡ isOpen (unsplit ls) → (assumptionsOf (statusOf c τ) ≡ τ .branch) × (ls ≡ τ .branch)
       literals-are true τ ls e = let z : true ≡ false = cc in absurd (true≢false z)
       literals-are false τ ls e = (refl, ap (λ (s : Status). assumptionsOf s) (sym e))
 
-      pub state-held : StateHeld state (A .terms) (g .counts .terms) (t .branch) (t .len)
+      pub state-held : StateHeld state (A .terms) (g .counts .terms) (t .branch) (t .len) words (g .clauses)
       state-held =
           let l = literals-are (g .closed) (treeOf unpackLiteral t) (assumed .literals) (assumed .status) in
           record {
@@ -79,4 +79,6 @@ module _ (file heap : List ℕ) where
             branch = F .within .branch;
             literals = l .0;
             checked = subst (AllAssumptions (F .table)) (l .1) (assumed .checked);
+            clauses = F .clausesHeld;
+            disjuncts′ = assumed .checkedToo;
           }

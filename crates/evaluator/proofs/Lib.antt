@@ -4,3 +4,4 @@ pub mod ValueLaws
 pub mod TrialLaws
 pub mod FileLaws
 pub mod CallLaws
+pub mod DisjunctionLaws

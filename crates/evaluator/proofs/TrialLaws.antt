@@ -2,21 +2,23 @@
 use mathlib.Core.Path.{_≡_, refl, sym, _∙_, ap, subst}
 use mathlib.Core.Bool.{Bool, true, false, Bool-set, true≢false}
 use mathlib.Core.List.{List, [], _∷_}
-use Prim.Native.Nat.{ℕ, suc, _+_, _<_, _≤_}
+use Prim.Native.Nat.{ℕ, zero, suc, _+_, _<_, _≤_}
 use native.Mathlib.Numerals.{add-one}
 use native.Mathlib.Omega.{arith}
 use lib.Dec.{leb}
-use lib.ListN.{length, take}
+use lib.ListN.{length, take, length-map}
+use lib.Seq.{length-take-le}
+use Rattle.packing.specs.Packing.{unpackLiteral}
 use borrow.Author.Tests.{le-leb, lt-leb}
 use Rattle.tableau.specs.declared.Reason.{Reason}
 use Rattle.tableau.specs.Basics.{Four}
 use Rattle.tableau.specs.File.{LF, split, maxBytes}
-use Rattle.tableau.specs.Terms.{at}
+use Rattle.tableau.specs.Terms.{lastClause, at}
 use Rattle.tableau.specs.Tree.{passed}
 use Rattle.tableau.specs.Reply.{State, RunEnd, stopped, ended}
 use Rattle.evaluation.specs.Facts.{Facts, sizes, isNil, runFact}
 use Rattle.evaluation.specs.Heaps.{isOrder, heapOf, valuesOf}
-use Rattle.evaluation.specs.Evaluation.{isTrue, firstFalse, assumptionsOf, Evaluation, refusal, noRefusal, falseLine, onHeap, afterFacts, readHeap}
+use Rattle.evaluation.specs.Evaluation.{isTrue, firstFalse, firstFalseClause, orClause, assumptionsOf, Evaluation, refusal, noRefusal, falseLine, onHeap, afterFacts, readHeap}
 use Rattle.tableau.proofs.Checks.{lines-passed}
 use Rattle.evaluation.proofs.Passable.{Passable}
 use Rattle.evaluation.proofs.FilesRead.{FactPassed, fact-passed}
@@ -31,7 +33,8 @@ use Rattle.heap_tables.specs.Tables.{TablesRead}
 use Rattle.heap_tables.specs.Order.{isOrderBelow}
 use Rattle.heap_tables.proofs.HeapLaws.{order-held, heap-held}
 use Rattle.term_values.specs.Shown.{ShownBelow}
-use Rattle.evaluator.specs.Assumptions.{literalsOf, FirstFalse}
+use Rattle.term_values.specs.Literals.{Evaluable}
+use Rattle.evaluator.specs.Assumptions.{literalsOf, FirstFalse, FirstFalseClause}
 use Rattle.evaluator.specs.Values.{TermsShown}
 use Rattle.evaluator.specs.Trial.{StateHeld}
 
@@ -50,18 +53,39 @@ module _ {g : Facts} {keys values : List ℕ} {n : ℕ} (F : FactsHeld g keys va
   pub order-is : {b t : Bool} → t ≡ isOrderBelow (tables .under) (s .classes) → t ≡ b → isOrder g ≡ b
   order-is q e = sym (order-held keys values n F tables R p) ∙ ap (λ (k : Four ℕ). isOrderBelow (tables .under) (k .c)) z ∙ sym q ∙ e
 
-  -- the line of the first false literal
-  pub false-line : {σ : State} {terms codes : List ℕ} {m len : ℕ} → StateHeld σ terms m codes len → (ordered : isOrder g ≡ true) {numbers rows : List ℕ}
-      → TermsShown terms keys values n tables numbers rows (m + 1) → {line : ℕ} → FirstFalse (literalsOf codes len) m terms numbers rows tables line → line ≡ falseLine σ g ordered
-  unfolding falseLine
-  false-line {σ} {m = m} S ordered {numbers} {rows} T L =
-      let H = heapOf g ordered in
-      let ρ = valuesOf g ordered in
-      let G = heap-held keys values n F tables R p ordered in
-      let shown = T .shown g ordered (σ .table) F p G (S .entries) (S .wellFormed) in
-      let all = subst (ShownBelow H ρ (σ .table) numbers rows) (add-one m ∙ ap suc (S .count)) shown in
-      L .is H ρ (σ .table) (S .entries) (S .checked) (record { wellFormed = S .wellFormed; heap = G; shown = all })
-      ∙ (λ i. firstFalse (isTrue ρ (at (σ .table))) (S .count i) (sym (S .literals) i))
+  module _ {σ : State} {terms codes words : List ℕ} {m len last : ℕ} (S : StateHeld σ terms m codes len words last) (ordered : isOrder g ≡ true) {numbers rows : List ℕ}
+      (T : TermsShown terms keys values n tables numbers rows (m + 1)) where
+    -- the arrays show the heap and the values
+    evaluable : Evaluable (heapOf g ordered) (valuesOf g ordered) (σ .table) tables numbers rows
+    evaluable =
+        let G = heap-held keys values n F tables R p ordered in
+        let shown = T .shown g ordered (σ .table) F p G (S .entries) (S .wellFormed) in
+        record { wellFormed = S .wellFormed; heap = G; shown = subst (ShownBelow (heapOf g ordered) (valuesOf g ordered) (σ .table) numbers rows) (add-one m ∙ ap suc (S .count)) shown }
+
+    -- the line of the first false literal, and the last of the first clause with no true one
+    firstLine : {line : ℕ} → FirstFalse (literalsOf codes len) m terms numbers rows tables line
+        → line ≡ firstFalse (isTrue (valuesOf g ordered) (at (σ .table))) (length (σ .table)) (assumptionsOf (σ .status))
+    firstLine L = L .is (heapOf g ordered) (valuesOf g ordered) (σ .table) (S .entries) (S .checked) evaluable
+        ∙ (λ i. firstFalse (isTrue (valuesOf g ordered) (at (σ .table))) (S .count i) (sym (S .literals) i))
+
+    pub false-line : {line : ℕ} → FirstFalse (literalsOf codes len) m terms numbers rows tables line → (line ≡ 0 → ⊥) → line ≡ falseLine σ g ordered
+    unfolding falseLine
+    false-line {line} L z = firstLine L ∙ some _ _ (λ e. z (firstLine L ∙ e))
+      where
+        some : (i j : ℕ) → (i ≡ 0 → ⊥) → i ≡ orClause i j
+        some zero j h = absurd (h refl)
+        some (suc i) j h = refl
+
+    length-is : length (assumptionsOf (σ .status)) ≡ len
+    length-is = ap length (S .literals) ∙ length-map (take len codes) unpackLiteral ∙ length-take-le len codes (omega (arith, S .branch .size, S .branch .room))
+
+    pub false-clause-line : FirstFalse (literalsOf codes len) m terms numbers rows tables 0 → {line : ℕ} → FirstFalseClause (σ .clauses) (m + len) terms numbers rows tables line → line ≡ falseLine σ g ordered
+    unfolding falseLine
+    false-clause-line L {line} U =
+        let e : m + len ≡ length (σ .table) + length (assumptionsOf (σ .status)) = omega (arith, S .count, length-is) in
+        subst (λ (b : ℕ). line ≡ firstFalseClause (isTrue (valuesOf g ordered) (at (σ .table))) b (σ .clauses) 1 (lastClause (σ .clauses))) e
+        (U .is (heapOf g ordered) (valuesOf g ordered) (σ .table) (S .entries) (S .disjuncts′) evaluable)
+        ∙ ap (λ (i : ℕ). orClause i (firstFalseClause (isTrue (valuesOf g ordered) (at (σ .table))) (length (σ .table) + length (assumptionsOf (σ .status))) (σ .clauses) 1 (lastClause (σ .clauses)))) (firstLine L)
 
 -- THE HEAP FILE: too long, with a line refused, without a line, or tried
 module _ (σ : State) (heap : List ℕ) where

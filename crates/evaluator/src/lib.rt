@@ -1,5 +1,6 @@
 // The evaluator: a heap file tried against the assumptions of a checker file; the build host's call, the reply line.
 mod assumptions;
+mod disjunctions;
 mod part;
 mod trial;
 mod values;
@@ -38,6 +39,7 @@ pub fn evaluate(file: &[u8], heap: &[u8]) -> Evaluation
     let mut chains: [u16; table::LINKS] = [0; table::LINKS];
     let mut rows: [u64; mentions::WORDS] = [0; mentions::WORDS];
     let mut prefix: [u64; freshness::PREFIX_WORDS] = [0; freshness::PREFIX_WORDS];
+    let mut clauses: [u32; clauses::WORDS] = [0; clauses::WORDS];
     let run = Run {
         tree: Tree::empty(),
     };
@@ -48,6 +50,7 @@ pub fn evaluate(file: &[u8], heap: &[u8]) -> Evaluation
         &mut chains,
         &mut rows,
         &mut prefix,
+        &mut clauses,
     );
     let tree = ran.tree;
     let ended = ran.end;
@@ -59,6 +62,8 @@ pub fn evaluate(file: &[u8], heap: &[u8]) -> Evaluation
             progress.counts.terms,
             &tree.branch,
             tree.len,
+            &clauses,
+            progress.clauses,
         ),
     }
 }

@@ -1,5 +1,6 @@
 // A heap file, once the checker file's lines have passed: it is read, and its heap is tried against the assumptions.
 use crate::assumptions::first_false;
+use crate::disjunctions::first_false_clause;
 use crate::values::term_values;
 use checker::FILE_BYTES;
 use evaluation_reply::Evaluation;
@@ -37,10 +38,12 @@ fn try_heap(
     n: usize,
     branch: &[u32; Tree::PLACES],
     len: usize,
+    clauses: &[u32; clauses::WORDS],
+    last: usize,
 ) -> Evaluation
-    requires { ⌜ ((σ : State) × StateHeld σ (now terms) n (now branch) len) ⌝ }
+    requires { ⌜ ((σ : State) × StateHeld σ (now terms) n (now branch) len (now clauses) last) ⌝ }
     requires { ⌜ ((g : Facts) × FactsHeld g (now keys) (now values) (facts .count) × Passable g × (sizesGiven g ≡ sizesOf (facts .sizes))) ⌝ }
-    ensures { λ r. ⌜ ((σ : State) (g : Facts) → StateHeld σ (now (terms .entry)) n (now (branch .entry)) len
+    ensures { λ r. ⌜ ((σ : State) (g : Facts) → StateHeld σ (now (terms .entry)) n (now (branch .entry)) len (now (clauses .entry)) last
         → FactsHeld g (now (keys .entry)) (now (values .entry)) (facts .count) → Passable g → sizesGiven g ≡ sizesOf (facts .sizes)
         → evaluationRecord r ≡ onHeap σ g (isOrder g) refl) ⌝ }
 {
@@ -61,7 +64,11 @@ fn try_heap(
         &mut numbers,
         &mut rows,
     );
-    no_refusal(first_false(branch, len, n, terms, &numbers, &rows, tables))
+    let line = first_false(branch, len, n, terms, &numbers, &rows, tables);
+    if line != 0 {
+        return no_refusal(line);
+    }
+    no_refusal(first_false_clause(clauses, last, n + len, terms, &numbers, &rows, tables))
 }
 
 // "then the heap file"
@@ -71,9 +78,11 @@ pub fn read_heap(
     n: usize,
     branch: &[u32; Tree::PLACES],
     len: usize,
+    clauses: &[u32; clauses::WORDS],
+    last: usize,
 ) -> Evaluation
-    requires { ⌜ ((σ : State) × StateHeld σ (now terms) n (now branch) len) ⌝ }
-    ensures { λ r. ⌜ ((σ : State) → StateHeld σ (now (terms .entry)) n (now (branch .entry)) len
+    requires { ⌜ ((σ : State) × StateHeld σ (now terms) n (now branch) len (now clauses) last) ⌝ }
+    ensures { λ r. ⌜ ((σ : State) → StateHeld σ (now (terms .entry)) n (now (branch .entry)) len (now (clauses .entry)) last
         → evaluationRecord r ≡ readHeap σ (leb (length (now (heap .entry))) maxBytes) (now (heap .entry))) ⌝ }
 {
     if FILE_BYTES < heap.len() {
@@ -87,7 +96,7 @@ pub fn read_heap(
             if facts.count == 0 {
                 return refused(Reason::LetterOrder, 2, 1);
             }
-            try_heap(facts, &keys, &values, terms, n, branch, len)
+            try_heap(facts, &keys, &values, terms, n, branch, len, clauses, last)
         }
     }
 }

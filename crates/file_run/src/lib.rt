@@ -7,6 +7,7 @@ use lines::LineRead;
 use lines::lines_end;
 use lines::read_line;
 use tableau::Reason;
+use tree::Alternative;
 use tree::Extent;
 use tree::Tree;
 ghost use mathlib.Core.Path.{_≡_};
@@ -17,6 +18,7 @@ ghost use Rattle.tableau.specs.declared.Reason.{Reason};
 ghost use Rattle.tableau.specs.File.{maxBytes};
 ghost use Rattle.tableau.specs.Tree.{root};
 ghost use Rattle.packing.specs.Packing.{unpackLiteral};
+ghost use Rattle.clauses.specs.Held.{ClausesHeld};
 ghost use Rattle.terms.specs.Arrays.{arrays, Held};
 ghost use Rattle.freshness.specs.Prefixes.{PrefixRows};
 ghost use Rattle.tree.specs.State.{treeOf, Within};
@@ -56,7 +58,7 @@ impl Run {
         self.ends(RunEnd::Stopped(Reason::BadShape, lines + 1))
     }
 
-    // From an empty tree, with arrays that hold no term and no row. The loop stands inside the method: called for each step, it would
+    // From an empty tree, with arrays that hold no term, no row and no clause. The loop stands inside the method: called for each step, it would
     // copy the tree.
     pub fn run(
         mut self,
@@ -65,10 +67,11 @@ impl Run {
         chains: &mut [u16; table::LINKS],
         rows: &mut [u64; mentions::WORDS],
         prefix: &mut [u64; freshness::PREFIX_WORDS],
+        clauses: &mut [u32; clauses::WORDS],
     ) -> Ran
-        requires { ⌜ Held [] (arrays (now terms) (now chains) (now rows)) 0 × PrefixRows [] (self .tree .branch) (now prefix) 0 ⌝ }
+        requires { ⌜ Held [] (arrays (now terms) (now chains) (now rows)) 0 × PrefixRows [] [] (self .tree .branch) (now prefix) 0 × ClausesHeld [] (now clauses) 0 ⌝ }
         requires { ⌜ Within (self .tree) × (treeOf unpackLiteral (self .tree) ≡ root) × (length (now file) ≤ maxBytes) ⌝ }
-        ensures { λ r. ⌜ RunsTo (now (file .entry)) (arrays (now (terms .exit)) (now (chains .exit)) (now (rows .exit))) (r .tree) (r .end) ⌝ }
+        ensures { λ r. ⌜ RunsTo (now (file .entry)) (arrays (now (terms .exit)) (now (chains .exit)) (now (rows .exit))) (now (clauses .exit)) (r .tree) (r .end) ⌝ }
     {
         let mut progress = Progress::start();
         let end = lines_end(file);
@@ -90,6 +93,7 @@ impl Run {
                 chains,
                 rows,
                 prefix,
+                clauses,
             ) {
                 LineResult::Refused(reason, line) => {
                     return self.ends(RunEnd::Stopped(reason, line));
@@ -99,6 +103,19 @@ impl Run {
                     let begun = change.begun;
                     self.tree.len = Tree::append(&mut self.tree.branch, change.cut, adds);
                     self.tree.count = Tree::push(&mut self.tree.waiting, change.kept, begun);
+                    progress = next;
+                }
+                LineResult::Splits(next, span) => {
+                    let from = span.from;
+                    let first = Alternative::one(clauses[from]);
+                    self.tree.len = Tree::append(&mut self.tree.branch, len, first);
+                    self.tree.count = Tree::push_rest(
+                        &mut self.tree.waiting,
+                        count,
+                        len,
+                        &*clauses,
+                        span,
+                    );
                     progress = next;
                 }
             }

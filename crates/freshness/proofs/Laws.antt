@@ -1,13 +1,13 @@
 -- When a term or a branch mentions w.
 use mathlib.Core.Path.{_≡_, refl, sym, _∙_, ap}
 use mathlib.Core.Bool.{true, false, _||_, or-false, or-assoc}
-use mathlib.Core.List.{List, [], _∷_, map}
+use mathlib.Core.List.{List, [], _∷_, _++_, map}
 use Prim.Native.Nat.{ℕ, zero, suc, _<_, _≤_}
 use native.Mathlib.Omega.{arith}
 use lib.ListN.{length, take, getD}
 use borrow.Author.Tests.{ne-eqb}
 use Rattle.tableau.specs.Fields.{arguments}
-use Rattle.tableau.specs.Terms.{TermNo, Table, Term, Literal, literal, at, layer, toDepth, fold, mentions, mentionedIn, mentioned}
+use Rattle.tableau.specs.Terms.{TermNo, Table, Term, Literal, literal, Disjunct, Clauses, disjuncts, at, layer, toDepth, fold, mentions, mentionedIn, mentioned}
 use Rattle.tableau.specs.Steps.{isRfv}
 use Rattle.tableau.proofs.Bools.{clash}
 use Rattle.tableau.proofs.TableGrowth.{at-zero, at-beyond}
@@ -43,6 +43,12 @@ mentioned-one-more f table w [] i h = absurd (omega arith)
 mentioned-one-more f table w (x ∷ b) zero h = or-false (mentionedIn table w (f x))
 mentioned-one-more f table w (x ∷ b) (suc i) h =
     ap (λ r. mentionedIn table w (f x) || r) (mentioned-one-more f table w b i (omega arith)) ∙ sym (or-assoc (mentionedIn table w (f x)) _ _)
+
+-- a literal more in the clauses
+pub mentioned-after : (table : TermNo → Term) (w : TermNo) (C : Clauses) (d : Disjunct) → mentioned table w (disjuncts (C ++ (d ∷ []))) ≡ (mentioned table w (disjuncts C) || mentionedIn table w (d .is))
+unfolding mentioned
+mentioned-after table w [] d = or-false (mentionedIn table w (d .is))
+mentioned-after table w (x ∷ C) d = ap (λ r. mentionedIn table w (x .is) || r) (mentioned-after table w C d) ∙ sym (or-assoc (mentionedIn table w (x .is)) _ _)
 
 -- no term has the number 0
 pub rfv-first : (table : Table) (w : TermNo) → isRfv (at table w) ≡ true → 0 < w

@@ -1,6 +1,5 @@
-// The freshness test: does a literal on the branch mention w? Row i of an array that the caller lends, ROW words from i * ROW on, has a
-// bit for each term, set where one of the first i literals mentions it, so that a test reads one bit. Rows are filled when they are
-// asked for; the caller keeps the number of those that still hold.
+// The freshness test: does a clause or a literal on the branch mention w? Row i of an array that the caller lends, ROW words from i * ROW on, has a bit for each term, set where a
+// clause or one of the first i literals mentions it, so that a test reads one bit. Rows are filled when they are asked for; the caller keeps the number of those that still hold.
 use mentions::ROW;
 use packing::TermView;
 use packing::literals::packed_left;
@@ -9,10 +8,10 @@ use tableau::Sort;
 use tableau::TermNumber;
 use tree::Tree;
 ghost use mathlib.Core.Path.{_≡_};
-ghost use mathlib.Core.List.{List, map};
+ghost use mathlib.Core.List.{List, [], _∷_, _++_, map};
 ghost use Prim.Native.Nat.{ℕ, _+_, _<_, _≤_};
 ghost use lib.ListN.{length, take};
-ghost use Rattle.tableau.specs.Terms.{Table, maxTerms};
+ghost use Rattle.tableau.specs.Terms.{Table, Clauses, maxTerms};
 ghost use Rattle.tableau.specs.Tree.{maxPlaces};
 ghost use Rattle.tableau.specs.Steps.{isFresh};
 ghost use Rattle.packing.specs.Packing.{unpackLiteral};
@@ -20,7 +19,7 @@ ghost use Rattle.table.specs.Held.{Entries};
 ghost use Rattle.mentions.specs.Mentions.{row, MentionRows, Filled};
 ghost use Rattle.freshness.specs.Prefixes.{prefixLength, PrefixRows, SideRow, nextBits};
 
-// A row for each length of the branch, 0 to 1000; no literals mention no term.
+// A row for each length of the branch, 0 to 1000; row 0 has what the clauses mention.
 pub const PREFIX_WORDS: usize = 10010;
 
 // The number whose row says what a literal's side mentions: 0, which mentions nothing, for a number that no term has.
@@ -34,24 +33,42 @@ fn side_row(n: usize, side: TermNumber) -> usize
     t
 }
 
-// Fills the row behind row i: what row i has, and what the two sides mention.
+// Fills row i: what an earlier row or row i itself has, and what the two sides mention.
 fn fill(
     prefix: &mut [u64; PREFIX_WORDS],
     rows: &[u64; mentions::WORDS],
+    from: usize,
     i: usize,
     left: usize,
     right: usize,
 )
-    requires { ⌜ (i < maxPlaces) × (left ≤ maxTerms) × (right ≤ maxTerms) ⌝ }
+    requires { ⌜ (from ≤ i) × (i ≤ maxPlaces) × (left ≤ maxTerms) × (right ≤ maxTerms) ⌝ }
     ensures { λ _. ⌜ (length (now (prefix .entry)) ≡ prefixLength
-        → Filled (now (prefix .entry)) (now (prefix .exit)) (i + 1) (nextBits (now (prefix .entry)) (now (rows .entry)) i left right) row) ⌝ }
+        → Filled (now (prefix .entry)) (now (prefix .exit)) i (nextBits (now (prefix .entry)) (now (rows .entry)) from left right) row) ⌝ }
 {
     let mut k = 0;
     while k < ROW {
-        let word = prefix[i * ROW + k] | (rows[left * ROW + k] | rows[right * ROW + k]);
-        prefix[(i + 1) * ROW + k] = word;
+        let word = prefix[from * ROW + k] | (rows[left * ROW + k] | rows[right * ROW + k]);
+        prefix[i * ROW + k] = word;
         k += 1;
     }
+}
+
+// A literal more in the clauses: no row of a branch is kept but row 0.
+pub fn note_clause(
+    prefix: &mut [u64; PREFIX_WORDS],
+    rows: &[u64; mentions::WORDS],
+    n: usize,
+    literal: u32,
+)
+    requires { ⌜ n ≤ maxTerms ⌝ }
+    ensures { λ _. ⌜ ((table : Table) (C : Clauses) (codes : List ℕ) (k : ℕ) → MentionRows table (now (rows .entry)) → length table ≡ n
+        → PrefixRows table C codes (now (prefix .entry)) 0
+        → PrefixRows table (C ++ (record { clause = k; is = unpackLiteral literal } ∷ [])) codes (now (prefix .exit)) 0) ⌝ }
+{
+    let left = side_row(n, packed_left(literal));
+    let right = side_row(n, packed_right(literal));
+    fill(prefix, rows, 0, 0, left, right);
 }
 
 // Fills the rows of the lengths past `noted`, up to len.
@@ -65,20 +82,20 @@ pub fn note(
 )
     requires { ⌜ n ≤ maxTerms ⌝ }
     requires { ⌜ (noted ≤ len) × (len ≤ maxPlaces) × (length (now branch) ≡ maxPlaces) ⌝ }
-    ensures { λ _. ⌜ ((table : Table) → MentionRows table (now (rows .entry)) → length table ≡ n
-        → PrefixRows table (now (branch .entry)) (now (prefix .entry)) noted → PrefixRows table (now (branch .entry)) (now (prefix .exit)) len) ⌝ }
+    ensures { λ _. ⌜ ((table : Table) (C : Clauses) → MentionRows table (now (rows .entry)) → length table ≡ n
+        → PrefixRows table C (now (branch .entry)) (now (prefix .entry)) noted → PrefixRows table C (now (branch .entry)) (now (prefix .exit)) len) ⌝ }
 {
     let mut i = noted;
     while i < len {
         let literal = branch[i];
         let left = side_row(n, packed_left(literal));
         let right = side_row(n, packed_right(literal));
-        fill(prefix, rows, i, left, right);
+        fill(prefix, rows, i, i + 1, left, right);
         i += 1;
     }
 }
 
-// Is the term w fresh: an `rfv` that none of the first len literals mentions? A number that no term has is not.
+// Is the term w fresh: an `rfv` that no clause and none of the first len literals mentions? A number that no term has is not.
 pub fn is_fresh(
     terms: &[u64; table::NUMBERS],
     prefix: &[u64; PREFIX_WORDS],
@@ -88,8 +105,8 @@ pub fn is_fresh(
 ) -> bool
     requires { ⌜ ((table : Table) × Entries table (now terms)) ⌝ }
     requires { ⌜ (n ≤ maxTerms) × (len ≤ maxPlaces) ⌝ }
-    ensures { λ r. ⌜ ((table : Table) (codes : List ℕ) → Entries table (now (terms .entry)) → length table ≡ n
-        → PrefixRows table codes (now (prefix .entry)) len → r ≡ isFresh table (map unpackLiteral (take len codes)) (w .0)) ⌝ }
+    ensures { λ r. ⌜ ((table : Table) (C : Clauses) (codes : List ℕ) → Entries table (now (terms .entry)) → length table ≡ n
+        → PrefixRows table C codes (now (prefix .entry)) len → r ≡ isFresh table C (map unpackLiteral (take len codes)) (w .0)) ⌝ }
 {
     let v = w.0;
     if n < v {

@@ -1,36 +1,44 @@
 // What a line makes of the tree and of the counts, and the verdict where the file ends.
+use clauses::Span;
 use reply::Counts;
 use reply::Verdict;
 use rules::outcome::Outcome;
+use tableau::ClauseNumber;
 use tableau::Letter;
 use tableau::Reason;
 use tableau::Rule;
 use tree::Change;
 use tree::Extent;
 use tree::Growth;
+use tree::Tree;
 use tree::least;
 ghost use mathlib.Core.Path.{_≡_};
 ghost use Prim.Native.Nat.{_<_, _≤_};
 ghost use Rattle.tableau.specs.File.{maxBytes};
+ghost use Rattle.tableau.specs.Reply.{maxDisjuncts};
 ghost use Rattle.tree.specs.Change.{InLimits};
 ghost use Rattle.rules.specs.Answer.{Room};
 ghost use Rattle.reply.specs.Verdict.{verdictOf};
 ghost use Rattle.growth.specs.Growth.{closingsOf, Grows};
-ghost use Rattle.growth.specs.Progress.{Counted, atStart, afterTerm, afterLiteral, afterStep, closedBy, cutTo, resultOf, verdictAtEnd};
+ghost use Rattle.growth.specs.Progress.{Counted, atStart, afterTerm, afterLiteral, afterDisjunct, afterStep, closedBy, cutTo, resultOf};
+ghost use Rattle.growth.specs.Progress.{splitOf, totalOf, verdictAtEnd};
 
-// How far a file is read: the letter of its last line, whether the tree is closed, the lines so far and their counts. The first `noted`
+// How far a file is read: the letter of its last line, whether the tree is closed, the lines so far and their counts, the number of the last clause. The first `noted`
 // literals of the branch have their rows of mentions.
 pub struct Progress {
     pub letter: Letter,
     pub closed: bool,
     pub lines: usize,
     pub noted: usize,
+    pub clauses: usize,
     pub counts: Counts,
 }
 
-// The result of a line: how far the file is read after it and what it makes of the tree; or the reason of its refusal beside its number.
+// The result of a line: how far the file is read after it and what it makes of the tree, which is a change, or a split into the literals of a clause; or the reason of
+// its refusal beside its number.
 pub enum LineResult {
     Passed(Progress, Change),
+    Splits(Progress, Span),
     Refused(Reason, usize),
 }
 
@@ -68,6 +76,7 @@ impl Progress {
             closed: false,
             lines: 0,
             noted: 0,
+            clauses: 0,
             counts: Counts {
                 terms: 0,
                 assumptions: 0,
@@ -88,6 +97,7 @@ impl Progress {
             closed: false,
             lines: self.lines + 1,
             noted: 0,
+            clauses: self.clauses,
             counts: Counts {
                 terms: c.terms + 1,
                 assumptions: c.assumptions,
@@ -107,12 +117,29 @@ impl Progress {
             closed: false,
             lines: self.lines + 1,
             noted: self.noted,
+            clauses: self.clauses,
             counts: Counts {
                 terms: c.terms,
                 assumptions: c.assumptions + 1,
                 steps: c.steps,
                 closings: c.closings,
             },
+        }
+    }
+
+    // A C line of this clause: no row but the clauses' own is kept.
+    pub fn after_disjunct(self, clause: ClauseNumber) -> Self
+        requires { ⌜ Counted self × (self .lines < maxBytes) ⌝ }
+        ensures { λ r. ⌜ r ≡ afterDisjunct self (clause .0) ⌝ }
+    {
+        let counts = self.counts;
+        Self {
+            letter: Letter::C,
+            closed: false,
+            lines: self.lines + 1,
+            noted: 0,
+            clauses: clause.0,
+            counts,
         }
     }
 
@@ -127,6 +154,7 @@ impl Progress {
             closed: false,
             lines: self.lines + 1,
             noted,
+            clauses: self.clauses,
             counts: Counts {
                 terms: c.terms,
                 assumptions: c.assumptions,
@@ -146,6 +174,7 @@ impl Progress {
             closed: true,
             lines: self.lines,
             noted: self.noted,
+            clauses: self.clauses,
             counts,
         }
     }
@@ -161,6 +190,7 @@ impl Progress {
             closed: self.closed,
             lines: self.lines,
             noted: least(self.noted, len),
+            clauses: self.clauses,
             counts,
         }
     }
@@ -176,14 +206,43 @@ impl Progress {
         }
     }
 
+    // The result of a split into the literals of a clause, with checks 15 and 16.
+    pub fn split(self, extent: Extent, span: Span) -> LineResult
+        requires { ⌜ InLimits extent × (1 ≤ span .count) × (span .count ≤ maxDisjuncts) ⌝ }
+        ensures { λ r. ⌜ r ≡ splitOf self extent span ⌝ }
+    {
+        let len = extent.len;
+        let count = extent.count;
+        if Tree::PLACES < len + 1 {
+            return LineResult::Refused(Reason::BranchFull, self.lines);
+        }
+        if Tree::WAITING < count + (span.count - 1) {
+            return LineResult::Refused(Reason::WaitingFull, self.lines);
+        }
+        LineResult::Splits(self, span)
+    }
+
+    // "The assumed count takes A lines plus clauses."
+    fn total(self) -> Counts
+        requires { ⌜ Counted self × (self .lines ≤ maxBytes) ⌝ }
+        ensures { λ r. ⌜ r ≡ totalOf self ⌝ }
+    {
+        let c = self.counts;
+        Counts {
+            terms: c.terms,
+            assumptions: c.assumptions + self.clauses,
+            steps: c.steps,
+            closings: c.closings,
+        }
+    }
+
     // The end of the file: a closed tree is accepted, an open one breaks check 17.
     pub fn end(self) -> Verdict
-        requires { ⌜ self .lines ≤ maxBytes ⌝ }
+        requires { ⌜ Counted self × (self .lines ≤ maxBytes) ⌝ }
         ensures { λ r. ⌜ verdictOf r ≡ verdictAtEnd self ⌝ }
     {
-        let counts = self.counts;
         if self.closed {
-            return Verdict::Accepted(counts);
+            return Verdict::Accepted(self.total());
         }
         Verdict::Refused(Reason::BranchOpen, self.lines + 1)
     }

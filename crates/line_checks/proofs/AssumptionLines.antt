@@ -12,26 +12,21 @@ use borrow.Author.Tests.{le-leb}
 use Rattle.tableau.specs.declared.Letter.{Letter}
 use Rattle.tableau.specs.declared.Reason.{Reason}
 use Rattle.tableau.specs.declared.Relation.{Relation}
-use Rattle.tableau.specs.Basics.{Four, every, lookup}
+use Rattle.tableau.specs.Basics.{lookup}
 use Rattle.tableau.specs.File.{letters, rank, inOrder}
 use Rattle.tableau.specs.Words.{relations, assume, some-of}
-use Rattle.tableau.specs.Fields.{sides}
-use Rattle.tableau.specs.Terms.{Table, maxTerms}
+use mathlib.Core.Option.{Option}
+use Rattle.tableau.specs.Terms.{Table, Clauses, maxTerms}
 use Rattle.tableau.specs.Terms as terms
 use Rattle.tableau.specs.Tree as specification
 use Rattle.tableau.specs.Tree.{Checked, refused, passed, _>>=_, _>>_, require, Status, isOpen, isClosed, maxPlaces, maxWaiting, roomOnBranch, roomToWait, grow, grown}
-use Rattle.tableau.specs.Reply.{State, zeroIfUnused, literalLine, assumed, counted, requireOpen, runOpen}
-use Rattle.tableau.proofs.Checks.{literal-passed}
-use Rattle.syntax.specs.declared.Literal.{Literal}
-use Rattle.syntax.specs.Syntax.{literalIn, sidesIn}
+use Rattle.tableau.specs.Reply.{State, assumed, counted, requireOpen, runOpen}
 use Rattle.lines.specs.declared.LineFields.{LineFields}
 use Rattle.lines.specs.Lines.{numbersOf}
 use Rattle.words.specs.Words.{lookupPacked}
-use Rattle.packing.specs.Packing.{packLiteral, unpackLiteral}
-use Rattle.packing.proofs.PackingLaws.{literal-unpack-pack}
+use Rattle.packing.specs.Packing.{unpackLiteral}
 use Rattle.terms.specs.declared.Assumption.{Assumption}
 use Rattle.terms.specs.Lines.{assumptionOf}
-use Rattle.terms.proofs.LineLaws.{sides-packable}
 use Rattle.tree.specs.declared.Extent.{Extent}
 use Rattle.tree.specs.declared.Growth.{Growth}
 use Rattle.tree.specs.State.{treeOf}
@@ -43,7 +38,8 @@ use Rattle.growth.specs.declared.LineResult.{LineResult}
 use Rattle.growth.specs.Progress.{statusOf, stateAt, afterLiteral, resultOf}
 use Rattle.running.specs.Running.{packedCommand, runFields}
 use Rattle.running.proofs.Lines.{run-unknown, run-known}
-use Rattle.line_checks.specs.Checks.{Ready, KeptAfter, AssumptionDone}
+use Rattle.line_checks.specs.Checks.{Ready, literalRead, KeptAfter, AssumptionDone}
+use Rattle.line_checks.proofs.LiteralLines.{refused-so, assumed-so}
 use Rattle.line_checks.proofs.Results.{open-before, with, result-state, result-follows}
 
 -- CHECK 15 of a line is that of a step with one alternative of one literal, which never closes the tree
@@ -76,96 +72,83 @@ module _ (τ : specification.Tree) (l : terms.Literal) (room : length (τ .waiti
   pub stays-open : passed isClosed ≡ grown τ ((l ∷ []) ∷ []) → ⊥
   stays-open e = not-closed (leb (suc (length (τ .branch))) maxPlaces) (sym (e ∙ one-more (leb (suc (length (τ .branch))) maxPlaces) refl .0))
 
-module _ (table : Table) (g : Progress) (e : Extent) (f : LineFields) (W : Ready g e) (k : lookup letters (f .letter ∷ []) ≡ some Letter.A) (o : inOrder (g .letter) Letter.A ≡ true) where
+module _ (table : Table) (C : Clauses) (g : Progress) (e : Extent) (f : LineFields) (W : Ready g e) (k : lookup letters (f .letter ∷ []) ≡ some Letter.A) (o : inOrder (g .letter) Letter.A ≡ true) where
   opened : g .closed ≡ false
   unfolding rank
   opened = open-before (W .counted) Letter.A refl o
 
-  -- the line is refused
-  refusal : (r : Reason) → ((τ : specification.Tree) → runFields (stateAt table τ g) f ≡ refused r) → AssumptionDone table g e f (LineResult.Refused r (g .lines + 1))
-  refusal r h = record { kept = tt; done = λ t w q. record { follows = refl; runs = h (treeOf unpackLiteral t) } }
+  -- the state with the tree after the line
+  abbrev made : specification.Tree → Checked State
+  made τ = passed (record {
+    table = table;
+    clauses = C;
+    status = isOpen τ;
+    letter = Letter.A;
+    counts = record { terms = g .counts .terms; assumptions = suc (g .counts .assumptions); steps = g .counts .steps; closings = g .counts .closings };
+  })
 
-  -- check 4
-  pub assumption-unknown : lookupPacked relations (f .word) ≡ none → AssumptionDone table g e f (LineResult.Refused Reason.UnknownWord (g .lines + 1))
-  unfolding packedCommand
-  assumption-unknown h = refusal Reason.UnknownWord (λ τ. run-unknown (stateAt table τ g) f k o (ap (some-of assume) h))
+  -- checks 4, 6, 8 and 9, then 15
+  assumption-runs : (τ : specification.Tree) → runFields (stateAt table C τ g) f ≡ (literalRead table Letter.A f >>= λ x. assumed τ x >>= made)
+  unfolding packedCommand runOpen
+  assumption-runs τ = go (lookupPacked relations (f .word)) refl
+    where
+      go : (m : Option Relation) → lookupPacked relations (f .word) ≡ m → runFields (stateAt table C τ g) f ≡ (literalRead table Letter.A f >>= λ x. assumed τ x >>= made)
+      go none h = run-unknown (stateAt table C τ g) f k o (ap (some-of assume) h) ∙ sym (rw h)
+      go (some R) h = run-known (stateAt table C τ g) f k (assume R) o (ap (some-of assume) h)
+          ∙ ap (λ (b : Bool). requireOpen (statusOf b τ) >>= λ τ. runOpen (stateAt table C τ g) τ (assume R) (numbersOf f)) opened ∙ sym (rw h)
 
-  module _ (R : Relation) (h : lookupPacked relations (f .word) ≡ some R) where
-    -- the state with the tree after the line, and with its status
-    abbrev made : specification.Tree → Checked State
-    made τ = passed (record { table = table; status = isOpen τ; letter = Letter.A; counts = counted (countsOf (g .counts)) (assume R) })
+  by-status : (m : Checked specification.Tree) → (m >>= made) ≡ ((m >>= λ τ. passed (isOpen τ)) >>= with table C (afterLiteral g))
+  by-status (refused r) = refl
+  by-status (passed τ) = ap (λ (i : ℕ). passed (record {
+    table = table;
+    clauses = C;
+    status = isOpen τ;
+    letter = Letter.A;
+    counts = record { terms = g .counts .terms; assumptions = i; steps = g .counts .steps; closings = g .counts .closings };
+  })) (sym (add-one (g .counts .assumptions)))
 
-    by-status : (m : Checked specification.Tree) → (m >>= made) ≡ ((m >>= λ τ. passed (isOpen τ)) >>= with table (afterLiteral g))
-    by-status (refused r) = refl
-    by-status (passed τ) = ap (λ (i : ℕ). passed (record {
-      table = table;
-      status = isOpen τ;
-      letter = Letter.A;
-      counts = record { terms = g .counts .terms; assumptions = i; steps = g .counts .steps; closings = g .counts .closings };
-    })) (sym (add-one (g .counts .assumptions)))
+  -- one of the checks before 15 refuses the line
+  pub assumption-refused : (r : Reason) → Assumption.Refused r ≡ assumptionOf (literalRead table Letter.A f) → AssumptionDone table C g e f (LineResult.Refused r (g .lines + 1))
+  assumption-refused r h = record {
+    kept = tt;
+    done = λ words t w q. record {
+      follows = refl;
+      runs = assumption-runs (treeOf unpackLiteral t) ∙ ap (λ (m : Checked terms.Literal). m >>= λ x. assumed (treeOf unpackLiteral t) x >>= made) (refused-so (literalRead table Letter.A f) h);
+    };
+  }
 
-    assumption-runs : (τ : specification.Tree) → runFields (stateAt table τ g) f ≡ (literalLine table R (numbersOf f) >>= λ x. assumed τ x >>= made)
-    unfolding packedCommand runOpen
-    assumption-runs τ = run-known (stateAt table τ g) f k (assume R) o (ap (some-of assume) h)
-        ∙ ap (λ (b : Bool). requireOpen (statusOf b τ) >>= λ τ. runOpen (stateAt table τ g) τ (assume R) (numbersOf f)) opened
+  kept : (y : Growth) → KeptAfter g (resultOf (afterLiteral g) e y)
+  kept (Growth.To c) = record { terms = refl; noted = omega arith; clauses = refl }
+  kept Growth.Closed = record { terms = refl; noted = omega arith; clauses = refl }
+  kept (Growth.Refused r) = tt
 
-    -- check 6
-    pub assumption-unused : every zeroIfUnused (sides R) (numbersOf f) ≡ false → AssumptionDone table g e f (LineResult.Refused Reason.UnusedField (g .lines + 1))
-    unfolding literalLine
-    assumption-unused z = refusal Reason.UnusedField (λ τ. assumption-runs τ ∙ rw z)
-
-    -- checks 8 and 9: the line is that of the literal which was taken from it
-    module _ (x : Literal) (is-R : x .relation ≡ R) (is-k : sidesIn x ≡ numbersOf f) where
-      abbrev line : Checked terms.Literal
-      line = literalLine table (x .relation) (sidesIn x)
-
-      runs-as : (τ : specification.Tree) → runFields (stateAt table τ g) f ≡ (line >>= λ y. assumed τ y >>= made)
-      runs-as τ = assumption-runs τ ∙ ap₂ (λ (S : Relation) (n : Four ℕ). literalLine table S n >>= λ y. assumed τ y >>= made) (sym is-R) (sym is-k)
-
-      pub assumption-refused : (r : Reason) → Assumption.Refused r ≡ assumptionOf line → AssumptionDone table g e f (LineResult.Refused r (g .lines + 1))
-      assumption-refused r h = refusal r (λ τ. runs-as τ ∙ go τ line refl h)
-        where
-          go : (τ : specification.Tree) (m : Checked terms.Literal) → line ≡ m → Assumption.Refused r ≡ assumptionOf m → (line >>= λ y. assumed τ y >>= made) ≡ refused r
-          go τ (refused s) q h = rw q (cc)
-          go τ (passed y) q h = let z : _≡_ {A = ℕ} 0 1 = cc in absurd (omega arith)
-
-      -- a literal that passes its checks is given back by its code
-      abbrev Assumed : ℕ → Type 0
-      Assumed code = (line ≡ passed (literalIn x)) × (unpackLiteral code ≡ literalIn x)
-
-      assumed-code : (code : ℕ) → length table ≤ maxTerms → Assumption.Assumed code ≡ assumptionOf line → Assumed code
-      assumed-code code few h = go line refl h
-        where
-          go : (m : Checked terms.Literal) → line ≡ m → Assumption.Assumed code ≡ assumptionOf m → Assumed code
-          go (refused s) q h = let z : _≡_ {A = ℕ} 0 1 = cc in absurd (omega arith)
-          go (passed y) q h =
-              let p = literal-passed table (x .relation) (sidesIn x) q in
-              let c : code ≡ packLiteral y = cc in
-              (q ∙ ap passed (p .is), ap unpackLiteral (c ∙ ap packLiteral (p .is)) ∙ literal-unpack-pack (literalIn x) (sides-packable table x few (p .terms)))
-
-      kept : (y : Growth) → KeptAfter g (resultOf (afterLiteral g) e y)
-      kept (Growth.To c) = record { terms = refl; noted = omega arith }
-      kept Growth.Closed = record { terms = refl; noted = omega arith }
-      kept (Growth.Refused r) = tt
-
-      -- check 15
-      pub assumption-grown : (code : ℕ) → length table ≤ maxTerms → Assumption.Assumed code ≡ assumptionOf line
-          → (y : Growth) → Gives e (λ u τ. grown τ (map (map u) ((code ∷ []) ∷ []))) y → AssumptionDone table g e f (resultOf (afterLiteral g) e y)
-      assumption-grown code few h y G =
-          let a = assumed-code code few h in
-          let c = W .counted in
-          record {
-            kept = kept y;
-            done = λ t w q.
-                let τ = treeOf unpackLiteral t in
-                let room : length (τ .waiting) ≤ maxWaiting = omega (arith, stack-length unpackLiteral (t .waiting) (t .count), w .waiting .room) in
-                let grows : grownBy unpackLiteral t y ≡ grown τ ((literalIn x ∷ []) ∷ []) = G .result t w q unpackLiteral ∙ ap (λ (l : terms.Literal). grown τ ((l ∷ []) ∷ [])) (a .1) in
-                record {
-                  follows = result-follows g (afterLiteral g) e refl
-                      (record { terms = omega arith; assumptions = omega arith; steps = omega arith; closings = omega arith; closed = λ z. absurd (let y : _≡_ {A = ℕ} 0 1 = cc in omega arith) })
-                      (W .noted) (W .limits) y (G .fits t w q) (λ z. absurd (stays-open τ (literalIn x) room (ap (grownBy unpackLiteral t) (sym z) ∙ grows)));
-                  runs = runs-as τ ∙ ap (λ (n : Checked terms.Literal). n >>= λ y. assumed τ y >>= made) (a .0) ∙ by-status (assumed τ (literalIn x))
-                      ∙ ap (λ (n : Checked Status). n >>= with table (afterLiteral g)) (assumed-grown τ (literalIn x) room ∙ sym grows)
-                      ∙ sym (result-state table t (afterLiteral g) e refl y);
-                };
-          }
+  -- check 15
+  pub assumption-grown : (code : ℕ) → length table ≤ maxTerms → Assumption.Assumed code ≡ assumptionOf (literalRead table Letter.A f)
+      → (y : Growth) → Gives e (λ u τ. grown τ (map (map u) ((code ∷ []) ∷ []))) y → AssumptionDone table C g e f (resultOf (afterLiteral g) e y)
+  assumption-grown code few h y G =
+      let a = assumed-so table few Letter.A f h in
+      let l = unpackLiteral code in
+      let c = W .counted in
+      record {
+        kept = kept y;
+        done = λ words t w q.
+            let τ = treeOf unpackLiteral t in
+            let room : length (τ .waiting) ≤ maxWaiting = omega (arith, stack-length unpackLiteral (t .waiting) (t .count), w .waiting .room) in
+            let grows : grownBy unpackLiteral t y ≡ grown τ ((l ∷ []) ∷ []) = G .result t w q unpackLiteral in
+            record {
+              follows = result-follows g (afterLiteral g) e refl
+                  (record {
+                    terms = omega arith;
+                    assumptions = omega arith;
+                    steps = omega arith;
+                    closings = omega arith;
+                    clauses = omega arith;
+                    closed = λ z. absurd (let y : _≡_ {A = ℕ} 0 1 = cc in omega arith);
+                    unclaused = λ z. c .unclaused o;
+                  })
+                  (W .noted) (W .limits) y (G .fits t w q) (λ z. absurd (stays-open τ l room (ap (grownBy unpackLiteral t) (sym z) ∙ grows)));
+              runs = assumption-runs τ ∙ ap (λ (n : Checked terms.Literal). n >>= λ y. assumed τ y >>= made) a ∙ by-status (assumed τ l)
+                  ∙ ap (λ (n : Checked Status). n >>= with table C (afterLiteral g)) (assumed-grown τ l room ∙ sym grows)
+                  ∙ sym (result-state words table C t (afterLiteral g) e refl y);
+            };
+      }

@@ -1,9 +1,11 @@
 // An S line.
+use clauses::span_of;
 use growth::LineResult;
 use growth::Progress;
 use growth::grow;
 use lines::LineFields;
 use parsing::StepTaken;
+use steps::Inference;
 use steps::ask_fresh;
 use steps::infer;
 use syntax::Step;
@@ -17,7 +19,8 @@ ghost use mathlib.Core.Option.{some};
 ghost use mathlib.Core.Path.{_≡_};
 ghost use Rattle.tableau.specs.Basics.{lookup};
 ghost use Rattle.tableau.specs.File.{letters};
-ghost use Rattle.tableau.specs.Terms.{Table};
+ghost use Rattle.tableau.specs.Terms.{Table, Clauses};
+ghost use Rattle.clauses.specs.Held.{ClausesHeld};
 ghost use Rattle.syntax.specs.Syntax.{WellTaken};
 ghost use Rattle.terms.specs.Arrays.{arrays, Held};
 ghost use Rattle.freshness.specs.Prefixes.{PrefixRows};
@@ -34,23 +37,27 @@ fn take(
     chains: &[u16; table::LINKS],
     rows: &[u64; mentions::WORDS],
     prefix: &mut [u64; freshness::PREFIX_WORDS],
+    clauses: &[u32; clauses::WORDS],
 ) -> LineResult
     requires { ⌜ ((table : Table) × Held table (arrays (now terms) (now chains) (now rows)) (progress .counts .terms)) ⌝ }
-    requires { ⌜ Ready progress extent × IsBranch (now branch) (extent .len) × WellTaken step ⌝ }
-    ensures { λ r. ⌜ ((table : Table) → Held table (arrays (now (terms .entry)) (now (chains .entry)) (now (rows .entry))) (progress .counts .terms)
-        → PrefixRows table (now (branch .entry)) (now (prefix .entry)) (progress .noted)
-        → StepTakes table (now (branch .entry)) progress extent step (now (prefix .exit)) r) ⌝ }
+    requires { ⌜ Ready progress extent × IsBranch (now branch) (extent .len) × WellTaken step
+        × ((C : Clauses) × ClausesHeld C (now clauses) (progress .clauses)) ⌝ }
+    ensures { λ r. ⌜ ((table : Table) (C : Clauses) → Held table (arrays (now (terms .entry)) (now (chains .entry)) (now (rows .entry))) (progress .counts .terms)
+        → ClausesHeld C (now (clauses .entry)) (progress .clauses) → PrefixRows table C (now (branch .entry)) (now (prefix .entry)) (progress .noted)
+        → StepTakes table C (now (branch .entry)) progress extent step (now (clauses .entry)) (now (prefix .exit)) r) ⌝ }
 {
     let rule = step.rule;
     let n = progress.counts.terms;
     let len = extent.len;
     let noted = progress.noted;
+    let last = progress.clauses;
     let asked = ask_fresh(step, branch, len, noted, terms, rows, prefix, n);
-    let outcome = infer(step, asked.fresh, branch, len, terms, chains, n);
-    let growth = grow(extent, outcome);
-    progress
-        .after_step(rule, asked.noted)
-        .result(extent, growth)
+    let inference = infer(step, asked.fresh, branch, len, last, terms, chains, n);
+    let next = progress.after_step(rule, asked.noted);
+    match inference {
+        Inference::ByRule(outcome) => next.result(extent, grow(extent, outcome)),
+        Inference::ByClause(k) => next.split(extent, span_of(clauses, k)),
+    }
 }
 
 // Checks 4 to 6, then those above.
@@ -63,13 +70,15 @@ pub fn check(
     chains: &[u16; table::LINKS],
     rows: &[u64; mentions::WORDS],
     prefix: &mut [u64; freshness::PREFIX_WORDS],
+    clauses: &[u32; clauses::WORDS],
 ) -> LineResult
     requires { ⌜ ((table : Table) × Held table (arrays (now terms) (now chains) (now rows)) (progress .counts .terms)) ⌝ }
-    requires { ⌜ Ready progress extent × IsBranch (now branch) (extent .len) × (lookup letters (f .letter ∷ []) ≡ some Letter.S) ⌝ }
-    ensures { λ r. ⌜ ((table : Table) → Held table (arrays (now (terms .entry)) (now (chains .entry)) (now (rows .entry))) (progress .counts .terms)
-        → PrefixRows table (now (branch .entry)) (now (prefix .entry)) (progress .noted)
-        → LineDone table (now (branch .entry)) progress extent f (arrays (now (terms .entry)) (now (chains .entry)) (now (rows .entry)))
-        (now (prefix .exit)) r) ⌝ }
+    requires { ⌜ Ready progress extent × IsBranch (now branch) (extent .len) × (lookup letters (f .letter ∷ []) ≡ some Letter.S)
+        × ((C : Clauses) × ClausesHeld C (now clauses) (progress .clauses)) ⌝ }
+    ensures { λ r. ⌜ ((table : Table) (C : Clauses) → Held table (arrays (now (terms .entry)) (now (chains .entry)) (now (rows .entry))) (progress .counts .terms)
+        → ClausesHeld C (now (clauses .entry)) (progress .clauses) → PrefixRows table C (now (branch .entry)) (now (prefix .entry)) (progress .noted)
+        → LineDone table C (now (branch .entry)) progress extent f (arrays (now (terms .entry)) (now (chains .entry)) (now (rows .entry)))
+        (now (clauses .entry)) (now (prefix .exit)) r) ⌝ }
 {
     let line = progress.lines + 1;
     let word = f.word;
@@ -82,5 +91,15 @@ pub fn check(
     let StepTaken::Step(step) = parsing::step_of(row, f) else {
         return LineResult::Refused(Reason::UnusedField, line);
     };
-    take(progress, extent, step, branch, terms, chains, rows, prefix)
+    take(
+        progress,
+        extent,
+        step,
+        branch,
+        terms,
+        chains,
+        rows,
+        prefix,
+        clauses,
+    )
 }

@@ -16,7 +16,7 @@ ghost use mathlib.Core.Path.{_≡_};
 ghost use Prim.Native.Nat.{_<_};
 ghost use Rattle.tableau.specs.Basics.{lookup};
 ghost use Rattle.tableau.specs.File.{letters, inOrder};
-ghost use Rattle.tableau.specs.Terms.{Table};
+ghost use Rattle.tableau.specs.Terms.{Table, Clauses};
 ghost use Rattle.terms.specs.Arrays.{arrays, Held};
 ghost use Rattle.running.specs.Running.{numberLimit};
 ghost use Rattle.line_checks.specs.Checks.{Ready, TermDone};
@@ -32,8 +32,8 @@ pub fn check(
 ) -> LineResult
     requires { ⌜ ((table : Table) × Held table (arrays (now terms) (now chains) (now rows)) (progress .counts .terms)) ⌝ }
     requires { ⌜ Ready progress extent × (lookup letters (f .letter ∷ []) ≡ some Letter.T) × (inOrder (progress .letter) Letter.T ≡ true) × (f .a < numberLimit) ⌝ }
-    ensures { λ r. ⌜ ((table : Table) → Held table (arrays (now (terms .entry)) (now (chains .entry)) (now (rows .entry))) (progress .counts .terms)
-        → TermDone table progress extent f (arrays (now (terms .exit)) (now (chains .exit)) (now (rows .exit))) r) ⌝ }
+    ensures { λ r. ⌜ ((table : Table) (C : Clauses) → Held table (arrays (now (terms .entry)) (now (chains .entry)) (now (rows .entry))) (progress .counts .terms)
+        → TermDone table C progress extent f (arrays (now (terms .exit)) (now (chains .exit)) (now (rows .exit))) r) ⌝ }
 {
     let line = progress.lines + 1;
     let word = f.word;

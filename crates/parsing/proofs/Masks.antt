@@ -6,7 +6,7 @@ use lib.Dec.{eqb}
 use borrow.Author.Tests.{eqb-true}
 use Rattle.tableau.specs.declared.Relation.{Relation}
 use Rattle.tableau.specs.Basics.{Four, every}
-use Rattle.tableau.specs.Fields.{Use, unused, place, name, side, term, of, sides}
+use Rattle.tableau.specs.Fields.{Use, unused, place, name, side, clause, term, of, sides, clauseFields}
 use Rattle.tableau.specs.Reply.{zeroIfUnused}
 use Rattle.tableau.proofs.Bools.{every-true}
 use Rattle.syntax.specs.Syntax.{maskOf}
@@ -17,6 +17,7 @@ zero-if unused n = refl
 zero-if place n = refl
 zero-if name n = refl
 zero-if side n = refl
+zero-if clause n = refl
 zero-if term n = refl
 zero-if (of s) n = refl
 
@@ -48,3 +49,13 @@ two-sides Relation.Eq = refl
 two-sides Relation.Ne = refl
 two-sides Relation.Le = refl
 two-sides Relation.Nl = refl
+
+-- a C line uses three
+pub three-fields : (R : Relation) → 7 ≡ maskOf (clauseFields R)
+unfolding sides
+three-fields Relation.In = refl
+three-fields Relation.Ni = refl
+three-fields Relation.Eq = refl
+three-fields Relation.Ne = refl
+three-fields Relation.Le = refl
+three-fields Relation.Nl = refl

@@ -5,11 +5,12 @@ ghost use lib.Bits.{bitAnd};
 ghost use lib.Dec.{eqb};
 ghost use Rattle.tableau.specs.Basics.{Four, every};
 ghost use Rattle.tableau.specs.Fields.{Use, ruleFields};
+ghost use Rattle.tableau.specs.declared.Relation.{Relation as Relations};
 ghost use Rattle.tableau.specs.Reply.{zeroIfUnused};
 ghost use Rattle.syntax.specs.Syntax.{maskOf, thirdIn, ThirdFits};
 ghost use Rattle.lines.specs.Lines.{numbersOf};
 ghost use Rattle.words.specs.Words.{WordFits, RuleFits};
-ghost use Rattle.parsing.specs.Taken.{TermTakenAs, LiteralTakenAs, StepTakenAs};
+ghost use Rattle.parsing.specs.Taken.{literalFields, TermTakenAs, LiteralTakenAs, StepTakenAs};
 use lines::LineFields;
 use syntax::Arguments;
 use syntax::Literal;
@@ -17,6 +18,8 @@ use syntax::Mask;
 use syntax::Step;
 use syntax::Term;
 use syntax::ThirdField;
+use tableau::ClauseNumber;
+use tableau::Letter;
 use tableau::Name;
 use tableau::Place;
 use tableau::Relation;
@@ -91,11 +94,21 @@ pub fn term_of(row: WordRow, f: LineFields) -> TermTaken
     }
 }
 
-// An A line. Every relation has two sides.
-pub fn literal_of(relation: Relation, f: LineFields) -> LiteralTaken
-    ensures { λ r. ⌜ LiteralTakenAs relation (numbersOf f) r ⌝ }
+// Every relation has two sides; a C line has the number of its clause besides.
+fn literal_mask(letter: Letter) -> Mask
+    ensures { λ r. ⌜ ((R : Relations) → r .0 ≡ maskOf (literalFields letter R)) ⌝ }
 {
-    if !unused_zero(Mask(Mask::P | Mask::Q), f) {
+    match letter {
+        Letter::C => Mask(Mask::P | Mask::Q | Mask::T),
+        _ => Mask(Mask::P | Mask::Q),
+    }
+}
+
+// A line that holds a literal, by its letter: an A or a C line.
+pub fn literal_of(letter: Letter, relation: Relation, f: LineFields) -> LiteralTaken
+    ensures { λ r. ⌜ LiteralTakenAs (literalFields letter relation) relation (numbersOf f) r ⌝ }
+{
+    if !unused_zero(literal_mask(letter), f) {
         return LiteralTaken::UnusedField;
     }
     LiteralTaken::Literal(Literal {
@@ -105,12 +118,13 @@ pub fn literal_of(relation: Relation, f: LineFields) -> LiteralTaken
     })
 }
 
-// "The t of `rep` is a side"; in any other rule it is a term.
+// "The t of `rep` is a side", that of `cla` a clause number; in any other rule it is a term.
 fn third_of(rule: Rule, t: usize) -> ThirdField
     ensures { λ r. ⌜ (ThirdFits (ruleFields rule .t) r) × (thirdIn r ≡ t) ⌝ }
 {
     match rule {
         Rule::Rep => ThirdField::Side(Side(t)),
+        Rule::Cla => ThirdField::Clause(ClauseNumber(t)),
         _ => ThirdField::Term(TermNumber(t)),
     }
 }

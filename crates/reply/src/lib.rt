@@ -76,6 +76,7 @@ pub fn reason_number(reason: Reason) -> usize
         Reason::BufferLength => 18,
         Reason::BadFact => 19,
         Reason::NotAnOrder => 20,
+        Reason::BadClause => 21,
     }
 }
 

@@ -72,13 +72,13 @@ pub record Finds (terms chains : List ℕ) (e : Term) (f : Found) : Type 0 where
   pub small : SmallFound f
   pub found : (table : Table) → SearchableBy terms chains table → FoundAs table e f
 
--- THE CONTRACT OF A RULE: in every table of which the premise holds, the outcome is the rule's answer, whether w is fresh or not.
+-- THE CONTRACT OF A RULE other than `cla`, which looks at no clause: in every table of which the premise holds, the outcome is the rule's answer, whether w is fresh or not.
 pub record Concludes (premise : Table → Type 0) (x : Rule) (P Q : Option specification.Literal) (t w : ℕ) (r : Outcome) : Type 0 where
   pub room : Room r
-  pub answers : (table : Table) → premise table → (fresh : Bool) → answer table fresh P Q t w x ≡ answerOf r
+  pub answers : (table : Table) → premise table → (fresh : Bool) → answer table fresh P Q [] t w x ≡ answerOf r
 
 -- the same for a rule that asks for a fresh w
 pub record ConcludesFresh (premise : Table → Type 0) (fresh : Bool) (x : Rule) (P Q : Option specification.Literal) (t w : ℕ) (r : Outcome)
     : Type 0 where
   pub room : Room r
-  pub answers : (table : Table) → premise table → answer table fresh P Q t w x ≡ answerOf r
+  pub answers : (table : Table) → premise table → answer table fresh P Q [] t w x ≡ answerOf r

@@ -15,7 +15,7 @@ use Rattle.tableau.specs.declared.Reason.{Reason}
 use Rattle.tableau.specs.Basics.{then, bytes, lookup}
 use Rattle.tableau.specs.File.{LF, comma, inOrder, split, onFirst, Line, sixFields, letters, allSmall, isWord, isDigit, digits, number, maxDigits}
 use Rattle.tableau.specs.Tree.{Checked, refused, passed, _>>=_, requireSome}
-use Rattle.tableau.specs.Words.{Command, some-of, make, assume, infer, commandOf}
+use Rattle.tableau.specs.Words.{Command, some-of, make, assume, disjoin, infer, commandOf}
 use Rattle.tableau.specs.Reply.{State, requireOpen, runOpen, runCommand, runRead, runLine, stopped, ended, runLines}
 use Rattle.tableau.proofs.SixFields.{six-fields}
 use Rattle.tableau.proofs.Bools.{both-true, guard-inv, none≢some}
@@ -151,6 +151,7 @@ pub command-packed : (l : Letter) (w : List ℕ) → isWord w ≡ true → packe
 unfolding packedCommand commandOf
 command-packed Letter.T w h = ap (some-of make) (words-packed w h)
 command-packed Letter.A w h = ap (some-of assume) (relations-packed w h)
+command-packed Letter.C w h = ap (some-of disjoin) (relations-packed w h)
 command-packed Letter.S w h = ap (some-of infer) (rules-packed w h)
 
 -- THE CHECKER FILE: its run of a line by the line's fields

@@ -8,7 +8,7 @@ use Rattle.tableau.specs.declared.Letter.{Letter}
 use Rattle.tableau.specs.declared.Reason.{Reason}
 use Rattle.tableau.specs.Basics.{Four, lookup}
 use Rattle.tableau.specs.File.{LF, split, letters, Line}
-use Rattle.tableau.specs.Words.{words, relations, ruleNames, Command, make, assume, infer, some-of}
+use Rattle.tableau.specs.Words.{words, relations, ruleNames, Command, make, assume, disjoin, infer, some-of}
 use Rattle.tableau.specs.Tree.{Checked, refused, passed, _>>=_, requireSome}
 use Rattle.tableau.specs.Reply.{State, runCommand, runLine, RunEnd, runLines}
 use Rattle.lines.specs.declared.LineFields.{LineFields}
@@ -27,6 +27,7 @@ checkFrom = runFrom runLine
 unfoldable pub packedCommand : Letter → ℕ → Option Command
 packedCommand Letter.T w = some-of make (lookupPacked words w)
 packedCommand Letter.A w = some-of assume (lookupPacked relations w)
+packedCommand Letter.C w = some-of disjoin (lookupPacked relations w)
 packedCommand Letter.S w = some-of infer (lookupPacked ruleNames w)
 
 -- check 2 of the letter of a line that is read, checks 3 to 5, then those of its command

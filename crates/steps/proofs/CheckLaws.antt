@@ -2,30 +2,42 @@
 use mathlib.Core.Path.{_≡_, refl, sym, _∙_, ap}
 use mathlib.Core.Bool.{Bool, true, false, not, _&&_, _||_, true≢false}
 use mathlib.Core.List.{List, [], _∷_}
-use Prim.Native.Nat.{ℕ, _≤_}
+use Prim.Native.Nat.{ℕ, _≤_, _<_}
 use native.Mathlib.Omega.{arith}
 use lib.Bits.{bitAnd}
 use lib.Dec.{eqb, leb}
 use lib.ListN.{length}
 use types.Run.{OneOf}
-use borrow.Author.Tests.{eqb-true, leb-true, not-true}
+use denote.Enum.Declared.{tagOf}
+use borrow.Author.Tests.{eqb-true, leb-true, ne-eqb, not-true}
 use Rattle.tableau.specs.declared.Rule.{Rule}
 use Rattle.tableau.specs.declared.TermNumber.{TermNumber}
 use Rattle.tableau.specs.Basics.{Four, every}
 use Rattle.tableau.specs.Words.{ruleNames}
-use Rattle.tableau.specs.Fields.{Use, name, PlaceField, ThirdField, TermField, unused, place, side, term, of, placeUse, thirdUse, termUse, ruleFields, ruleUses}
-use Rattle.tableau.specs.Terms.{Table, Literal, maxTerms}
-use Rattle.tableau.specs.Tree.{onBranch}
+use Rattle.tableau.specs.Fields.{Use, name, PlaceField, ThirdField, TermField, unused, place, side, clause, term, of, placeUse, thirdUse, termUse, ruleFields, ruleUses}
+use Rattle.tableau.specs.Terms.{Table, Literal, Clauses, maxTerms}
+use Rattle.tableau.specs.Tree.{onBranch, isThere}
 use Rattle.tableau.specs.Reply.{zeroIfUnused, isTerm, termOrName, ofSort}
 use Rattle.tableau.proofs.Bools.{both-true, every-true}
-use Rattle.tableau.proofs.Places.{rules, placeOf, placesBut, other-rule}
+use Rattle.tableau.proofs.Places.{rules, placeOf, placesBut, every-rule, other-rule, not-among}
 use Rattle.syntax.specs.declared.ThirdField as declared
 use Rattle.syntax.specs.declared.Step.{Step}
-use Rattle.syntax.specs.Syntax.{ThirdFits, WellTaken, thirdIn, stepFields}
+use Rattle.syntax.proofs.ThirdField as third-type
+use Rattle.syntax.specs.Syntax.{kindOf, kindIn, ThirdFits, NoClause, WellTaken, thirdIn, stepFields}
 use Rattle.syntax.proofs.Masks.{isUsed, bits-of}
 use Rattle.packing.specs.Packing.{Small}
-use Rattle.steps.specs.Checks.{isPlace}
 use Rattle.conclusions.specs.Infers.{ThirdGiven, TermGiven, Given}
+
+-- FIELD t in the arm that is left when a term, or a clause number, has its own
+pub no-term : (k : declared.ThirdField) → OneOf (1 ∷ 2 ∷ []) (tagOf third-type.the-type k) → 1 ≤ kindIn k
+no-term (declared.ThirdField.Term t) o = absurd (not-among (1 ∷ 2 ∷ []) 0 0 refl o refl)
+no-term (declared.ThirdField.Side s) o = omega arith
+no-term (declared.ThirdField.Clause k) o = omega arith
+
+pub no-clause : (k : declared.ThirdField) → OneOf (0 ∷ 1 ∷ []) (tagOf third-type.the-type k) → kindIn k < 2
+no-clause (declared.ThirdField.Term t) o = omega arith
+no-clause (declared.ThirdField.Side s) o = omega arith
+no-clause (declared.ThirdField.Clause k) o = absurd (not-among (0 ∷ 1 ∷ []) 2 2 refl o refl)
 
 -- CHECKS 8 AND 9 speak of t and w alone
 module _ (table : Table) where
@@ -50,42 +62,52 @@ module _ (table : Table) where
   pub third-made : (f : ThirdField) (t : TermNumber) → ThirdFits f (declared.ThirdField.Term t)
       → termOrName table (thirdUse f) (t .0) ≡ (not (isUsed (thirdUse f)) || isTerm table (t .0))
   third-made unused t h = refl
-  third-made side t h = absurd h
+  third-made side t h = absurd (omega arith)
+  third-made clause t h = absurd (omega arith)
   third-made term t h = refl
   third-made (of s) t h = refl
+
+  -- a side or a clause number is no term
+  pub third-unmade : (f : ThirdField) (n : ℕ) → 1 ≤ kindOf f → termOrName table (thirdUse f) n ≡ true
+  third-unmade unused n h = absurd (omega arith)
+  third-unmade side n h = refl
+  third-unmade clause n h = refl
+  third-unmade term n h = absurd (omega arith)
+  third-unmade (of s) n h = absurd (omega arith)
 
   pub fourth-made : (f : TermField) (n : ℕ) → termOrName table (termUse f) n ≡ (not (isUsed (termUse f)) || isTerm table n)
   fourth-made unused n = refl
   fourth-made term n = refl
   fourth-made (of s) n = refl
 
--- CHECK 11 speaks of p and q alone
-module _ (B : List Literal) where
-  third-there : (f : ThirdField) (n : ℕ) → onBranch B (thirdUse f) n ≡ true
-  third-there unused n = refl
-  third-there side n = refl
-  third-there term n = refl
-  third-there (of s) n = refl
+pub and-true : (b : Bool) → (b && true) ≡ b
+and-true true = refl
+and-true false = refl
 
-  fourth-there : (f : TermField) (n : ℕ) → onBranch B (termUse f) n ≡ true
+-- CHECK 11 speaks of p, q and t
+module _ (C : Clauses) (B : List Literal) where
+  fourth-there : (f : TermField) (n : ℕ) → isThere C B (termUse f) n ≡ true
   fourth-there unused n = refl
   fourth-there term n = refl
   fourth-there (of s) n = refl
 
-  and-true : (b : Bool) → (b && true) ≡ b
-  and-true true = refl
-  and-true false = refl
-
-  pub eleven : (x : Rule) (k : Four ℕ) → every (onBranch B) (ruleUses x) k ≡ (onBranch B (ruleUses x .a) (k .a) && onBranch B (ruleUses x .b) (k .b))
-  eleven x k =
-      (λ i. onBranch B (ruleUses x .a) (k .a) && (onBranch B (ruleUses x .b) (k .b)
-      && (third-there (ruleFields x .t) (k .c) i && fourth-there (ruleFields x .w) (k .d) i)))
-      ∙ ap (λ (b : Bool). onBranch B (ruleUses x .a) (k .a) && b) (and-true (onBranch B (ruleUses x .b) (k .b)))
+  eleven : (x : Rule) (k : Four ℕ)
+      → every (isThere C B) (ruleUses x) k ≡ (isThere C B (ruleUses x .a) (k .a) && (isThere C B (ruleUses x .b) (k .b) && isThere C B (ruleUses x .c) (k .c)))
+  eleven x k = λ i. isThere C B (ruleUses x .a) (k .a) && (isThere C B (ruleUses x .b) (k .b)
+      && (ap (λ (b : Bool). isThere C B (ruleUses x .c) (k .c) && b) (fourth-there (ruleFields x .w) (k .d)) ∙ and-true (isThere C B (ruleUses x .c) (k .c))) i)
 
   -- a place that is used is to be there
-  pub place-there : (f : PlaceField) (n : ℕ) → onBranch B (placeUse f) n ≡ (not (isUsed (placeUse f)) || isPlace B n)
+  place-there : (f : PlaceField) (n : ℕ) → isThere C B (placeUse f) n ≡ (not (isUsed (placeUse f)) || onBranch B n)
   place-there unused n = refl
   place-there place n = refl
+
+  -- a t that is no clause number is not asked for
+  third-there : (f : ThirdField) (n : ℕ) → kindOf f < 2 → isThere C B (thirdUse f) n ≡ true
+  third-there unused n h = refl
+  third-there side n h = refl
+  third-there clause n h = absurd (omega arith)
+  third-there term n h = refl
+  third-there (of s) n h = refl
 
 -- THE MASK of a step: a bit is not set where the field is not used
 unset : {a b : Bool} → not a ≡ b → a ≡ not b
@@ -108,6 +130,14 @@ module _ (s : Step) (W : WellTaken s) where
   pub unset-w : eqb (bitAnd (s .used .0) 8) 0 ≡ not (isUsed (ruleUses (s .rule) .d))
   unset-w = unset (bits-of (ruleUses (s .rule)) (s .used .0) (W .used) .3)
 
+  -- check 11, by what is found of p and q, where t is no clause
+  pub eleven-by : (C : Clauses) (B : List Literal) → NoClause (s .t) → {p q : Bool} → p ≡ (eqb (bitAnd (s .used .0) 1) 0 || onBranch B (s .p .0))
+      → q ≡ (eqb (bitAnd (s .used .0) 2) 0 || onBranch B (s .q .0)) → every (isThere C B) (ruleUses (s .rule)) (stepFields s) ≡ (p && q)
+  eleven-by C B n a b =
+      let x = s .rule in
+      eleven C B x (stepFields s)
+      ∙ rw (place-there C B (ruleFields x .p), place-there C B (ruleFields x .q), third-there C B (ruleFields x .t) (thirdIn (s .t)) (omega (arith, n, W .third)), and-true, ← unset-p, ← unset-q, a, b)
+
 -- WHAT THE RULE IS GIVEN, after checks 6 and 8
 made-small : (table : Table) (n : ℕ) → length table ≤ maxTerms → isTerm table n ≡ true → Small n
 made-small table n few h = let l : n ≤ length table = leb-true n (length table) (both-true (leb 1 n) _ h .1) in omega arith
@@ -116,6 +146,7 @@ module _ (table : Table) (few : length table ≤ maxTerms) where
   third-given : (f : ThirdField) (n : ℕ) → zeroIfUnused (thirdUse f) n ≡ true → termOrName table (thirdUse f) n ≡ true → ThirdGiven f n
   third-given unused n z h = eqb-true n 0 z
   third-given side n z h = tt
+  third-given clause n z h = tt
   third-given term n z h = made-small table n few h
   third-given (of s) n z h = made-small table n few h
 
@@ -133,10 +164,11 @@ module _ (table : Table) (few : length table ≤ maxTerms) where
         fourth = fourth-given (ruleFields (s .rule) .w) (s .w .0) (z .3) (h .3);
       }
 
--- a field that is no side is small, used or not
+-- a field that is a term is small, used or not
 pub third-small : (f : ThirdField) (t : TermNumber) → ThirdFits f (declared.ThirdField.Term t) → ThirdGiven f (t .0) → Small (t .0)
 third-small unused t h g = omega arith
-third-small side t h g = absurd h
+third-small side t h g = absurd (omega arith)
+third-small clause t h g = absurd (omega arith)
 third-small term t h g = g
 third-small (of s) t h g = g
 
@@ -151,6 +183,7 @@ asksSort unused = false
 asksSort place = false
 asksSort name = false
 asksSort side = false
+asksSort clause = false
 asksSort term = false
 asksSort (of s) = true
 
@@ -159,6 +192,7 @@ unsorted table unused n h = refl
 unsorted table place n h = refl
 unsorted table name n h = refl
 unsorted table side n h = refl
+unsorted table clause n h = refl
 unsorted table term n h = refl
 unsorted table (of s) n h = absurd (true≢false h)
 
@@ -169,4 +203,12 @@ unfolding rules ruleNames ruleFields
 others-unsorted table x t w o =
     let b = both-true (not (asksSort (ruleUses x .c))) _
     (other-rule (λ y. not (asksSort (ruleUses y .c)) && not (asksSort (ruleUses y .d))) (Rule.Cut ∷ Rule.Ler ∷ []) refl refl x o) in
+    λ i. unsorted table (ruleUses x .c) t (not-true _ (b .0)) i && unsorted table (ruleUses x .d) w (not-true _ (b .1)) i
+
+-- nor has a rule whose t is no term
+pub unsorted-unless-term : (table : Table) (x : Rule) (t w : ℕ) → 1 ≤ kindOf (ruleFields x .t) → (ofSort table (ruleUses x .c) t && ofSort table (ruleUses x .d) w) ≡ true
+unfolding rules ruleNames ruleFields
+unsorted-unless-term table x t w h =
+    let e = every-rule (λ y. eqb (kindOf (ruleFields y .t)) 0 || (not (asksSort (ruleUses y .c)) && not (asksSort (ruleUses y .d)))) refl x in
+    let b = both-true (not (asksSort (ruleUses x .c))) _ (rw (ne-eqb (kindOf (ruleFields x .t)) 0 (λ z. omega arith)) at e) in
     λ i. unsorted table (ruleUses x .c) t (not-true _ (b .0)) i && unsorted table (ruleUses x .d) w (not-true _ (b .1)) i

@@ -9,14 +9,14 @@ use lib.ListN.{length, take, length-map}
 use lib.Seq.{length-take-le}
 use borrow.Author.Tests.{le-leb, leb-true, eqb-true}
 use Rattle.tableau.specs.Fields.{PlaceField, unused, place, placeUse}
-use Rattle.tableau.specs.Tree.{literalAt, onBranch}
+use Rattle.tableau.specs.Terms.{Clauses}
+use Rattle.tableau.specs.Tree.{literalAt, onBranch, isThere}
 use Rattle.tableau.specs.Reply.{zeroIfUnused}
 use Rattle.tableau.proofs.Bools.{both-true}
 use Rattle.packing.specs.declared.LiteralView.{LiteralView}
 use Rattle.packing.specs.Packing.{unpackLiteral}
 use Rattle.tree.specs.State.{HasPlace, IsBranch}
 use Rattle.steps.specs.Reading.{branchOf, ReadAt}
-use Rattle.steps.specs.Checks.{isPlace}
 use Rattle.conclusions.specs.Infers.{atPlace}
 
 -- check 11 holds of the places from 1 to n
@@ -28,17 +28,17 @@ pub branch-length : (array : List ℕ) (n : ℕ) → IsBranch array n → length
 branch-length array n W = length-map (take n array) unpackLiteral ∙ length-take-le n array (omega arith)
 
 module _ (array : List ℕ) (m : ℕ) (W : IsBranch array m) where
-  place-in : (n : ℕ) → isPlace (branchOf array m) n ≡ true → (1 ≤ n) × (n ≤ m)
+  place-in : (n : ℕ) → onBranch (branchOf array m) n ≡ true → (1 ≤ n) × (n ≤ m)
   place-in n h =
       let b = both-true (leb 1 n) _ h in
       (leb-true 1 n (b .0), omega (arith, leb-true n (length (branchOf array m)) (b .1), branch-length array m W))
 
-  pub place-within : (f : PlaceField) (n : ℕ) → zeroIfUnused (placeUse f) n ≡ true → onBranch (branchOf array m) (placeUse f) n ≡ true → n ≤ m
-  place-within unused n z h = omega (arith, eqb-true n 0 z)
-  place-within place n z h = place-in n h .1
+  pub place-within : (C : Clauses) (f : PlaceField) (n : ℕ) → zeroIfUnused (placeUse f) n ≡ true → isThere C (branchOf array m) (placeUse f) n ≡ true → n ≤ m
+  place-within C unused n z h = omega (arith, eqb-true n 0 z)
+  place-within C place n z h = place-in n h .1
 
   -- the literal that was read is the one at the place
-  pub place-read : (f : PlaceField) (n : ℕ) (P : LiteralView) → zeroIfUnused (placeUse f) n ≡ true → onBranch (branchOf array m) (placeUse f) n ≡ true
+  pub place-read : (C : Clauses) (f : PlaceField) (n : ℕ) (P : LiteralView) → zeroIfUnused (placeUse f) n ≡ true → isThere C (branchOf array m) (placeUse f) n ≡ true
       → ReadAt array m n P → literalAt (branchOf array m) n ≡ atPlace f P
-  place-read unused n P z h r = ap (literalAt (branchOf array m)) (eqb-true n 0 z)
-  place-read place n P z h r = r .is (place-in n h .0)
+  place-read C unused n P z h r = ap (literalAt (branchOf array m)) (eqb-true n 0 z)
+  place-read C place n P z h r = r .is (place-in n h .0)

@@ -6,8 +6,8 @@ use mathlib.Core.Option.{Option}
 use Prim.Native.Nat.{ℕ}
 use Rattle.tableau.specs.declared.Rule.{Rule}
 use Rattle.tableau.specs.Fields.{ruleUses}
-use Rattle.tableau.specs.Terms.{Table, Literal}
-use Rattle.tableau.specs.Rules.{Row, Kind, rows, congruence, replacement, rule}
+use Rattle.tableau.specs.Terms.{Table, Literal, Clauses}
+use Rattle.tableau.specs.Rules.{Row, Kind, rows, congruence, replacement, disjunction, rule}
 use Rattle.tableau.specs.Steps.{isFresh}
 use Rattle.tableau.specs.Tree.{answer}
 use Rattle.tableau.specs.Reply.{termOrName}
@@ -31,15 +31,16 @@ abbrev pub freshKind : Kind → Bool
 freshKind (rows Rs) = anyFresh Rs
 freshKind congruence = false
 freshKind replacement = false
+freshKind disjunction = false
 
 abbrev pub asksFresh : Rule → Bool
 asksFresh x = freshKind (rule x)
 
 -- the flag says of the step's rule what the freshness of its w would
-abbrev pub Freshness : Table → List Literal → Step → Bool → Type 0
-Freshness table B s r = (P Q : Option Literal) (t : ℕ) → answer table r P Q t (s .w .0) (s .rule) ≡ answer table (isFresh table B (s .w .0)) P Q t (s .w .0) (s .rule)
+abbrev pub Freshness : Table → Clauses → List Literal → Step → Bool → Type 0
+Freshness table C B s r = (P Q : Option Literal) (D : List Literal) (t : ℕ) → answer table r P Q D t (s .w .0) (s .rule) ≡ answer table (isFresh table C B (s .w .0)) P Q D t (s .w .0) (s .rule)
 
 -- what a test of w says, and the rows after it
-pub record Told (table : Table) (codes : List ℕ) (len : ℕ) (s : Step) (prefix : List ℕ) (r : Asked) : Type 0 where
-  pub fresh : Freshness table (branchOf codes len) s (r .fresh)
-  pub rows : PrefixRows table codes prefix (r .noted)
+pub record Told (table : Table) (C : Clauses) (codes : List ℕ) (len : ℕ) (s : Step) (prefix : List ℕ) (r : Asked) : Type 0 where
+  pub fresh : Freshness table C (branchOf codes len) s (r .fresh)
+  pub rows : PrefixRows table C codes prefix (r .noted)

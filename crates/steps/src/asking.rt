@@ -5,7 +5,7 @@ use tree::Tree;
 ghost use mathlib.Core.Path.{_≡_};
 ghost use Prim.Native.Nat.{_≤_};
 ghost use lib.ListN.{length};
-ghost use Rattle.tableau.specs.Terms.{Table};
+ghost use Rattle.tableau.specs.Terms.{Table, Clauses};
 ghost use Rattle.table.specs.Held.{Entries};
 ghost use Rattle.mentions.specs.Mentions.{MentionRows};
 ghost use Rattle.freshness.specs.Prefixes.{PrefixRows};
@@ -42,9 +42,9 @@ pub fn ask_fresh(
     requires { ⌜ ((table : Table) × Entries table (now terms) × (length table ≡ n)) ⌝ }
     requires { ⌜ IsBranch (now branch) len × (noted ≤ len) ⌝ }
     ensures { λ r. ⌜ r .noted ≤ len ⌝ }
-    ensures { λ r. ⌜ ((table : Table) → Entries table (now (terms .entry)) → MentionRows table (now (rows .entry)) → length table ≡ n
-        → PrefixRows table (now (branch .entry)) (now (prefix .entry)) noted
-        → Told table (now (branch .entry)) len step (now (prefix .exit)) r) ⌝ }
+    ensures { λ r. ⌜ ((table : Table) (C : Clauses) → Entries table (now (terms .entry)) → MentionRows table (now (rows .entry)) → length table ≡ n
+        → PrefixRows table C (now (branch .entry)) (now (prefix .entry)) noted
+        → Told table C (now (branch .entry)) len step (now (prefix .exit)) r) ⌝ }
 {
     let rule = step.rule;
     let w = step.w;

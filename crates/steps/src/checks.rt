@@ -16,13 +16,13 @@ ghost use lib.Dec.{eqb};
 ghost use lib.ListN.{length};
 ghost use Rattle.tableau.specs.Basics.{every};
 ghost use Rattle.tableau.specs.Fields.{ruleUses};
-ghost use Rattle.tableau.specs.Terms.{Table, Literal};
-ghost use Rattle.tableau.specs.Tree.{onBranch};
+ghost use Rattle.tableau.specs.Terms.{Table, Literal, Clauses};
+ghost use Rattle.tableau.specs.Tree.{onBranch, isThere};
 ghost use Rattle.tableau.specs.Reply.{isTerm, termOrName, ofSort};
-ghost use Rattle.syntax.specs.Syntax.{stepFields, WellTaken};
+ghost use Rattle.syntax.specs.Syntax.{NoClause, stepFields, WellTaken};
 ghost use Rattle.table.specs.Held.{Entries};
 ghost use Rattle.packing.specs.Packing.{Small};
-ghost use Rattle.steps.specs.Checks.{HasSorts, isPlace};
+ghost use Rattle.steps.specs.Checks.{HasSorts};
 ghost use Rattle.steps.specs.Freshness.{TermsNamed};
 
 // A term whose bit is not set is not asked for.
@@ -32,7 +32,7 @@ fn made_if_used(n: usize, used: Mask, bit: u8, t: TermNumber) -> bool
     used.0 & bit == 0 || is_term(n, t)
 }
 
-// Check 8: "a term field names no term made so far". A side names none.
+// Check 8: "a term field names no term made so far". A side or a clause number names none.
 pub fn terms_made(n: usize, step: Step) -> bool
     requires { ⌜ WellTaken step ⌝ }
     ensures { λ r. ⌜ ((table : Table) → length table ≡ n → r ≡ every (termOrName table) (ruleUses (step .rule)) (stepFields step)) ⌝ }
@@ -78,15 +78,15 @@ pub fn sorts_fit(terms: &[u64; table::NUMBERS], step: Step) -> bool
 
 // A place whose bit is not set is not asked for.
 fn there_if_used(len: usize, used: Mask, bit: u8, place: Place) -> bool
-    ensures { λ r. ⌜ ((B : List Literal) → length B ≡ len → r ≡ (eqb (bitAnd (used .0) bit) 0 || isPlace B (place .0))) ⌝ }
+    ensures { λ r. ⌜ ((B : List Literal) → length B ≡ len → r ≡ (eqb (bitAnd (used .0) bit) 0 || onBranch B (place .0))) ⌝ }
 {
     used.0 & bit == 0 || Tree::has_place(len, place)
 }
 
-// Check 11: "a place used is not on the branch".
+// Check 11 where t is no clause: "a place used is not on the branch".
 pub fn places_there(len: usize, step: Step) -> bool
-    requires { ⌜ WellTaken step ⌝ }
-    ensures { λ r. ⌜ ((B : List Literal) → length B ≡ len → r ≡ every (onBranch B) (ruleUses (step .rule)) (stepFields step)) ⌝ }
+    requires { ⌜ WellTaken step × NoClause (step .t) ⌝ }
+    ensures { λ r. ⌜ ((C : Clauses) (B : List Literal) → length B ≡ len → r ≡ every (isThere C B) (ruleUses (step .rule)) (stepFields step)) ⌝ }
 {
     let used = step.used;
     let p = step.p;

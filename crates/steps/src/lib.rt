@@ -6,4 +6,5 @@ mod reading;
 
 pub use asking::Asked;
 pub use asking::ask_fresh;
+pub use inferring::Inference;
 pub use inferring::infer;

@@ -5,7 +5,7 @@ use Prim.Native.Nat.{ℕ, _+_}
 use lib.Bits.{bitAnd}
 use lib.Dec.{eqb}
 use Rattle.tableau.specs.Basics.{Four}
-use Rattle.tableau.specs.Fields.{Use, unused, place, name, side, term, of}
+use Rattle.tableau.specs.Fields.{Use, unused, place, name, side, clause, term, of}
 use Rattle.syntax.specs.Syntax.{bitOf, maskOf}
 
 abbrev pub isUsed : Use → Bool
@@ -13,6 +13,7 @@ isUsed unused = false
 isUsed place = true
 isUsed name = true
 isUsed side = true
+isUsed clause = true
 isUsed term = true
 isUsed (of s) = true
 
@@ -21,6 +22,7 @@ bit-if n unused = refl
 bit-if n place = refl
 bit-if n name = refl
 bit-if n side = refl
+bit-if n clause = refl
 bit-if n term = refl
 bit-if n (of s) = refl
 

@@ -1,10 +1,10 @@
 -- What the parts of a line stand for in the specification.
 use mathlib.Core.Path.{_≡_}
 use mathlib.Core.Bool.{true}
-use Prim.Native.Nat.{ℕ, _+_}
+use Prim.Native.Nat.{ℕ, _+_, _<_}
 use Rattle.tableau.specs.declared.Word.{Word}
 use Rattle.tableau.specs.Basics.{Four, four, every}
-use Rattle.tableau.specs.Fields.{Use, unused, place, name, side, term, of, ThirdField, ruleFields, ruleUses}
+use Rattle.tableau.specs.Fields.{Use, unused, place, name, side, clause, term, of, ThirdField, ruleFields, ruleUses}
 use Rattle.tableau.specs.Terms as specification
 use Rattle.tableau.specs.Terms.{TermNo, variable, apply, literal}
 use Rattle.tableau.specs.Reply.{zeroIfUnused}
@@ -43,6 +43,7 @@ bitOf n unused = 0
 bitOf n place = n
 bitOf n name = n
 bitOf n side = n
+bitOf n clause = n
 bitOf n term = n
 bitOf n (of s) = n
 
@@ -53,20 +54,29 @@ maskOf f = bitOf 1 (f .a) + (bitOf 2 (f .b) + (bitOf 4 (f .c) + bitOf 8 (f .d)))
 abbrev pub thirdIn : declared.ThirdField → ℕ
 thirdIn (declared.ThirdField.Term t) = t .0
 thirdIn (declared.ThirdField.Side s) = s .0
+thirdIn (declared.ThirdField.Clause k) = k .0
 
 abbrev pub stepFields : Step → Four ℕ
 stepFields s = four (s .p .0) (s .q .0) (thirdIn (s .t)) (s .w .0)
 
--- field t is a side where the rule's is one, and else a term
+-- field t is a side where the rule's is one, the number of a clause where it is one, and else a term
+abbrev pub kindOf : ThirdField → ℕ
+kindOf unused = 0
+kindOf side = 1
+kindOf clause = 2
+kindOf term = 0
+kindOf (of s) = 0
+
+abbrev pub kindIn : declared.ThirdField → ℕ
+kindIn (declared.ThirdField.Term t) = 0
+kindIn (declared.ThirdField.Side s) = 1
+kindIn (declared.ThirdField.Clause k) = 2
+
 abbrev pub ThirdFits : ThirdField → declared.ThirdField → Type 0
-ThirdFits side (declared.ThirdField.Term t) = ⊥
-ThirdFits side (declared.ThirdField.Side s) = Unit {0}
-ThirdFits unused (declared.ThirdField.Term t) = Unit {0}
-ThirdFits unused (declared.ThirdField.Side s) = ⊥
-ThirdFits term (declared.ThirdField.Term t) = Unit {0}
-ThirdFits term (declared.ThirdField.Side s) = ⊥
-ThirdFits (of s) (declared.ThirdField.Term t) = Unit {0}
-ThirdFits (of s) (declared.ThirdField.Side s′) = ⊥
+ThirdFits f t = kindOf f ≡ kindIn t
+
+abbrev pub NoClause : declared.ThirdField → Type 0
+NoClause t = kindIn t < 2
 
 -- a step has the mask of its rule, a field t of its rule's kind, and zeros where its rule uses no field
 pub record WellTaken (s : Step) : Type 0 where

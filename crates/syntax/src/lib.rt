@@ -1,4 +1,5 @@
-// What a line says, taken apart by its word: from here on a field is a place, the number of a term, a name or a side.
+// What a line says, taken apart by its word: from here on a field is a place, the number of a term or of a clause, a name or a side.
+use tableau::ClauseNumber;
 use tableau::Name;
 use tableau::Operator;
 use tableau::Place;
@@ -22,7 +23,7 @@ pub enum Term {
     Apply(Operator, Arguments),
 }
 
-// An A line: the literal that it assumes. A rule adds such literals too.
+// An A or C line: its literal. A rule adds such literals too.
 pub struct Literal {
     pub relation: Relation,
     pub left: TermNumber,
@@ -42,10 +43,11 @@ impl Mask {
     pub const W: u8 = 8;
 }
 
-// Field t of an S line: in `rep` a side, else a term.
+// Field t of an S line: in `rep` a side, in `cla` the number of a clause, else a term.
 pub enum ThirdField {
     Term(TermNumber),
     Side(Side),
+    Clause(ClauseNumber),
 }
 
 // An S line: its rule with the fields that the rule uses, places p and q, terms t and w; a field that it does not use is 0.

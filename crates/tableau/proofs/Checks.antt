@@ -14,12 +14,12 @@ use Rattle.tableau.specs.declared.Rule.{Rule}
 use Rattle.tableau.specs.Basics.{Four, every, bytes, sameBytes, Named, lookup}
 use Rattle.tableau.specs.File.{Line, inOrder, shape, letters, split, LF, maxBytes}
 use Rattle.tableau.specs.declared.Word.{Word}
-use Rattle.tableau.specs.Words.{words, relations, ruleNames, Command, make, assume, infer, some-of, commandOf}
-use Rattle.tableau.specs.Fields.{wordFields, sides, ruleUses}
-use Rattle.tableau.specs.Terms.{Table, Literal, literal, at, sortOf, written, oneSort, maxTerms}
+use Rattle.tableau.specs.Words.{words, relations, ruleNames, Command, make, assume, disjoin, infer, some-of, commandOf}
+use Rattle.tableau.specs.Fields.{Use, wordFields, sides, clauseFields, ruleUses}
+use Rattle.tableau.specs.Terms.{Table, Literal, literal, Clauses, at, sortOf, written, oneSort, maxTerms}
 use Rattle.tableau.specs.Tree.{Checked, refused, passed, _>>=_, _>>_, require, requireSome, Tree, Status, isOpen, isClosed, maxPlaces, alternatives, grown}
-use Rattle.tableau.specs.Reply.{Counts, State, start, requireOpen, zeroIfUnused, termOrName, ofSort, isNew, termLine, literalLine, assumed, stepLine}
-use Rattle.tableau.specs.Reply.{counted, runOpen, runRead, runLine, RunEnd, stopped, ended, runLines, Verdict, accept, refuse, atEnd, verdictOn, verdictIf, verdict, replyOf, reply}
+use Rattle.tableau.specs.Reply.{Counts, State, start, requireOpen, zeroIfUnused, termOrName, ofSort, isNew, termLine, literalLine, assumed, takesDisjunct, disjoined, stepLine}
+use Rattle.tableau.specs.Reply.{counted, withClauses, runOpen, runRead, runLine, RunEnd, stopped, ended, runLines, Verdict, accept, refuse, atEnd, verdictOn, verdictIf, verdict, replyOf, reply}
 use Rattle.tableau.specs.Claims.{allButLast, linesOf}
 use Rattle.tableau.proofs.Bools.{both-true}
 
@@ -76,6 +76,7 @@ lookup-agree {A} {B} {x} f g (n ∷ ns) w h e = go (sameBytes (bytes (n .text)) 
 abbrev pub letterOf : Command → Letter
 letterOf (make w) = Letter.T
 letterOf (assume R) = Letter.A
+letterOf (disjoin R) = Letter.C
 letterOf (infer x) = Letter.S
 
 -- the word of a line's command is one of its letter's words
@@ -87,6 +88,7 @@ pub command-letter : {c : Command} (k : Letter) (w : List ℕ) → commandOf k w
 unfolding commandOf
 command-letter Letter.T w e = ap letterOf (some-of-some make (lookup words w) e .2)
 command-letter Letter.A w e = ap letterOf (some-of-some assume (lookup relations w) e .2)
+command-letter Letter.C w e = ap letterOf (some-of-some disjoin (lookup relations w) e .2)
 command-letter Letter.S w e = ap letterOf (some-of-some infer (lookup ruleNames w) e .2)
 
 -- LINES: a T line
@@ -108,31 +110,45 @@ term-passed table w n e =
     let e₁₀ = require-passed (isNew table (written w n)) _ _ (e₉ .1) in
     record { unusedZero = e₆ .0; room = e₇ .0; terms = e₈ .0; sorts = e₉ .0; new = e₁₀ .0; after = sym (passed-injective (e₁₀ .1)) }
 
--- an A line
-pub record LiteralPassed (table : Table) (R : Relation) (n : Four ℕ) (l : Literal) : Type 0 where
-  pub terms : every (termOrName table) (sides R) n ≡ true
-  pub sorts : (every (ofSort table) (sides R) n && oneSort R (sortOf (at table (n .a))) (sortOf (at table (n .b)))) ≡ true
+-- an A or C line
+pub record LiteralPassed (table : Table) (uses : Four Use) (R : Relation) (n : Four ℕ) (l : Literal) : Type 0 where
+  pub terms : every (termOrName table) uses n ≡ true
+  pub sorts : (every (ofSort table) uses n && oneSort R (sortOf (at table (n .a))) (sortOf (at table (n .b)))) ≡ true
   pub is : l ≡ literal R (n .a) (n .b)
 
-pub literal-passed : {l : Literal} (table : Table) (R : Relation) (n : Four ℕ) → literalLine table R n ≡ passed l → LiteralPassed table R n l
+pub literal-passed : {l : Literal} (table : Table) (uses : Four Use) (R : Relation) (n : Four ℕ) → literalLine table uses R n ≡ passed l → LiteralPassed table uses R n l
 unfolding literalLine
-literal-passed table R n e =
-    let e₆ = require-passed (every zeroIfUnused (sides R) n) _ _ e in
-    let e₈ = require-passed (every (termOrName table) (sides R) n) _ _ (e₆ .1) in
-    let e₉ = require-passed (every (ofSort table) (sides R) n && oneSort R (sortOf (at table (n .a))) (sortOf (at table (n .b)))) _ _ (e₈ .1) in
+literal-passed table uses R n e =
+    let e₆ = require-passed (every zeroIfUnused uses n) _ _ e in
+    let e₈ = require-passed (every (termOrName table) uses n) _ _ (e₆ .1) in
+    let e₉ = require-passed (every (ofSort table) uses n && oneSort R (sortOf (at table (n .a))) (sortOf (at table (n .b)))) _ _ (e₈ .1) in
     record { terms = e₈ .0; sorts = e₉ .0; is = sym (passed-injective (e₉ .1)) }
 
+-- a C line
+pub record DisjunctPassed (table : Table) (C : Clauses) (R : Relation) (n : Four ℕ) (C′ : Clauses) : Type 0 where
+  pub line : literalLine table (clauseFields R) R n ≡ passed (literal R (n .a) (n .b))
+  pub fits : takesDisjunct C (n .c) ≡ true
+  pub after : C′ ≡ C ++ (record { clause = n .c; is = literal R (n .a) (n .b) } ∷ [])
+
+disjunct-passed : {l : Literal} {C′ : Clauses} (table : Table) (C : Clauses) (R : Relation) (n : Four ℕ) → literalLine table (clauseFields R) R n ≡ passed l
+    → disjoined C (n .c) l ≡ passed C′ → DisjunctPassed table C R n C′
+unfolding disjoined
+disjunct-passed table C R n e g =
+    let q = literal-passed table (clauseFields R) R n e .is in
+    let e₂₁ = require-passed (takesDisjunct C (n .c)) _ _ g in
+    record { line = e ∙ ap passed q; fits = e₂₁ .0; after = sym (passed-injective (e₂₁ .1)) ∙ ap (λ (k : Literal). C ++ (record { clause = n .c; is = k } ∷ [])) q }
+
 -- an S line
-pub record StepPassed (table : Table) (τ : Tree) (x : Rule) (n : Four ℕ) (s : Status) : Type 0 where
+pub record StepPassed (table : Table) (C : Clauses) (τ : Tree) (x : Rule) (n : Four ℕ) (s : Status) : Type 0 where
   pub sorts : every (ofSort table) (ruleUses x) n ≡ true
   pub adds : List (List Literal)
-  pub concluded : alternatives table (τ .branch) x n ≡ passed adds
+  pub concluded : alternatives table C (τ .branch) x n ≡ passed adds
   pub after : grown τ adds ≡ passed s
 
-step-passed : {ks : List (List Literal)} {s : Status} (table : Table) (τ : Tree) (x : Rule) (n : Four ℕ) → stepLine table (τ .branch) x n ≡ passed ks
-    → grown τ ks ≡ passed s → StepPassed table τ x n s
+step-passed : {ks : List (List Literal)} {s : Status} (table : Table) (C : Clauses) (τ : Tree) (x : Rule) (n : Four ℕ) → stepLine table C (τ .branch) x n ≡ passed ks
+    → grown τ ks ≡ passed s → StepPassed table C τ x n s
 unfolding stepLine
-step-passed {ks} table τ x n e g =
+step-passed {ks} table C τ x n e g =
     let e₆ = require-passed (every zeroIfUnused (ruleUses x) n) _ _ e in
     let e₈ = require-passed (every (termOrName table) (ruleUses x) n) _ _ (e₆ .1) in
     let e₉ = require-passed (every (ofSort table) (ruleUses x) n) _ _ (e₈ .1) in
@@ -140,10 +156,11 @@ step-passed {ks} table τ x n e g =
 
 -- WHAT A LINE THAT PASSED DID, by what it asks for
 abbrev pub Did : State → Tree → Command → Four ℕ → State → Type 0
-Did σ τ (make w) n σ′ = TermPassed (σ .table) w n (σ′ .table) × (σ′ .status ≡ isOpen τ)
+Did σ τ (make w) n σ′ = TermPassed (σ .table) w n (σ′ .table) × (σ′ .status ≡ isOpen τ) × (σ′ .clauses ≡ σ .clauses)
 Did σ τ (assume R) n σ′ = (σ′ .table ≡ σ .table) × (σ′ .status ≡ isOpen (record { branch = τ .branch ++ (literal R (n .a) (n .b) ∷ []); waiting = τ .waiting }))
-    × (literalLine (σ .table) R n ≡ passed (literal R (n .a) (n .b)))
-Did σ τ (infer x) n σ′ = (σ′ .table ≡ σ .table) × StepPassed (σ .table) τ x n (σ′ .status)
+    × (literalLine (σ .table) (sides R) R n ≡ passed (literal R (n .a) (n .b))) × (σ′ .clauses ≡ σ .clauses)
+Did σ τ (disjoin R) n σ′ = (σ′ .table ≡ σ .table) × (σ′ .status ≡ isOpen τ) × DisjunctPassed (σ .table) (σ .clauses) R n (σ′ .clauses)
+Did σ τ (infer x) n σ′ = (σ′ .table ≡ σ .table) × StepPassed (σ .table) (σ .clauses) τ x n (σ′ .status) × (σ′ .clauses ≡ σ .clauses)
 
 pub record Ran (σ : State) (τ : Tree) (c : Command) (n : Four ℕ) (σ′ : State) : Type 0 where
   pub did : Did σ τ c n σ′
@@ -158,18 +175,22 @@ ran : {σ′ : State} (σ : State) (τ : Tree) (c : Command) (n : Four ℕ) → 
 unfolding runOpen assumed
 ran σ τ (make w) n e =
     let t = bind-passed (termLine (σ .table) w n) _ e in
-    after-line (t .2) (record { did = (term-passed (σ .table) w n (t .1), refl); letter = refl; counts = refl })
+    after-line (t .2) (record { did = (term-passed (σ .table) w n (t .1), refl, refl); letter = refl; counts = refl })
 ran σ τ (assume R) n e =
-    let l = bind-passed (literalLine (σ .table) R n) _ e in
+    let l = bind-passed (literalLine (σ .table) (sides R) R n) _ e in
     let t = bind-passed (assumed τ (l .0)) _ (l .2) in
     let r = require-passed (ltb (length (τ .branch)) maxPlaces) _ _ (t .1) in
-    let q = literal-passed (σ .table) R n (l .1) .is in
+    let q = literal-passed (σ .table) (sides R) R n (l .1) .is in
     let s = sym (passed-injective (r .1)) ∙ ap (λ (k : Literal). record { branch = τ .branch ++ (k ∷ []); waiting = τ .waiting }) q in
-    after-line (t .2) (record { did = (refl, ap isOpen s, l .1 ∙ ap passed q); letter = refl; counts = refl })
+    after-line (t .2) (record { did = (refl, ap isOpen s, l .1 ∙ ap passed q, refl); letter = refl; counts = refl })
+ran σ τ (disjoin R) n e =
+    let l = bind-passed (literalLine (σ .table) (clauseFields R) R n) _ e in
+    let c = bind-passed (disjoined (σ .clauses) (n .c) (l .0)) _ (l .2) in
+    after-line (c .2) (record { did = (refl, refl, disjunct-passed (σ .table) (σ .clauses) R n (l .1) (c .1)); letter = refl; counts = refl })
 ran σ τ (infer x) n e =
-    let k = bind-passed (stepLine (σ .table) (τ .branch) x n) _ e in
+    let k = bind-passed (stepLine (σ .table) (σ .clauses) (τ .branch) x n) _ e in
     let s = bind-passed (grown τ (k .0)) _ (k .2) in
-    after-line (s .2) (record { did = (refl, step-passed (σ .table) τ x n (k .1) (s .1)); letter = refl; counts = refl })
+    after-line (s .2) (record { did = (refl, step-passed (σ .table) (σ .clauses) τ x n (k .1) (s .1), refl); letter = refl; counts = refl })
 
 pub record LinePassed (σ : State) (bs : List ℕ) (σ′ : State) : Type 0 where
   pub line : Line Letter
@@ -230,7 +251,7 @@ pub record Accepted (σ : State) (ls : List (List ℕ)) (c : Counts) : Type 0 wh
   pub last : State
   pub run : Run LinePassed σ ls last
   pub closed : last .status ≡ isClosed
-  pub counts : last .counts ≡ c
+  pub counts : withClauses (last .counts) (last .clauses) ≡ c
 
 refuse≢accept : {B : Type 0} {r : Reason} {i : ℕ} {c : Counts} → refuse r i ≡ accept c → B
 refuse≢accept {B} {r} {i} {c} e = let z : true ≡ false = cc in absurd (true≢false z)

@@ -1,9 +1,10 @@
--- The replies that document 01 marks, those to the files of the old checker's failings and to those about start-up, by computation.
+-- The replies that document 01 marks, those to the files of the old checker's failings, to those about start-up and to those with clauses, by computation.
 use mathlib.Core.Path.{refl}
 use mathlib.Core.List.{[], _∷_}
 use Rattle.tableau.specs.Cases.{cases, AllReplies, _⊢_}
 use Rattle.tableau.specs.Failings.{incident, incidentMended, staleWitness, namesCompared, literalsKept, outsideAll, failings}
 use Rattle.tableau.specs.StartUp.{startUpCases}
+use Rattle.tableau.specs.Disjunctions.{clauseCases}
 use Rattle.tableau.proofs.Evaluate.{evaluate}
 
 -- THE CASES MARKED ◆
@@ -24,3 +25,8 @@ mended-accepted = refl
 pub start-up-replies : AllReplies startUpCases
 unfolding AllReplies startUpCases evaluate
 start-up-replies = refl
+
+-- a clause that is split, with every alternative closed, is accepted; with one open, a w in a clause or a gap in the numbers it is refused
+pub clause-replies : AllReplies clauseCases
+unfolding AllReplies clauseCases evaluate
+clause-replies = refl

@@ -1,27 +1,30 @@
 -- The counts of a reply are those of the file's own lines; the refusal number of a reply.
-use mathlib.Core.Path.{_≡_, refl, sym, _∙_}
+use mathlib.Core.Path.{_≡_, refl, sym, _∙_, ap}
 use mathlib.Core.Bool.{Bool, true, false, _&&_, _||_, cond, true≢false}
 use mathlib.Core.List.{List, [], _∷_}
+use mathlib.Core.Logic.{_⊎_, inl, inr}
 use mathlib.Core.Option.{Option, none, some}
 use Prim.Native.Nat.{ℕ, suc, _+_, _≤_}
 use native.Mathlib.Omega.{arith}
-use lib.Dec.{leb}
-use borrow.Author.Tests.{leb-true}
+use lib.Dec.{eqb, leb}
+use borrow.Author.Tests.{eqb-true, leb-true}
 use Rattle.tableau.specs.declared.Letter.{Letter}
 use Rattle.tableau.specs.declared.Rule.{Rule}
 use Rattle.tableau.specs.declared.Reason.{Reason}
 use Rattle.tableau.specs.Basics.{Four, bytes, sameBytes, lookup}
 use Rattle.tableau.specs.File.{Line, rank, shape, letters, split, LF}
-use Rattle.tableau.specs.Words.{words, relations, ruleNames, Command, make, assume, infer, commandOf}
+use Rattle.tableau.specs.Words.{words, relations, ruleNames, Command, make, assume, disjoin, infer, commandOf}
+use Rattle.tableau.specs.Terms.{lastClause}
 use Rattle.tableau.specs.Rules.{rule}
 use Rattle.tableau.specs.Tree.{Checked, refused, passed, _>>=_, _>>_, require, requireSome, Tree, Status, isOpen, isClosed, answer, alternatives, grown}
-use Rattle.tableau.specs.Reply.{reasonNumber, Counts, State, start, requireOpen, termLine, literalLine, assumed, stepLine, isClosing, counted}
+use Rattle.tableau.specs.Reply.{reasonNumber, Counts, State, start, requireOpen, termLine, literalLine, assumed, disjoined, stepLine, isClosing, counted}
 use Rattle.tableau.specs.Reply.{runOpen, runRead, runLine, runLines, Verdict, accept, refuse, atEnd, verdictOn, verdict, replyOf, reply}
-use Rattle.tableau.specs.Claims.{hasLetter, closesBranch, countIf, CountsOf, RightCounts}
+use Rattle.tableau.specs.Claims.{hasLetter, closesBranch, countIf, countClauses, CountsOf, RightCounts}
 use Rattle.tableau.proofs.Reason as reason-type
-use Rattle.tableau.proofs.Bools.{both-true}
+use Rattle.tableau.proofs.Bools.{both-true, one-true}
 use Rattle.tableau.proofs.Places.{every-value}
 use Rattle.tableau.proofs.Checks.{lookup-agree, some-of-some, LinePassed, Run, done, next, Accepted, verdict-cases, file-accepted}
+use Rattle.tableau.proofs.ClauseLaws.{no-clauses, run-in-sequence, run-clauses}
 
 -- THE COUNTS
 -- the rules that close are those with the words `cls` and `emp`
@@ -51,6 +54,7 @@ adds-each k l c = go (l .letter)
     go : (x : Letter) → commandOf x (l .word) ≡ some c → AddsEach k (record { letter = x; word = l .word; fields = l .fields }) c
     go Letter.T e = rw (some-of-some make (lookup words (l .word)) e .2) (refl, refl, refl, refl)
     go Letter.A e = rw (some-of-some assume (lookup relations (l .word)) e .2) (refl, refl, refl, refl)
+    go Letter.C e = rw (some-of-some disjoin (lookup relations (l .word)) e .2) (refl, refl, refl, refl)
     go Letter.S e = let h = some-of-some infer (lookup ruleNames (l .word)) e in rw (h .2) (refl, refl, refl, rw (closing-word (l .word) (h .1)))
 
 -- so a count of an accepted file is the number of lines that pass its test
@@ -64,11 +68,11 @@ module _ (count : Counts → ℕ) (test : Option (Line Letter) → Bool)
   run-count done = omega arith
   run-count {σ} (next {l = l} p r) = run-count r ∙ rw (line-count p) (increase-sum (test (shape letters l)) (count (σ .counts)) _)
 
-  file-count : {ls : List (List ℕ)} {c : Counts} → Accepted start ls c → count (start .counts) ≡ 0 → count c ≡ countIf test ls
-  file-count a z = rw (← a .counts, run-count (a .run)) (omega arith)
+  file-count : {ls : List (List ℕ)} {c : Counts} (a : Accepted start ls c) → count (start .counts) ≡ 0 → count (a .last .counts) ≡ countIf test ls
+  file-count a z = rw (run-count (a .run)) (omega arith)
 
 pub right-counts : RightCounts reply
-unfolding RightCounts reply replyOf
+unfolding RightCounts reply replyOf lastClause countClauses
 right-counts file = go (verdict file) refl
   where
     go : (v : Verdict) → verdict file ≡ v → CountsOf file (replyOf v) (replyOf v .isYes)
@@ -77,16 +81,17 @@ right-counts file = go (verdict file) refl
         record {
           number = refl;
           line = refl;
-          terms = file-count _ _ (λ k l c e. adds-each k l c e .0) a refl;
-          assumptions = file-count _ _ (λ k l c e. adds-each k l c e .1) a refl;
-          steps = file-count _ _ (λ k l c e. adds-each k l c e .2) a refl;
-          closings = file-count _ _ (λ k l c e. adds-each k l c e .3) a refl;
+          terms = rw (← a .counts) (file-count _ _ (λ k l c e. adds-each k l c e .0) a refl);
+          assumptions = let n = file-count (λ k. k .assumptions) (hasLetter Letter.A) (λ k l c e. adds-each k l c e .1) a refl in
+              rw (← a .counts, ← run-clauses (a .run), run-in-sequence (a .run) no-clauses .counted) (ap (λ x. x + lastClause (a .last .clauses)) n);
+          steps = rw (← a .counts) (file-count _ _ (λ k l c e. adds-each k l c e .2) a refl);
+          closings = rw (← a .counts) (file-count _ _ (λ k l c e. adds-each k l c e .3) a refl);
         }
     go (refuse r i) e = record { terms = refl; assumptions = refl; steps = refl; closings = refl }
 
--- THE REFUSAL NUMBER: no check of a file gives that of a wrong buffer, 18.
+-- THE REFUSAL NUMBER: no check of a file gives that of a wrong buffer, 18, nor of a heap file, 19 and 20.
 abbrev InRange : Reason → Type 0
-InRange r = (leb 1 (reasonNumber r) && leb (reasonNumber r) 17) ≡ true
+InRange r = (eqb (reasonNumber r) 21 || (leb 1 (reasonNumber r) && leb (reasonNumber r) 17)) ≡ true
 
 abbrev CheckInRange : {A : Type 0} → Checked A → Type 0
 CheckInRange (refused r) = InRange r
@@ -121,9 +126,10 @@ requireOpen-range isClosed = refl
 ruleset range = (bind-range, require-range, requireSome-range, requireSome-last, requireOpen-range)
 
 step-range : (σ : State) (τ : Tree) (c : Command) (n : Four ℕ) → CheckInRange (runOpen σ τ c n)
-unfolding runOpen termLine literalLine assumed stepLine answer alternatives grown reasonNumber
+unfolding runOpen termLine literalLine assumed disjoined stepLine answer alternatives grown reasonNumber
 step-range σ τ (make w) n = search range depth 12
 step-range σ τ (assume R) n = search range depth 12
+step-range σ τ (disjoin R) n = search range depth 12
 step-range σ τ (infer x) n = search range depth 12
 
 line-range : (σ : State) (bs : List ℕ) → CheckInRange (runLine σ bs)
@@ -145,16 +151,18 @@ lines-range ((b ∷ bs) ∷ []) i (passed σ) h = refl
 lines-range (l ∷ m ∷ ls) i (passed σ) h = lines-range (m ∷ ls) (suc i) (runLine σ l) (line-range σ l)
 
 pub number-in-range : (file : List ℕ) → (reply file .isYes ≡ true → reply file .number ≡ 0)
-    × (reply file .isYes ≡ false → (1 ≤ reply file .number) × (reply file .number ≤ 17))
+    × (reply file .isYes ≡ false → (reply file .number ≡ 21) ⊎ ((1 ≤ reply file .number) × (reply file .number ≤ 17)))
 unfolding reply replyOf reasonNumber
 number-in-range file = go (verdict file) (verdict-cases VerdictInRange file refl (lines-range (split LF file) 0 (passed start) tt))
   where
     go : (v : Verdict) → VerdictInRange v → (replyOf v .isYes ≡ true → replyOf v .number ≡ 0)
-        × (replyOf v .isYes ≡ false → (1 ≤ replyOf v .number) × (replyOf v .number ≤ 17))
+        × (replyOf v .isYes ≡ false → (replyOf v .number ≡ 21) ⊎ ((1 ≤ replyOf v .number) × (replyOf v .number ≤ 17)))
     go (accept c) h = ((λ e. refl), (λ e. absurd (true≢false e)))
-    go (refuse r i) h =
-        let b = both-true (leb 1 (reasonNumber r)) _ h in
-        ((λ e. absurd (true≢false (sym e))), (λ e. (leb-true 1 (reasonNumber r) (b .0), leb-true (reasonNumber r) 17 (b .1))))
+    go (refuse r i) h = ((λ e. absurd (true≢false (sym e))), (λ e. either (one-true (eqb (reasonNumber r) 21) _ h)))
+      where
+        either : (eqb (reasonNumber r) 21 ≡ true) ⊎ ((leb 1 (reasonNumber r) && leb (reasonNumber r) 17) ≡ true) → (reasonNumber r ≡ 21) ⊎ ((1 ≤ reasonNumber r) × (reasonNumber r ≤ 17))
+        either (inl k) = inl (eqb-true (reasonNumber r) 21 k)
+        either (inr k) = let b = both-true (leb 1 (reasonNumber r)) _ k in inr (leb-true 1 (reasonNumber r) (b .0), leb-true (reasonNumber r) 17 (b .1))
 
 -- no reason has the number of a yes
 pub reason-not-0 : (r : Reason) → reasonNumber r ≡ 0 → ⊥

@@ -11,8 +11,8 @@ use Rattle.tableau.specs.declared.Sort.{Sort}
 use Rattle.tableau.specs.declared.Operator.{Operator}
 use Rattle.tableau.specs.Basics.{Four, four}
 use Rattle.tableau.specs.Fields.{Argument, unused, of, arguments, ifArgument}
-use Rattle.tableau.specs.Terms.{TermNo, Name, Term, variable, apply, Literal, literal, sortOf, sameSort, sameRelation, layer, toDepth, fold, mentions, mentionedIn, mentioned}
-use Rattle.tableau.specs.Meaning.{FiniteHeap, Ref, Value, reference, operation, Values, valueOf, value, Holds, AllTrue}
+use Rattle.tableau.specs.Terms.{TermNo, Name, Term, variable, apply, Literal, literal, sortOf, sameSort, sameRelation, layer, toDepth, fold, mentions, mentionedIn, mentioned, ClauseNo, Clauses, disjuncts, clauseOf}
+use Rattle.tableau.specs.Meaning.{FiniteHeap, Ref, Value, reference, operation, Values, valueOf, value, Holds, True, AllTrue, AnyTrue, EveryClauseTrue}
 use Rattle.tableau.specs.Rules.{Pattern, letter, operator, –, LiteralPattern, pattern, Need, p∶, q∶, t≐, isRegion, letterT, letterW}
 use Rattle.tableau.specs.Steps.{Letters, fitsLetter, fits, fitsLiteral, termOf, met}
 use Rattle.tableau.proofs.Bools.{both-false, dec, clash, eqb-same, none≢some, some-inj, then-inv, guard-inv}
@@ -111,16 +111,35 @@ module _ (table : TermNo → Term) (wf : WellFormed table) (w : TermNo) (n : Nam
     unfolding valueOf
     w-value = value-variable table wf H ρ′ w Sort.Reference n is-w ∙ ap (λ b. reference (cond b x (ρ .rfv n))) (eqb-same n)
 
-    -- a branch that does not mention w stays true
+    -- a literal that does not mention w stays true
+    same-literal : (l : Literal) → mentionedIn table w l ≡ false → True ρ table l → True ρ′ table l
+    same-literal (literal R a b) h k =
+        subst (λ v. Holds R v (value ρ′ table b)) (sym (same-value a (both-false _ _ h .0)))
+        (subst (λ v. Holds R (value ρ table a) v) (sym (same-value b (both-false (mentions table w a) _ h .1))) k)
+
+    -- so do a branch and every clause
     pub same-branch : (B : List Literal) → mentioned table w B ≡ false → AllTrue ρ table B → AllTrue ρ′ table B
     unfolding mentioned
     same-branch [] h k = tt
-    same-branch (literal R a b ∷ ls) h k =
-        let c = both-false (mentionedIn table w (literal R a b)) _ h .0 in (
-          subst (λ v. Holds R v (value ρ′ table b)) (sym (same-value a (both-false _ _ c .0)))
-              (subst (λ v. Holds R (value ρ table a) v) (sym (same-value b (both-false (mentions table w a) _ c .1))) (k .0)),
-          same-branch ls (both-false (mentionedIn table w (literal R a b)) _ h .1) (k .1),
-        )
+    same-branch (l ∷ ls) h k = let c = both-false (mentionedIn table w l) _ h in (same-literal l (c .0) (k .0), same-branch ls (c .1) (k .1))
+
+    same-any : (ls : List Literal) → mentioned table w ls ≡ false → AnyTrue ρ table ls → AnyTrue ρ′ table ls
+    unfolding mentioned
+    same-any [] h k = k
+    same-any (l ∷ ls) h (inl k) = inl (same-literal l (both-false (mentionedIn table w l) _ h .0) k)
+    same-any (l ∷ ls) h (inr k) = inr (same-any ls (both-false (mentionedIn table w l) _ h .1) k)
+
+    not-in-clause : (C : Clauses) (k : ClauseNo) → mentioned table w (disjuncts C) ≡ false → mentioned table w (clauseOf C k) ≡ false
+    unfolding mentioned clauseOf
+    not-in-clause [] k h = refl
+    not-in-clause (d ∷ C) k h = go (eqb (d .clause) k) (both-false (mentionedIn table w (d .is)) _ h .0) (not-in-clause C k (both-false (mentionedIn table w (d .is)) _ h .1))
+      where
+        go : (b : Bool) → mentionedIn table w (d .is) ≡ false → mentioned table w (clauseOf C k) ≡ false → mentioned table w (cond b (d .is ∷ clauseOf C k) (clauseOf C k)) ≡ false
+        go true i r = rw (i, r)
+        go false i r = r
+
+    pub same-clauses : (C : Clauses) → mentioned table w (disjuncts C) ≡ false → EveryClauseTrue ρ table C → EveryClauseTrue ρ′ table C
+    same-clauses C h e k i = same-any (clauseOf C k) (not-in-clause C k h) (e k i)
 
   -- the letters other than w stand for terms without w
   abbrev pub Clean : Letters → Type 0

@@ -12,9 +12,10 @@ pub mod Fresh
 pub mod StepSound
 pub mod SixFields
 pub mod Checks
-pub mod Counts
 pub mod Models
-pub mod Shams
 pub mod TreeSound
 pub mod TableGrowth
 pub mod Soundness
+pub mod ClauseLaws
+pub mod Counts
+pub mod Shams

@@ -1,18 +1,21 @@
 -- The meaning is not empty: a finite heap, and values of the variables that make all assumed literals of a file true in it.
 use mathlib.Core.Path.{_≡_, refl, ap, _∙_}
-use mathlib.Core.Bool.{Bool, false, cond, not}
-use mathlib.Core.List.{List, []}
-use Prim.Native.Nat.{ℕ}
+use mathlib.Core.Bool.{Bool, false, cond, not, false≢true}
+use mathlib.Core.List.{List, [], _∷_}
+use mathlib.Core.Logic.{inl, inr}
+use Prim.Native.Nat.{ℕ, zero, suc, _<_}
 use lib.Dec.{eqb, lit<}
 use native.Mathlib.Decide.{Fin·val-path}
 use native.Mathlib.Omega.{arith}
-use borrow.Author.Tests.{eqb-true, eq-eqb}
-use Rattle.tableau.specs.Terms.{Name, at}
-use Rattle.tableau.specs.Meaning.{_and_, _or_, Below, same, any, FiniteHeap, Ref, region, within, asRef, operation, Values, valueOf, AllTrue}
-use Rattle.tableau.specs.Claims.{termsIn, literalsIn, termsOf, assumedOf, Model}
+use lib.ListN.{length}
+use borrow.Author.Tests.{eqb-true, eq-eqb, ne-eqb}
+use Rattle.tableau.specs.Terms.{Name, ClauseNo, Clauses, clauseOf, at}
+use Rattle.tableau.specs.Meaning.{_and_, _or_, Below, same, any, FiniteHeap, Ref, region, within, asRef, asRegion, operation, Values, valueOf, AllTrue, EveryClauseTrue}
+use Rattle.tableau.specs.Claims.{termsIn, literalsIn, clausesIn, termsOf, assumedOf, clausesOf, Model}
 use Rattle.tableau.specs.Cases.{fileOf}
 use Rattle.tableau.specs.Failings.{incident, staleWitness, namesCompared, literalsKept, outsideAll, failings, AllHaveModels}
 use Rattle.tableau.specs.StartUp.{startUp, allocationUnsaid, StartUpModel, StartUpModels}
+use Rattle.tableau.specs.Disjunctions.{noJog, witnessInClause, gapInNumbers, ClauseModels}
 use Rattle.tableau.proofs.Evaluate.{evaluate}
 use Rattle.tableau.proofs.Values.{region-path}
 
@@ -60,14 +63,18 @@ valuesWith H a u e x = record {
   clv = λ n. H .aClass;
 }
 
--- they make all assumed literals of a file true; to unfold this is to unfold all that it is computed from
+-- they make all assumed literals of a file true, and one of every clause; to unfold this is to unfold all that it is computed from
 unfoldable AssumedTrue : (H : FiniteHeap) → Name → Ref H → Name → Ref H → List ℕ → Type 0
-unfolding evaluate termsIn literalsIn operation valueOf any _and_ _or_
-AssumedTrue H a u e x file = AllTrue (valuesWith H a u e x) (at (termsOf file)) (assumedOf file)
+unfolding evaluate termsIn literalsIn clausesIn operation valueOf any _and_ _or_
+AssumedTrue H a u e x file = AllTrue (valuesWith H a u e x) (at (termsOf file)) (assumedOf file) × EveryClauseTrue (valuesWith H a u e x) (at (termsOf file)) (clausesOf file)
 
 modelIn : (H : FiniteHeap) {file : List ℕ} (a : Name) (u : Ref H) (e : Name) (x : Ref H) → AssumedTrue H a u e x file → Model file
 unfolding AssumedTrue
-modelIn H a u e x h = record { finiteHeap = H; values = valuesWith H a u e x; allTrue = h }
+modelIn H a u e x h = record { finiteHeap = H; values = valuesWith H a u e x; allTrue = h .0; everyClauseTrue = h .1 }
+
+-- a file with no C line
+no-clause : {A : Type 0} → ℕ → 0 < 0 → A
+no-clause k n = absurd (omega arith)
 
 -- where `rfv` a is the allocated reference
 abbrev model : {file : List ℕ} (a e : Name) (x : Ref oneAllocated) → AssumedTrue oneAllocated a one e x file → Model file
@@ -76,27 +83,27 @@ model a e x h = modelIn oneAllocated a one e x h
 -- the last-jog record is `nul`, and so in no region
 pub incident-model : Model (fileOf incident)
 unfolding AssumedTrue incident
-incident-model = model 1 0 nul (refl, (refl, (refl, tt)))
+incident-model = model 1 0 nul ((refl, (refl, (refl, tt))), no-clause)
 
 -- u is what its field holds, and w is `nul`
 stale-witness-model : Model (fileOf staleWitness)
 unfolding AssumedTrue staleWitness
-stale-witness-model = model 1 0 one (refl, (refl, tt))
+stale-witness-model = model 1 0 one ((refl, (refl, tt)), no-clause)
 
 -- both regions are `all`, and one of the two references is `nul`
 names-compared-model : Model (fileOf namesCompared)
 unfolding AssumedTrue namesCompared
-names-compared-model = model 3 0 nul (refl, ((λ p. omega (arith, ap (λ v. asRef v .0) p)), tt))
+names-compared-model = model 3 0 nul ((refl, ((λ p. omega (arith, ap (λ v. asRef v .0) p)), tt)), no-clause)
 
 -- u is in the second region alone
 literals-kept-model : Model (fileOf literalsKept)
 unfolding AssumedTrue literalsKept
-literals-kept-model = model 1 1 nul (refl, (refl, tt))
+literals-kept-model = model 1 1 nul ((refl, (refl, tt)), no-clause)
 
 -- u is `nul`
 outside-all-model : Model (fileOf outsideAll)
 unfolding AssumedTrue outsideAll
-outside-all-model = model 0 0 nul (refl, tt)
+outside-all-model = model 0 0 nul ((refl, tt), no-clause)
 
 -- THE FILES OF THE OLD CHECKER'S FAILINGS, in their order
 pub failings-have-models : AllHaveModels failings
@@ -106,7 +113,7 @@ failings-have-models = (incident-model, (stale-witness-model, (names-compared-mo
 -- the file of no bytes: "where a file assumes nothing, all that it assumes counts as true"
 pub nothing-assumed : Model []
 unfolding AssumedTrue
-nothing-assumed = model 0 0 nul tt
+nothing-assumed = model 0 0 nul (tt, no-clause)
 
 -- BEFORE THE FIRST ALLOCATION there is one region
 one-region : (f g : Below 2 → Bool) → region (within nothingAllocated f) ≡ region (within nothingAllocated g)
@@ -119,4 +126,50 @@ start-up-model h = record { model = modelIn nothingAllocated 0 nul 0 nul h; none
 
 pub start-up-models : StartUpModels
 unfolding AssumedTrue startUp allocationUnsaid
-start-up-models = (start-up-model (one-region _ _, tt), start-up-model (refl, (one-region _ _, (one-region _ _, tt))))
+start-up-models = (start-up-model ((one-region _ _, tt), no-clause), start-up-model ((refl, (one-region _ _, (one-region _ _, tt))), no-clause))
+
+-- FILES WITH CLAUSES
+-- a number that no literal has
+abbrev NoneWith : ClauseNo → Clauses → Type 0
+NoneWith k [] = Unit {0}
+NoneWith k (d ∷ C) = (d .clause ≡ k → ⊥) × NoneWith k C
+
+none-with : {A : Type 0} (k : ClauseNo) (C : Clauses) → NoneWith k C → 0 < length (clauseOf C k) → A
+unfolding clauseOf
+none-with k [] h n = absurd (omega arith)
+none-with k (d ∷ C) h n = none-with k C (h .1) (rw (ne-eqb (d .clause) k (h .0)) at n)
+
+-- u is in the second region alone
+no-jog-model : Model (fileOf noJog)
+unfolding AssumedTrue noJog
+no-jog-model = model 1 1 nul ((refl, tt), go)
+  where
+    go : EveryClauseTrue (valuesWith oneAllocated 1 one 1 nul) (at (termsOf (fileOf noJog))) (clausesOf (fileOf noJog))
+    go zero n = absurd (omega arith)
+    go (suc zero) n = inr (inl refl)
+    go (suc (suc k)) n = none-with (suc (suc k)) (clausesOf (fileOf noJog)) ((λ e. omega arith), ((λ e. omega arith), tt)) n
+
+-- w is `nul`, and the first region is empty
+witness-in-clause-model : Model (fileOf witnessInClause)
+unfolding AssumedTrue witnessInClause
+witness-in-clause-model = model 0 1 nul (((λ p. false≢true (ap (λ v. asRegion v .has one) p)), tt), go)
+  where
+    go : EveryClauseTrue (valuesWith oneAllocated 0 one 1 nul) (at (termsOf (fileOf witnessInClause))) (clausesOf (fileOf witnessInClause))
+    go zero n = absurd (omega arith)
+    go (suc zero) n = inl refl
+    go (suc (suc zero)) n = inl refl
+    go (suc (suc (suc k))) n = none-with (suc (suc (suc k))) (clausesOf (fileOf witnessInClause)) ((λ e. omega arith), ((λ e. omega arith), tt)) n
+
+-- u is in the region
+gap-in-numbers-model : Model (fileOf gapInNumbers)
+unfolding AssumedTrue gapInNumbers
+gap-in-numbers-model = model 1 0 nul (tt, go)
+  where
+    go : EveryClauseTrue (valuesWith oneAllocated 1 one 0 nul) (at (termsOf (fileOf gapInNumbers))) (clausesOf (fileOf gapInNumbers))
+    go zero n = absurd (omega arith)
+    go (suc zero) n = absurd (omega arith)
+    go (suc (suc zero)) n = inl refl
+    go (suc (suc (suc k))) n = none-with (suc (suc (suc k))) (clausesOf (fileOf gapInNumbers)) ((λ e. omega arith), tt) n
+
+pub clause-models : ClauseModels
+clause-models = (no-jog-model, witness-in-clause-model, gap-in-numbers-model)

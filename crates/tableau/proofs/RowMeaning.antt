@@ -7,9 +7,9 @@ use lib.Dec.{eqb}
 use Rattle.tableau.specs.declared.Sort.{Sort}
 use Rattle.tableau.specs.declared.Rule.{Rule}
 use Rattle.tableau.specs.Basics.{Four, four}
-use Rattle.tableau.specs.Fields.{Use, unused, place, name, side, term, of, Argument, argumentUse, arguments, ifArgument, ruleUses}
+use Rattle.tableau.specs.Fields.{Use, unused, place, name, side, clause, term, of, Argument, argumentUse, arguments, ifArgument, ruleUses}
 use Rattle.tableau.specs.Meaning.{FiniteHeap, Ref, Value, reference, operation, Holds, kind}
-use Rattle.tableau.specs.Rules.{Pattern, letter, operator, –, LiteralPattern, pattern, Need, p∶, q∶, t≐, isRegion, Row, Kind, rows, congruence, replacement, rule, letterT, letterW}
+use Rattle.tableau.specs.Rules.{Pattern, letter, operator, –, LiteralPattern, pattern, Need, p∶, q∶, t≐, isRegion, Row, Kind, rows, congruence, replacement, disjunction, rule, letterT, letterW}
 
 module _ (H : FiniteHeap) where
   abbrev pub ⟦_⟧ : Pattern → (ℕ → Value H) → Value H
@@ -25,6 +25,7 @@ module _ (H : FiniteHeap) where
   Asked place x = Unit {0}
   Asked name x = Unit {0}
   Asked side x = Unit {0}
+  Asked clause x = Unit {0}
   Asked term x = Unit {0}
   Asked (of s) x = kind x ≡ s
 
@@ -87,6 +88,7 @@ module _ (H : FiniteHeap) where
   KindSound k (rows Rs) = RowsSound k Rs
   KindSound k congruence = Unit {0}
   KindSound k replacement = Unit {0}
+  KindSound k disjunction = k .c ≡ clause
 
   abbrev pub RuleSound : Rule → Type 0
   RuleSound x = KindSound (ruleUses x) (rule x)

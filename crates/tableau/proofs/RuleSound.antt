@@ -217,9 +217,9 @@ module _ (H : FiniteHeap) where
   unfolding rule ruleFields operation
   emp = (λ φ _ _ _ _ i. false≢true (and-r _ _ (and-r _ _ i)), tt)
 
-  -- EVERY RULE (`sub` and `rep` are no rows: see StepSound)
+  -- EVERY RULE (`sub`, `rep` and `cla` are no rows: see StepSound)
   pub rules-sound : (x : Rule) → RuleSound H x
-  unfolding rule
+  unfolding rule ruleFields
   rules-sound Rule.Eqr = eqr
   rules-sound Rule.Eql = eql
   rules-sound Rule.Ext = ext
@@ -249,3 +249,4 @@ module _ (H : FiniteHeap) where
   rules-sound Rule.Rdm = rdm
   rules-sound Rule.Cls = cls
   rules-sound Rule.Emp = emp
+  rules-sound Rule.Cla = refl

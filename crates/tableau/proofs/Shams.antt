@@ -19,7 +19,7 @@ use Rattle.tableau.proofs.Models.{nothing-assumed, incident-model}
 -- a yes to a file whose assumed literals can all be true breaks the third demand
 breaks3 : (checker : Checker) {file : List ℕ} → Model file → checker file .isYes ≡ true → ¬ Demand3 checker
 unfolding Demand3 NoHeap
-breaks3 checker {file} m e demand3 = demand3 file e (m .finiteHeap) (m .values) (m .allTrue)
+breaks3 checker {file} m e demand3 = demand3 file e (m .finiteHeap) (m .values) (m .allTrue) (m .everyClauseTrue)
 
 -- a count that is not the file's own breaks the second demand, since the specification's counts are (`right-counts`)
 breaks2 : (count : Reply → ℕ) (test : Option (Line Letter) → Bool) → ((file : List ℕ) (r : Reply) → FileCounts file r → count r ≡ countIf test (linesOf file))

@@ -1,31 +1,31 @@
 -- Where all that a rule adds is refuted, the branch is.
 use mathlib.Core.Path.{_≡_, refl, sym, _∙_, ap, subst, fun-ext}
 use mathlib.Core.Bool.{Bool, true, false, _&&_, _||_, not, cond, false≢true}
-use mathlib.Core.List.{List, [], _∷_}
+use mathlib.Core.List.{List, [], _∷_, map}
 use mathlib.Core.Option.{Option, none, some}
 use mathlib.Core.Logic.{_⊎_, inl, inr}
-use Prim.Native.Nat.{ℕ, zero, suc, _+_}
+use Prim.Native.Nat.{ℕ, zero, suc, _+_, _<_}
 use native.Mathlib.Nat.{add-zero}
 use native.Mathlib.Omega.{arith}
 use lib.Dec.{eqb}
-use lib.ListN.{getElem?}
-use borrow.Author.Tests.{eqb-true, not-true}
+use lib.ListN.{getElem?, length}
+use borrow.Author.Tests.{eqb-true, leb-true, not-true}
 use Rattle.tableau.specs.declared.Sort.{Sort}
 use Rattle.tableau.specs.declared.Operator.{Operator}
 use Rattle.tableau.specs.declared.Relation.{Relation}
 use Rattle.tableau.specs.declared.Rule.{Rule}
 use Rattle.tableau.specs.Basics.{Four, four}
-use Rattle.tableau.specs.Fields.{Use, Argument, unused, of, arguments, ifArgument, ruleUses}
-use Rattle.tableau.specs.Terms.{TermNo, Table, Term, variable, apply, Literal, literal, at, numberFrom, numberOf, sameTerm, sameSort, sameOperator, sameRelation, mentions, mentionedIn, mentioned}
-use Rattle.tableau.specs.Meaning.{FiniteHeap, Ref, Value, reference, operation, Values, value, Holds, True, AllTrue}
-use Rattle.tableau.specs.Rules.{Pattern, letter, operator, –, LiteralPattern, pattern, Need, Row, Kind, rows, congruence, replacement, rule, letterT, letterW}
-use Rattle.tableau.specs.Steps.{Letters, met, made, madeLiterals, madeAlternatives, isRfv, isFresh, Conclusion, addsOne, agree, takesTerms, congruent, concludeSub, concludeRep, given, orElse, concludeRows, conclude}
-use Rattle.tableau.specs.Tree.{literalAt}
+use Rattle.tableau.specs.Fields.{Use, Argument, unused, clause, of, arguments, ifArgument, ruleUses}
+use Rattle.tableau.specs.Terms.{TermNo, Table, Term, variable, apply, Literal, literal, at, numberFrom, numberOf, sameTerm, sameSort, sameOperator, sameRelation, mentions, mentionedIn, mentioned, Clauses, disjuncts, clauseOf}
+use Rattle.tableau.specs.Meaning.{FiniteHeap, Ref, Value, reference, operation, Values, value, Holds, True, AllTrue, AnyTrue, EveryClauseTrue}
+use Rattle.tableau.specs.Rules.{Pattern, letter, operator, –, LiteralPattern, pattern, Need, Row, Kind, rows, congruence, replacement, disjunction, rule, letterT, letterW}
+use Rattle.tableau.specs.Steps.{Letters, met, made, madeLiterals, madeAlternatives, isRfv, isFresh, Conclusion, addsOne, splitsInto, agree, takesTerms, congruent, concludeSub, concludeRep, given, orElse, concludeRows, conclude}
+use Rattle.tableau.specs.Tree.{literalAt, isThere}
 use Rattle.tableau.proofs.Bools.{every-true, both-true, both-false, one-true, dec, none≢some, some-inj, then-inv, guard-inv}
 use Rattle.tableau.proofs.WellFormed.{WellFormed}
 use Rattle.tableau.proofs.RowMeaning.{⟦_⟧, Asked, CannotHold, SomeHolds, RowSound, RowsSound, KindSound}
 use Rattle.tableau.proofs.Match.{same-operator, same-relation, same-sort, value-apply, Under, Extends, IfAny, met-extends, met-value}
-use Rattle.tableau.proofs.Fresh.{withRfv, WithoutAny, Clean, met-clean, same-value, same-branch, w-value}
+use Rattle.tableau.proofs.Fresh.{withRfv, WithoutAny, Clean, met-clean, same-value, same-branch, same-clauses, w-value}
 use Rattle.tableau.proofs.RuleSound.{rules-sound}
 
 -- terms that pass the test are equal
@@ -58,13 +58,13 @@ number-at i (x ∷ xs) e j h = go (number-at (suc i) xs e j) (sameTerm e x) refl
 found-at : (table : Table) (e : Term) (j : TermNo) → numberOf table e ≡ some j → at table j ≡ e
 found-at table e j h = let r = number-at 1 table e j h in ap (at table) (r .1 ∙ one-more (r .0)) ∙ r .2
 
-module _ (table : Table) (H : FiniteHeap) where
-  -- each alternative, with the branch, is refuted
+module _ (table : Table) (C : Clauses) (H : FiniteHeap) where
+  -- each alternative, with the clauses and the branch, is refuted
   abbrev pub Refuted : List Literal → List (List Literal) → Type 0
   Refuted B [] = Unit {0}
-  Refuted B (k ∷ ks) = ((ρ : Values H) → AllTrue ρ (at table) B → AllTrue ρ (at table) k → ⊥) × Refuted B ks
+  Refuted B (k ∷ ks) = ((ρ : Values H) → EveryClauseTrue ρ (at table) C → AllTrue ρ (at table) B → AllTrue ρ (at table) k → ⊥) × Refuted B ks
 
-module _ (table : Table) (wf : WellFormed (at table)) (H : FiniteHeap) where
+module _ (table : Table) (C : Clauses) (wf : WellFormed (at table)) (H : FiniteHeap) where
   module _ (ρ : Values H) where
     -- the value of the term that a letter stands for
     abbrev letterValue : Option TermNo → Value H
@@ -113,19 +113,19 @@ module _ (table : Table) (wf : WellFormed (at table)) (H : FiniteHeap) where
           t,
         )))
 
-  refuted-alternatives : (ρ : Values H) (B : List Literal) → AllTrue ρ (at table) B → (ls : List (List LiteralPattern)) (σ : Letters) (ks : List (List Literal))
-      → madeAlternatives table ls σ ≡ some ks → Refuted table H B ks → SomeHolds H false (φ ρ σ) ls → ⊥
+  refuted-alternatives : (ρ : Values H) (B : List Literal) → EveryClauseTrue ρ (at table) C → AllTrue ρ (at table) B → (ls : List (List LiteralPattern)) (σ : Letters) (ks : List (List Literal))
+      → madeAlternatives table ls σ ≡ some ks → Refuted table C H B ks → SomeHolds H false (φ ρ σ) ls → ⊥
   unfolding madeAlternatives
-  refuted-alternatives ρ B t [] σ ks e r s = s
-  refuted-alternatives ρ B t (l ∷ ls) σ ks e r s =
+  refuted-alternatives ρ B u t [] σ ks e r s = s
+  refuted-alternatives ρ B u t (l ∷ ls) σ ks e r s =
       let a = then-inv (madeLiterals table l σ) _ e in
       let b = then-inv (madeAlternatives table ls σ) _ (a .2) in
-      let r′ : Refuted table H B (a .0 ∷ b .0) = subst (Refuted table H B) (sym (some-inj (b .2))) r in
-      refuted-alternatives ρ B t ls σ (b .0) (b .1) (r′ .1) (s (literals-made ρ l σ (a .0) (a .1) (r′ .0 ρ t)))
+      let r′ : Refuted table C H B (a .0 ∷ b .0) = subst (Refuted table C H B) (sym (some-inj (b .2))) r in
+      refuted-alternatives ρ B u t ls σ (b .0) (b .1) (r′ .1) (s (literals-made ρ l σ (a .0) (a .1) (r′ .0 ρ u t)))
 
   -- a fresh w: the refuted-alternatives are refuted at each value that it may take
-  module _ (B : List Literal) (w : TermNo) (n : ℕ) (is-w : at table w ≡ variable Sort.Reference n) (new : mentioned (at table) w B ≡ false)
-      (ρ : Values H) (t : AllTrue ρ (at table) B) (σ : Letters) (σw : σ letterW ≡ some w) (clean : Clean (at table) wf w n is-w σ) where
+  module _ (B : List Literal) (w : TermNo) (n : ℕ) (is-w : at table w ≡ variable Sort.Reference n) (absent : mentioned (at table) w (disjuncts C) ≡ false)
+      (new : mentioned (at table) w B ≡ false) (ρ : Values H) (u : EveryClauseTrue ρ (at table) C) (t : AllTrue ρ (at table) B) (σ : Letters) (σw : σ letterW ≡ some w) (clean : Clean (at table) wf w n is-w σ) where
     -- what the letters stand for, where w takes the value x
     moved : (x : Ref H) (z : ℕ) (o : Option TermNo) → σ z ≡ o → (eqb z letterW ≡ true) ⊎ (eqb z letterW ≡ false)
         → letterValue (withRfv ρ n x) o ≡ cond (eqb z letterW) (reference x) (letterValue ρ o)
@@ -136,30 +136,31 @@ module _ (table : Table) (wf : WellFormed (at table)) (H : FiniteHeap) where
         ∙ sym (ap (λ b. cond b (reference x) (value ρ (at table) m)) p)
 
     refuted-alternatives-fresh : (ls : List (List LiteralPattern)) (ks : List (List Literal)) → madeAlternatives table ls σ ≡ some ks
-        → Refuted table H B ks → SomeHolds H true (φ ρ σ) ls → ⊥
+        → Refuted table C H B ks → SomeHolds H true (φ ρ σ) ls → ⊥
     unfolding madeAlternatives
     refuted-alternatives-fresh [] ks e r s = s
     refuted-alternatives-fresh (l ∷ ls) ks e r s =
         let a = then-inv (madeLiterals table l σ) _ e in
         let b = then-inv (madeAlternatives table ls σ) _ (a .2) in
-        let r′ : Refuted table H B (a .0 ∷ b .0) = subst (Refuted table H B) (sym (some-inj (b .2))) r in
+        let r′ : Refuted table C H B (a .0 ∷ b .0) = subst (Refuted table C H B) (sym (some-inj (b .2))) r in
         refuted-alternatives-fresh ls (b .0) (b .1) (r′ .1)
         (s (λ x. subst (λ (f : ℕ → Value H). CannotHold H f l) (fun-ext (λ z. moved x z (σ z) refl (dec (eqb z letterW))))
-        (literals-made (withRfv ρ n x) l σ (a .0) (a .1) (r′ .0 (withRfv ρ n x) (same-branch (at table) wf w n is-w H ρ x B new t)))))
+        (literals-made (withRfv ρ n x) l σ (a .0) (a .1) (r′ .0 (withRfv ρ n x) (same-clauses (at table) wf w n is-w H ρ x C absent u) (same-branch (at table) wf w n is-w H ρ x B new t)))))
 
 is-rfv : (e : Term) → isRfv e ≡ true → (n : ℕ) × (e ≡ variable Sort.Reference n)
 is-rfv (variable s n) h = (n, ap (λ k. variable k n) (sym (same-sort Sort.Reference s h)))
 is-rfv (apply o k) h = absurd (false≢true h)
 
--- a fresh w is an `rfv` that the branch does not mention
-fresh-inv : (table : Table) (B : List Literal) (w : TermNo) → isFresh table B w ≡ true
-    → (n : ℕ) × (at table w ≡ variable Sort.Reference n) × (mentioned (at table) w B ≡ false)
+-- a fresh w is an `rfv` that neither the clauses nor the branch mention
+fresh-inv : (table : Table) (C : Clauses) (B : List Literal) (w : TermNo) → isFresh table C B w ≡ true
+    → (n : ℕ) × (at table w ≡ variable Sort.Reference n) × (mentioned (at table) w (disjuncts C) ≡ false) × (mentioned (at table) w B ≡ false)
 unfolding isFresh
-fresh-inv table B w h =
+fresh-inv table C B w h =
     let k = is-rfv (at table w) (both-true _ _ h .0) in
-    (k .0, k .1, not-true _ (both-true (isRfv (at table w)) _ h .1))
+    let m = both-false (mentioned (at table) w (disjuncts C)) _ (not-true _ (both-true (isRfv (at table w)) _ h .1)) in
+    (k .0, k .1, m .0, m .1)
 
-module _ (table : Table) (wf : WellFormed (at table)) (H : FiniteHeap) (ρ : Values H) where
+module _ (table : Table) (C : Clauses) (wf : WellFormed (at table)) (H : FiniteHeap) (ρ : Values H) where
   -- a literal on a true branch is true
   literal-true : (B : List Literal) (n : ℕ) → AllTrue ρ (at table) B → IfAny (at table) wf H ρ (getElem? B n)
   literal-true [] n t = tt
@@ -185,7 +186,7 @@ module _ (table : Table) (wf : WellFormed (at table)) (H : FiniteHeap) (ρ : Val
   place-without w n is-w B zero h = tt
   place-without w n is-w B (suc k) h = literal-without w n is-w B k h
 
-  module _ (B : List Literal) (t : AllTrue ρ (at table) B) (p q T w : ℕ) where
+  module _ (u : EveryClauseTrue ρ (at table) C) (B : List Literal) (t : AllTrue ρ (at table) B) (p q T w : ℕ) where
     abbrev P : Option Literal
     P = literalAt B p
 
@@ -199,28 +200,28 @@ module _ (table : Table) (wf : WellFormed (at table)) (H : FiniteHeap) (ρ : Val
     row-sound : (k : Four Use) (fresh : Bool) (ns : List Need) (ads : List (List LiteralPattern)) → RowSound H k (record { needs = ns; fresh = fresh; adds = ads })
         → Asked H (k .c) (value ρ (at table) T) → Asked H (k .d) (value ρ (at table) w)
         → (σ : Letters) → met (at table) ns P Q (given fresh T w) ≡ some σ
-        → not fresh || isFresh table B w ≡ true
-        → (ls : List (List Literal)) → madeAlternatives table ads σ ≡ some ls → Refuted table H B ls → ⊥
+        → not fresh || isFresh table C B w ≡ true
+        → (ls : List (List Literal)) → madeAlternatives table ads σ ≡ some ls → Refuted table C H B ls → ⊥
     row-sound k false ns ads s aT aw σ e f ls m r =
         let x : Extends (given false T w) σ = met-extends (at table) wf H ρ P Q ns (given false T w) σ e in
-        let u = under table wf H ρ σ in
-        refuted-alternatives table wf H ρ B t ads σ ls m r
-        (met-value (at table) wf H ρ P Q ns (given false T w) σ e (φ table wf H ρ σ) u (place-true B p t) (place-true B q t) _
-        (s (φ table wf H ρ σ) (subst (Asked H (k .c)) (sym (u letterT T (x letterT T refl))) aT) (subst (Asked H (k .d)) (sym (u letterW w (x letterW w refl))) aw)))
+        let z = under table C wf H ρ σ in
+        refuted-alternatives table C wf H ρ B u t ads σ ls m r
+        (met-value (at table) wf H ρ P Q ns (given false T w) σ e (φ table C wf H ρ σ) z (place-true B p t) (place-true B q t) _
+        (s (φ table C wf H ρ σ) (subst (Asked H (k .c)) (sym (z letterT T (x letterT T refl))) aT) (subst (Asked H (k .d)) (sym (z letterW w (x letterW w refl))) aw)))
     row-sound k true ns ads s aT aw σ e f ls m r =
         let x : Extends (given true T w) σ = met-extends (at table) wf H ρ P Q ns (given true T w) σ e in
-        let u = under table wf H ρ σ in
-        let v = fresh-inv table B w f in
-        let c = met-clean (at table) wf w (v .0) (v .1) P Q (place-without w (v .0) (v .1) B p (v .2)) (place-without w (v .0) (v .1) B q (v .2))
+        let z = under table C wf H ρ σ in
+        let v = fresh-inv table C B w f in
+        let c = met-clean (at table) wf w (v .0) (v .1) P Q (place-without w (v .0) (v .1) B p (v .3)) (place-without w (v .0) (v .1) B q (v .3))
         ns (given true T w) σ e (given-clean (v .0) (v .1)) in
-        refuted-alternatives-fresh table wf H B w (v .0) (v .1) (v .2) ρ t σ (x letterW w refl) c ads ls m r
-        (met-value (at table) wf H ρ P Q ns (given true T w) σ e (φ table wf H ρ σ) u (place-true B p t) (place-true B q t) _
-        (s (φ table wf H ρ σ) tt (subst (Asked H (k .d)) (sym (u letterW w (x letterW w refl))) aw)))
+        refuted-alternatives-fresh table C wf H B w (v .0) (v .1) (v .2) (v .3) ρ u t σ (x letterW w refl) c ads ls m r
+        (met-value (at table) wf H ρ P Q ns (given true T w) σ e (φ table C wf H ρ σ) z (place-true B p t) (place-true B q t) _
+        (s (φ table C wf H ρ σ) tt (subst (Asked H (k .d)) (sym (z letterW w (x letterW w refl))) aw)))
 
     -- what a rule concludes: where its refuted-alternatives are refuted, the branch is not true
     abbrev Sound : Option Conclusion → Type 0
-    Sound m = (c : Conclusion) → m ≡ some c → not (c .fresh) || isFresh table B w ≡ true
-        → (ls : List (List Literal)) → c .adds ≡ some ls → Refuted table H B ls → ⊥
+    Sound m = (c : Conclusion) → m ≡ some c → not (c .fresh) || isFresh table C B w ≡ true
+        → (ls : List (List Literal)) → c .adds ≡ some ls → Refuted table C H B ls → ⊥
 
     rows-sound : (k : Four Use) → Asked H (k .c) (value ρ (at table) T) → Asked H (k .d) (value ρ (at table) w) → (Rs : List Row) → RowsSound H k Rs
         → Sound (concludeRows table P Q T w Rs)
@@ -229,22 +230,22 @@ module _ (table : Table) (wf : WellFormed (at table)) (H : FiniteHeap) (ρ : Val
     rows-sound k aT aw (R ∷ Rs) s c e f ls m r =
         go (rows-sound k aT aw Rs (s .1) c) (met (at table) (R .needs) P Q (given (R .fresh) T w)) refl e
       where
-        go : (concludeRows table P Q T w Rs ≡ some c → not (c .fresh) || isFresh table B w ≡ true
-            → (ls : List (List Literal)) → c .adds ≡ some ls → Refuted table H B ls → ⊥)
+        go : (concludeRows table P Q T w Rs ≡ some c → not (c .fresh) || isFresh table C B w ≡ true
+            → (ls : List (List Literal)) → c .adds ≡ some ls → Refuted table C H B ls → ⊥)
             → (o : Option Letters) → met (at table) (R .needs) P Q (given (R .fresh) T w) ≡ o
             → orElse table P Q T w o R (concludeRows table P Q T w Rs) ≡ some c → ⊥
         go ih none h e = ih e f ls m r
         go ih (some σ) h e =
             let c′ = some-inj e in
             row-sound k (R .fresh) (R .needs) (R .adds) (s .0) aT aw σ h
-            (ap (λ (d : Conclusion). not (d .fresh) || isFresh table B w) c′ ∙ f) ls (ap (λ (d : Conclusion). d .adds) c′ ∙ m) r
+            (ap (λ (d : Conclusion). not (d .fresh) || isFresh table C B w) c′ ∙ f) ls (ap (λ (d : Conclusion). d .adds) c′ ∙ m) r
 
     -- one literal, true
     one-sound : (l : Literal) → True ρ (at table) l → Sound (some (addsOne l))
     one-sound l h c e f ls m r =
         let q : (l ∷ []) ∷ [] ≡ ls = some-inj (ap (λ (d : Conclusion). d .adds) (some-inj e) ∙ m) in
-        let r′ : Refuted table H B ((l ∷ []) ∷ []) = subst (Refuted table H B) (sym q) r in
-        r′ .0 ρ t (h, tt)
+        let r′ : Refuted table C H B ((l ∷ []) ∷ []) = subst (Refuted table C H B) (sym q) r in
+        r′ .0 ρ u t (h, tt)
 
     abbrev val : TermNo → Value H
     val = value ρ (at table)
@@ -300,19 +301,32 @@ module _ (table : Table) (wf : WellFormed (at table)) (H : FiniteHeap) (ρ : Val
         (λ c e. none≢some e))
         c (g .1)
 
-    kind-sound : (k : Four Use) (K : Kind) → KindSound H k K → Asked H (k .c) (value ρ (at table) T) → Asked H (k .d) (value ρ (at table) w)
-        → Sound (conclude table P Q T w K)
+    -- `cla`: where one of the clause's literals is true, not all are refuted
+    any-refuted : (D : List Literal) → AnyTrue ρ (at table) D → Refuted table C H B (map (λ l. l ∷ []) D) → ⊥
+    any-refuted [] a r = a
+    any-refuted (l ∷ D) (inl h) r = r .0 ρ u t (h, tt)
+    any-refuted (l ∷ D) (inr h) r = any-refuted D h (r .1)
+
+    cla-sound : 0 < length (clauseOf C T) → Sound (some (splitsInto (clauseOf C T)))
+    cla-sound n c e f ls m r =
+        let q : map (λ l. l ∷ []) (clauseOf C T) ≡ ls = some-inj (ap (λ (d : Conclusion). d .adds) (some-inj e) ∙ m) in
+        any-refuted (clauseOf C T) (u T n) (subst (Refuted table C H B) (sym q) r)
+
+    kind-sound : (k : Four Use) (K : Kind) → KindSound H k K → isThere C B (k .c) T ≡ true → Asked H (k .c) (value ρ (at table) T) → Asked H (k .d) (value ρ (at table) w)
+        → Sound (conclude table P Q T w (clauseOf C T) K)
     unfolding conclude
-    kind-sound k (rows Rs) s aT aw c e f ls m r = rows-sound k aT aw Rs s c e f ls m r
-    kind-sound k congruence s aT aw c e f ls m r =
+    kind-sound k (rows Rs) s i aT aw c e f ls m r = rows-sound k aT aw Rs s c e f ls m r
+    kind-sound k congruence s i aT aw c e f ls m r =
         let L = then-inv P _ e in
         sub-sound (L .0) (subst (IfAny (at table) wf H ρ) (L .1) (place-true B p t)) c (L .2) f ls m r
-    kind-sound k replacement s aT aw c e f ls m r =
+    kind-sound k replacement s i aT aw c e f ls m r =
         let L = then-inv P _ e in
         let M = then-inv Q _ (L .2) in
         rep-sound (L .0) (M .0) (subst (IfAny (at table) wf H ρ) (L .1) (place-true B p t)) (subst (IfAny (at table) wf H ρ) (M .1) (place-true B q t)) c (M .2) f ls m r
+    kind-sound k disjunction s i aT aw c e f ls m r =
+        cla-sound (leb-true 1 (length (clauseOf C T)) (ap (λ (x : Use). isThere C B x T) (sym s) ∙ i)) c e f ls m r
 
     -- A RULE IS SOUND
-    pub rule-sound : (x : Rule) → Asked H (ruleUses x .c) (value ρ (at table) T) → Asked H (ruleUses x .d) (value ρ (at table) w)
-        → Sound (conclude table P Q T w (rule x))
+    pub rule-sound : (x : Rule) → isThere C B (ruleUses x .c) T ≡ true → Asked H (ruleUses x .c) (value ρ (at table) T) → Asked H (ruleUses x .d) (value ρ (at table) w)
+        → Sound (conclude table P Q T w (clauseOf C T) (rule x))
     rule-sound x = kind-sound (ruleUses x) (rule x) (rules-sound H x)

@@ -10,12 +10,12 @@ use lib.ListN.{length, take, length-append, length-take}
 use lib.Seq.{take-append-le, take-take, take-append-seam}
 use Rattle.tableau.specs.declared.Rule.{Rule}
 use Rattle.tableau.specs.Basics.{Four, every}
-use Rattle.tableau.specs.Fields.{Use, unused, place, name, side, term, of, ruleUses}
-use Rattle.tableau.specs.Terms.{TermNo, Table, Term, Literal, at, sortOf, result}
-use Rattle.tableau.specs.Meaning.{FiniteHeap, Values, value, AllTrue}
+use Rattle.tableau.specs.Fields.{Use, unused, place, name, side, clause, term, of, ruleUses}
+use Rattle.tableau.specs.Terms.{TermNo, Table, Term, Literal, Clauses, clauseOf, at, sortOf, result}
+use Rattle.tableau.specs.Meaning.{FiniteHeap, Values, value, AllTrue, EveryClauseTrue}
 use Rattle.tableau.specs.Rules.{rule}
 use Rattle.tableau.specs.Steps.{conclude, isFresh}
-use Rattle.tableau.specs.Tree.{passed, Waiting, Tree, Status, isOpen, isClosed, literalAt, onBranch, roomOnBranch, roomToWait, close, grow, answer, alternatives, grown}
+use Rattle.tableau.specs.Tree.{passed, Waiting, Tree, Status, isOpen, isClosed, literalAt, isThere, roomOnBranch, roomToWait, close, grow, answer, alternatives, grown}
 use Rattle.tableau.specs.Reply.{ofSort}
 use Rattle.tableau.proofs.Bools.{every-true}
 use Rattle.tableau.proofs.Checks.{require-passed, requireSome-passed, requireSome-is, passed-injective}
@@ -35,10 +35,10 @@ abbrev pub Falling : ℕ → List Waiting → Type 0
 Falling n [] = Unit {0}
 Falling n (x ∷ ws) = (x .length ≤ n) × Falling (x .length) ws
 
-module _ (table : Table) (H : FiniteHeap) where
-  -- no values make the literals true
+module _ (table : Table) (C : Clauses) (H : FiniteHeap) where
+  -- no values make the literals true, and one of every clause
   abbrev pub Refutes : List Literal → Type 0
-  Refutes B = (ρ : Values H) → AllTrue ρ (at table) B → ⊥
+  Refutes B = (ρ : Values H) → EveryClauseTrue ρ (at table) C → AllTrue ρ (at table) B → ⊥
 
   abbrev pub AllRefuted : List Literal → List Waiting → Type 0
   AllRefuted B [] = Unit {0}
@@ -49,16 +49,16 @@ module _ (table : Table) (H : FiniteHeap) where
   StatusRefuted (isOpen τ) = Falling (length (τ .branch)) (τ .waiting) → Refutes (τ .branch) × AllRefuted (τ .branch) (τ .waiting)
   StatusRefuted isClosed = Unit {0}
 
-module _ (table : Table) (wf : WellFormed (at table)) (H : FiniteHeap) where
+module _ (table : Table) (C : Clauses) (wf : WellFormed (at table)) (H : FiniteHeap) where
   lower : (m n : ℕ) (ws : List Waiting) → m ≤ n → Falling m ws → Falling n ws
   lower m n [] h f = tt
   lower m n (x ∷ ws) h f = (le-trans (f .0) h, f .1)
 
   -- a branch that agrees up to n serves the same alternatives
-  agrees : (B B′ : List Literal) (n : ℕ) → ((m : ℕ) → m ≤ n → take m B′ ≡ take m B) → (ws : List Waiting) → Falling n ws → AllRefuted table H B′ ws → AllRefuted table H B ws
+  agrees : (B B′ : List Literal) (n : ℕ) → ((m : ℕ) → m ≤ n → take m B′ ≡ take m B) → (ws : List Waiting) → Falling n ws → AllRefuted table C H B′ ws → AllRefuted table C H B ws
   agrees B B′ n e [] f w = tt
   agrees B B′ n e (x ∷ ws) f w = (
-    subst (λ (k : List Literal). Refutes table H (k ++ x .alternative)) (e (x .length) (f .0)) (w .0),
+    subst (λ (k : List Literal). Refutes table C H (k ++ x .alternative)) (e (x .length) (f .0)) (w .0),
     agrees B B′ (x .length) (λ m h. e m (le-trans h (f .0))) ws (f .1) (w .1),
   )
 
@@ -69,15 +69,15 @@ module _ (table : Table) (wf : WellFormed (at table)) (H : FiniteHeap) where
   wait-falling n k [] ws h f = lower n k ws h f
   wait-falling n k (x ∷ ks) ws h f = (h, wait-falling n n ks ws (le-refl n) f)
 
-  wait-refuted : (B k : List Literal) (ks : List (List Literal)) (ws : List Waiting) → AllRefuted table H (B ++ k) (map (wait (length B)) ks ++ ws)
-      → Refuted table H B ks × AllRefuted table H (B ++ k) ws
+  wait-refuted : (B k : List Literal) (ks : List (List Literal)) (ws : List Waiting) → AllRefuted table C H (B ++ k) (map (wait (length B)) ks ++ ws)
+      → Refuted table C H B ks × AllRefuted table C H (B ++ k) ws
   wait-refuted B k [] ws d = (tt, d)
   wait-refuted B k (x ∷ ks) ws d =
       let r = wait-refuted B k ks ws (d .1) in
-      (((λ ρ t s. d .0 ρ (subst (λ (z : List Literal). AllTrue ρ (at table) (z ++ x)) (sym (take-append-seam B k)) (all-append ρ (at table) B x .1 (t, s)))), r .0), r .1)
+      (((λ ρ u t s. d .0 ρ u (subst (λ (z : List Literal). AllTrue ρ (at table) (z ++ x)) (sym (take-append-seam B k)) (all-append ρ (at table) B x .1 (t, s)))), r .0), r .1)
 
   -- a closing
-  close-refuted : (B : List Literal) (ws : List Waiting) → Falling (length B) ws → StatusRefuted table H (close B ws) → AllRefuted table H B ws
+  close-refuted : (B : List Literal) (ws : List Waiting) → Falling (length B) ws → StatusRefuted table C H (close B ws) → AllRefuted table C H B ws
   unfolding close
   close-refuted B [] f k = tt
   close-refuted B (x ∷ ws) f k =
@@ -94,8 +94,8 @@ module _ (table : Table) (wf : WellFormed (at table)) (H : FiniteHeap) where
           take-append-le m (take n B) k l ∙ take-take m n B h
 
   -- a split or a closing: s says that a true branch has a true alternative
-  grow-refuted : (τ : Tree) (ks : List (List Literal)) → (Refuted table H (τ .branch) ks → Refutes table H (τ .branch)) → StatusRefuted table H (grow τ ks)
-      → StatusRefuted table H (isOpen τ)
+  grow-refuted : (τ : Tree) (ks : List (List Literal)) → (Refuted table C H (τ .branch) ks → Refutes table C H (τ .branch)) → StatusRefuted table C H (grow τ ks)
+      → StatusRefuted table C H (isOpen τ)
   unfolding grow
   grow-refuted τ [] s e f = (s tt, close-refuted (τ .branch) (τ .waiting) f e)
   grow-refuted τ (k ∷ ks) s e f =
@@ -103,7 +103,7 @@ module _ (table : Table) (wf : WellFormed (at table)) (H : FiniteHeap) where
       let long : length B ≤ length (B ++ k) = simp length-append (omega arith) in
       let d = e (wait-falling (length B) _ ks (τ .waiting) long f) in
       let r = wait-refuted B k ks (τ .waiting) (d .1) in
-      (s ((λ ρ t u. d .0 ρ (all-append ρ (at table) B k .1 (t, u))), r .0), agrees B (B ++ k) (length B) (λ m h. take-append-le m B k h) (τ .waiting) f (r .1))
+      (s ((λ ρ v t u. d .0 ρ v (all-append ρ (at table) B k .1 (t, u))), r .0), agrees B (B ++ k) (length B) (λ m h. take-append-le m B k h) (τ .waiting) f (r .1))
 
   -- a term that passed check 9 has a value of the sort asked
   asked : (fld : Use) (n : TermNo) → ofSort table fld n ≡ true → (ρ : Values H) → Asked H fld (value ρ (at table) n)
@@ -112,23 +112,25 @@ module _ (table : Table) (wf : WellFormed (at table)) (H : FiniteHeap) where
   asked place n h ρ = tt
   asked name n h ρ = tt
   asked side n h ρ = tt
+  asked clause n h ρ = tt
   asked term n h ρ = tt
   asked (of s) n h ρ = kind-value (at table) wf H ρ n ∙ sym (same-sort s (sortOf (at table n)) h)
 
   -- A STEP
   pub step-refuted : (τ : Tree) (x : Rule) (n : Four ℕ) (ks : List (List Literal)) (s : Status) → every (ofSort table) (ruleUses x) n ≡ true
-      → alternatives table (τ .branch) x n ≡ passed ks → grown τ ks ≡ passed s → StatusRefuted table H s → StatusRefuted table H (isOpen τ)
+      → alternatives table C (τ .branch) x n ≡ passed ks → grown τ ks ≡ passed s → StatusRefuted table C H s → StatusRefuted table C H (isOpen τ)
   unfolding answer alternatives grown
   step-refuted τ x n ks s sorts e g d =
       let B = τ .branch in
       let a = every-true (ofSort table) (ruleUses x) n sorts in
-      let e₁₁ = require-passed (every (onBranch B) (ruleUses x) n) _ _ e in
-      let e₁₂ = requireSome-passed (conclude table (literalAt B (n .a)) (literalAt B (n .b)) (n .c) (n .d) (rule x)) _ _ (e₁₁ .1) in
-      let e₁₃ = require-passed (not (e₁₂ .0 .fresh) || isFresh table B (n .d)) _ _ (e₁₂ .2) in
+      let e₁₁ = require-passed (every (isThere C B) (ruleUses x) n) _ _ e in
+      let there = every-true (isThere C B) (ruleUses x) n (e₁₁ .0) in
+      let e₁₂ = requireSome-passed (conclude table (literalAt B (n .a)) (literalAt B (n .b)) (n .c) (n .d) (clauseOf C (n .c)) (rule x)) _ _ (e₁₁ .1) in
+      let e₁₃ = require-passed (not (e₁₂ .0 .fresh) || isFresh table C B (n .d)) _ _ (e₁₂ .2) in
       let e₁₄ = requireSome-is (e₁₂ .0 .adds) _ (e₁₃ .1) in
       let e₁₅ = require-passed (roomOnBranch (length B) ks) _ _ g in
       let e₁₆ = require-passed (roomToWait (length (τ .waiting)) ks) _ _ (e₁₅ .1) in
       grow-refuted τ ks
-      (λ r ρ t. rule-sound table wf H ρ B t (n .a) (n .b) (n .c) (n .d) x (asked (ruleUses x .c) (n .c) (a .2) ρ) (asked (ruleUses x .d) (n .d) (a .3) ρ)
+      (λ r ρ u t. rule-sound table C wf H ρ u B t (n .a) (n .b) (n .c) (n .d) x (there .2) (asked (ruleUses x .c) (n .c) (a .2) ρ) (asked (ruleUses x .d) (n .d) (a .3) ρ)
       (e₁₂ .0) (e₁₂ .1) (e₁₃ .0) ks e₁₄ r)
-      (subst (StatusRefuted table H) (sym (passed-injective (e₁₆ .1))) d)
+      (subst (StatusRefuted table C H) (sym (passed-injective (e₁₆ .1))) d)

@@ -1,16 +1,17 @@
--- What is claimed of a checker: a file's assumed literals, the demands, the counts.
+-- What is claimed of a checker: a file's assumed literals and clauses, the demands, the counts.
 use mathlib.Core.Path.{_≡_}
-use mathlib.Core.Bool.{Bool, true, false, _&&_, _||_}
+use mathlib.Core.Bool.{Bool, true, false, _&&_, _||_, cond}
 use mathlib.Core.List.{List, [], _∷_, _++_}
 use mathlib.Core.Option.{Option, none, some}
-use Prim.Native.Nat.{ℕ, suc}
+use Prim.Native.Nat.{ℕ, suc, _+_}
+use lib.Dec.{eqb}
 use lib.ListN.{take}
 use Rattle.tableau.specs.declared.Letter.{Letter}
 use Rattle.tableau.specs.Basics.{Four, bytes, sameBytes}
 use Rattle.tableau.specs.File.{Line, sameLetter, shape, letters, split, LF}
-use Rattle.tableau.specs.Words.{Command, make, assume, infer, commandOf}
-use Rattle.tableau.specs.Terms.{Table, Literal, literal, at, written}
-use Rattle.tableau.specs.Meaning.{FiniteHeap, Values, AllTrue}
+use Rattle.tableau.specs.Words.{Command, make, assume, disjoin, infer, commandOf}
+use Rattle.tableau.specs.Terms.{ClauseNo, Table, Literal, literal, Clauses, at, written}
+use Rattle.tableau.specs.Meaning.{FiniteHeap, Values, AllTrue, EveryClauseTrue}
 use Rattle.tableau.specs.Reply.{Reply, reply}
 
 -- THE LINES of a file: what each LF ends.
@@ -22,18 +23,27 @@ allButLast (l ∷ m ∷ ls) = l ∷ allButLast (m ∷ ls)
 abbrev pub linesOf : List ℕ → List (List ℕ)
 linesOf file = allButLast (split LF file)
 
--- THE ASSUMED LITERALS: "those on its A lines", over the terms of its T lines, as they stand, with no check.
+-- WHAT A FILE ASSUMES: the literals "on its A lines" and the clauses of its C lines, over the terms of its T lines, as they stand, with no check.
 abbrev pub commandTerm : Option Command → Four ℕ → Table
 commandTerm none n = []
 commandTerm (some (make w)) n = written w n ∷ []
 commandTerm (some (assume R)) n = []
+commandTerm (some (disjoin R)) n = []
 commandTerm (some (infer x)) n = []
 
 abbrev pub commandLiteral : Option Command → Four ℕ → List Literal
 commandLiteral none n = []
 commandLiteral (some (make w)) n = []
 commandLiteral (some (assume R)) n = literal R (n .a) (n .b) ∷ []
+commandLiteral (some (disjoin R)) n = []
 commandLiteral (some (infer x)) n = []
+
+abbrev pub commandDisjunct : Option Command → Four ℕ → Clauses
+commandDisjunct none n = []
+commandDisjunct (some (make w)) n = []
+commandDisjunct (some (assume R)) n = []
+commandDisjunct (some (disjoin R)) n = record { clause = n .c; is = literal R (n .a) (n .b) } ∷ []
+commandDisjunct (some (infer x)) n = []
 
 abbrev pub lineTerm : Option (Line Letter) → Table
 lineTerm none = []
@@ -43,6 +53,10 @@ abbrev pub lineLiteral : Option (Line Letter) → List Literal
 lineLiteral none = []
 lineLiteral (some l) = commandLiteral (commandOf (l .letter) (l .word)) (l .fields)
 
+abbrev pub lineDisjunct : Option (Line Letter) → Clauses
+lineDisjunct none = []
+lineDisjunct (some l) = commandDisjunct (commandOf (l .letter) (l .word)) (l .fields)
+
 unfoldable pub termsIn : List (List ℕ) → Table
 termsIn [] = []
 termsIn (l ∷ ls) = lineTerm (shape letters l) ++ termsIn ls
@@ -51,21 +65,30 @@ unfoldable pub literalsIn : List (List ℕ) → List Literal
 literalsIn [] = []
 literalsIn (l ∷ ls) = lineLiteral (shape letters l) ++ literalsIn ls
 
+unfoldable pub clausesIn : List (List ℕ) → Clauses
+clausesIn [] = []
+clausesIn (l ∷ ls) = lineDisjunct (shape letters l) ++ clausesIn ls
+
 abbrev pub termsOf : List ℕ → Table
 termsOf file = termsIn (linesOf file)
 
 abbrev pub assumedOf : List ℕ → List Literal
 assumedOf file = literalsIn (linesOf file)
 
--- "no finite heap and no values of the variables make all assumed literals true", and "speaks of empty heaps too"
+abbrev pub clausesOf : List ℕ → Clauses
+clausesOf file = clausesIn (linesOf file)
+
+-- "no finite heap and no values of the variables make all assumed literals true", and "speaks of empty heaps too" and "of all A lines and at least one literal of
+-- every clause"
 unfoldable pub NoHeap : List ℕ → Type 0
-NoHeap file = (H : FiniteHeap) (ρ : Values H) → AllTrue ρ (at (termsOf file)) (assumedOf file) → ⊥
+NoHeap file = (H : FiniteHeap) (ρ : Values H) → AllTrue ρ (at (termsOf file)) (assumedOf file) → EveryClauseTrue ρ (at (termsOf file)) (clausesOf file) → ⊥
 
 -- a finite heap and values that do
 pub record Model (file : List ℕ) : Type 0 where
   pub finiteHeap : FiniteHeap
   pub values : Values finiteHeap
   pub allTrue : AllTrue values (at (termsOf file)) (assumedOf file)
+  pub everyClauseTrue : EveryClauseTrue values (at (termsOf file)) (clausesOf file)
 
 -- A CHECKER, right or wrong: any function from bytes to a reply.
 abbrev pub Checker : Type 0
@@ -80,7 +103,7 @@ Demand2 checker = (file : List ℕ) → checker file ≡ reply file
 unfoldable pub Demand3 : Checker → Type 0
 Demand3 checker = (file : List ℕ) → checker file .isYes ≡ true → NoHeap file
 
--- THE FILE'S OWN COUNTS: lines by their first field, and `cls` and `emp` lines by their second.
+-- THE FILE'S OWN COUNTS: lines by their first field, `cls` and `emp` lines by their second, clauses by the numbers on C lines.
 abbrev pub hasLetter : Letter → Option (Line Letter) → Bool
 hasLetter k none = false
 hasLetter k (some l) = sameLetter k (l .letter)
@@ -93,12 +116,17 @@ unfoldable pub countIf : (Option (Line Letter) → Bool) → List (List ℕ) →
 countIf f [] = 0
 countIf f (l ∷ ls) = elim (f (shape letters l)) [ true ↦ suc (countIf f ls) | false ↦ countIf f ls ]
 
+-- "Lines of a clause stand together": a C line whose number isn't that of the C line before begins a clause
+unfoldable pub countClauses : ClauseNo → Clauses → ℕ
+countClauses last [] = 0
+countClauses last (d ∷ C) = cond (eqb (d .clause) last) (countClauses (d .clause) C) (suc (countClauses (d .clause) C))
+
 -- "After a yes the number and line are 0", and the counts are the file's
 pub record FileCounts (file : List ℕ) (r : Reply) : Type 0 where
   pub number : r .number ≡ 0
   pub line : r .line ≡ 0
   pub terms : r .terms ≡ countIf (hasLetter Letter.T) (linesOf file)
-  pub assumptions : r .assumptions ≡ countIf (hasLetter Letter.A) (linesOf file)
+  pub assumptions : r .assumptions ≡ countIf (hasLetter Letter.A) (linesOf file) + countClauses 0 (clausesOf file)
   pub steps : r .steps ≡ countIf (hasLetter Letter.S) (linesOf file)
   pub closings : r .closings ≡ countIf closesBranch (linesOf file)
 

@@ -1,4 +1,4 @@
--- What fields 3 to 6 of a line hold, by its word.
+-- What fields 3 to 6 of a line hold, by its letter and word.
 use mathlib.Core.Bool.{Bool, true, false, cond}
 use Rattle.tableau.specs.declared.Sort.{Sort}
 use Rattle.tableau.specs.declared.Operator.{Operator}
@@ -7,9 +7,9 @@ use Rattle.tableau.specs.declared.Relation.{Relation}
 use Rattle.tableau.specs.declared.Rule.{Rule}
 use Rattle.tableau.specs.Basics.{Four, four, mapFour}
 
--- What a field of a line holds: nothing, a place, a name, a side (of `rep`), a term of any sort, a term of one sort.
+-- What a field of a line holds: nothing, a place, a name, a side (of `rep`), the number of a clause, a term of any sort, a term of one sort.
 pub data Use : Type 0 where
-  unused place name side term : Use
+  unused place name side clause term : Use
   of : Sort → Use
 
 -- does the field hold a term?
@@ -18,6 +18,7 @@ holdsTerm unused = false
 holdsTerm place = false
 holdsTerm name = false
 holdsTerm side = false
+holdsTerm clause = false
 holdsTerm term = true
 holdsTerm (of s) = true
 
@@ -65,12 +66,16 @@ sides Relation.Ne = four term term unused unused
 sides Relation.Le = four (of Sort.Class) (of Sort.Class) unused unused
 sides Relation.Nl = four (of Sort.Class) (of Sort.Class) unused unused
 
--- THE FIELDS OF A RULE: "places p and q, terms t and w". `cut` and `ler` ask for sorts here; the t of `rep` is a side.
+-- A C LINE has the two sides, and its "clause number".
+abbrev pub clauseFields : Relation → Four Use
+clauseFields R = four (sides R .a) (sides R .b) clause unused
+
+-- THE FIELDS OF A RULE: "places p and q, terms t and w". `cut` and `ler` ask for sorts here; the t of `rep` is a side; "`cla` names a clause number in t".
 pub data PlaceField : Type 0 where
   unused place : PlaceField
 
 pub data ThirdField : Type 0 where
-  unused side term : ThirdField
+  unused side clause term : ThirdField
   of : Sort → ThirdField
 
 pub data TermField : Type 0 where
@@ -86,7 +91,7 @@ pub record RuleFields : Type 0 where
 abbrev pub fields : PlaceField → PlaceField → ThirdField → TermField → RuleFields
 fields p′ q′ t′ w′ = record { p = p′; q = q′; t = t′; w = w′ }
 
--- "Which fields each rule uses is one fixed table of [twenty-nine] rows."
+-- "Which fields each rule uses is one fixed table of thirty rows."
 unfoldable pub ruleFields : Rule → RuleFields
 ruleFields Rule.Eqr = fields place place unused unused
 ruleFields Rule.Eql = fields place place unused unused
@@ -117,6 +122,7 @@ ruleFields Rule.Rdh = fields unused unused term unused
 ruleFields Rule.Rdm = fields unused unused term unused
 ruleFields Rule.Cls = fields place place unused unused
 ruleFields Rule.Emp = fields place unused unused unused
+ruleFields Rule.Cla = fields unused unused clause unused
 
 -- the fields of a rule, as uses
 abbrev pub placeUse : PlaceField → Use
@@ -126,6 +132,7 @@ placeUse place = place
 abbrev pub thirdUse : ThirdField → Use
 thirdUse unused = unused
 thirdUse side = side
+thirdUse clause = clause
 thirdUse term = term
 thirdUse (of s) = of s
 

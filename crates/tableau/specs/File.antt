@@ -27,15 +27,16 @@ unfoldable pub split : ℕ → List ℕ → List (List ℕ)
 split c [] = [] ∷ []
 split c (b ∷ bs) = elim (eqb b c) [ true ↦ [] ∷ split c bs | false ↦ onFirst b (split c bs) ]
 
--- "Field 1 is one of the letters T, A, S."
+-- "Field 1 is one of the letters T, A, [C], S."
 unfoldable pub letters : List (Named Letter)
-letters = ("T" ↣ Letter.T) ∷ ("A" ↣ Letter.A) ∷ ("S" ↣ Letter.S) ∷ []
+letters = ("T" ↣ Letter.T) ∷ ("A" ↣ Letter.A) ∷ ("C" ↣ Letter.C) ∷ ("S" ↣ Letter.S) ∷ []
 
--- "T lines come first, then A, then S; any kind may be missing."
+-- "T lines come first, then A, [then C], then S; any kind may be missing": "C lines between A and S"
 unfoldable pub rank : Letter → ℕ
 rank Letter.T = 0
 rank Letter.A = 1
-rank Letter.S = 2
+rank Letter.C = 2
+rank Letter.S = 3
 
 abbrev pub inOrder : Letter → Letter → Bool
 inOrder last next = leb (rank last) (rank next)

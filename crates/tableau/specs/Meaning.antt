@@ -1,15 +1,17 @@
--- 'Meaning': finite heaps, the values of terms, and when a literal is true. Nothing here knows of rules or replies.
+-- 'Meaning': finite heaps, the values of terms, and when a literal is true, or one of every clause. Nothing here knows of rules or replies.
 use mathlib.Core.Path.{_≡_, refl}
 use mathlib.Core.Bool.{Bool, true, false, not, cond, false≢true}
 use mathlib.Core.List.{List, [], _∷_}
+use mathlib.Core.Logic.{_⊎_}
 use Prim.Native.Nat.{ℕ, zero, suc, _<_}
 use native.Mathlib.Nat.{lt-suc-self, le-suc, le-trans}
 use lib.Dec.{eqb}
+use lib.ListN.{length}
 use Rattle.tableau.specs.declared.Sort.{Sort}
 use Rattle.tableau.specs.declared.Operator.{Operator}
 use Rattle.tableau.specs.declared.Relation.{Relation}
 use Rattle.tableau.specs.Basics.{Four}
-use Rattle.tableau.specs.Terms.{Name, TermNo, Term, Literal, literal, fold}
+use Rattle.tableau.specs.Terms.{Name, TermNo, ClauseNo, Term, Literal, literal, fold, Clauses, clauseOf}
 
 infixl 35 _and_
 infixl 30 _or_
@@ -219,3 +221,11 @@ True ρ table (literal R m n) = Holds R (value ρ table m) (value ρ table n)
 abbrev pub AllTrue : {H : FiniteHeap} → Values H → (TermNo → Term) → List Literal → Type 0
 AllTrue ρ table [] = Unit {0}
 AllTrue ρ table (l ∷ ls) = True ρ table l × AllTrue ρ table ls
+
+-- "at least one literal of every clause"
+abbrev pub AnyTrue : {H : FiniteHeap} → Values H → (TermNo → Term) → List Literal → Type 0
+AnyTrue ρ table [] = ⊥
+AnyTrue ρ table (l ∷ ls) = True ρ table l ⊎ AnyTrue ρ table ls
+
+abbrev pub EveryClauseTrue : {H : FiniteHeap} → Values H → (TermNo → Term) → Clauses → Type 0
+EveryClauseTrue ρ table C = (k : ClauseNo) → 0 < length (clauseOf C k) → AnyTrue ρ table (clauseOf C k)

@@ -1,5 +1,5 @@
 -- 'The reply': the checks of a line in the order of their numbers, the reply of a whole file, and the forms in which it is given.
-use mathlib.Core.Bool.{Bool, true, false, _&&_, not, cond}
+use mathlib.Core.Bool.{Bool, true, false, _&&_, _||_, not, cond}
 use mathlib.Core.List.{List, [], _∷_, _++_}
 use mathlib.Core.Option.{Option}
 use Prim.Native.Nat.{ℕ, zero, suc, _+_, _/_, _%_}
@@ -12,10 +12,10 @@ use Rattle.tableau.specs.declared.Rule.{Rule}
 use Rattle.tableau.specs.declared.Reason.{Reason}
 use Rattle.tableau.specs.Basics.{isSome, Four, every, bytes}
 use Rattle.tableau.specs.File.{Line, letters, inOrder, shape, split, LF, comma, maxBytes}
-use Rattle.tableau.specs.Words.{Command, make, assume, infer, commandOf}
-use Rattle.tableau.specs.Fields.{Use, unused, place, name, side, term, of, wordFields, sides, ruleUses}
-use Rattle.tableau.specs.Terms.{TermNo, Table, Term, Literal, literal, at, numberOf, maxTerms, sortOf, sameSort, written, oneSort}
-use Rattle.tableau.specs.Rules.{Row, Kind, rows, congruence, replacement, rule}
+use Rattle.tableau.specs.Words.{Command, make, assume, disjoin, infer, commandOf}
+use Rattle.tableau.specs.Fields.{Use, unused, place, name, side, clause, term, of, wordFields, sides, clauseFields, ruleUses}
+use Rattle.tableau.specs.Terms.{TermNo, ClauseNo, Table, Term, Literal, literal, Clauses, clauseOf, lastClause, at, numberOf, maxTerms, sortOf, sameSort, written, oneSort}
+use Rattle.tableau.specs.Rules.{Row, Kind, rows, congruence, replacement, disjunction, rule}
 use Rattle.tableau.specs.Tree.{Checked, refused, passed, _>>=_, _>>_, require, requireSome, Tree, Status, isOpen, isClosed, root, maxPlaces, alternatives, grown}
 
 -- THE REFUSAL NUMBERS
@@ -40,25 +40,27 @@ reasonNumber Reason.BranchOpen = 17
 reasonNumber Reason.BufferLength = 18
 reasonNumber Reason.BadFact = 19
 reasonNumber Reason.NotAnOrder = 20
+reasonNumber Reason.BadClause = 21
 
--- The counts of a reply.
+-- The counts of a reply; while lines are read, of T, A and S lines and closings.
 pub record Counts : Type 0 where
   pub terms : ℕ
   pub assumptions : ℕ
   pub steps : ℕ
   pub closings : ℕ
 
--- Where the reading of a file stands: the terms made, the tree, the letter of the last line, the counts.
+-- Where the reading of a file stands: the terms made, the clauses, the tree, the letter of the last line, the counts of lines.
 pub record State : Type 0 where
   pub table : Table
+  pub clauses : Clauses
   pub status : Status
   pub letter : Letter
   pub counts : Counts
 
 abbrev pub start : State
-start = record { table = []; status = isOpen root; letter = Letter.T; counts = record { terms = 0; assumptions = 0; steps = 0; closings = 0 } }
+start = record { table = []; clauses = []; status = isOpen root; letter = Letter.T; counts = record { terms = 0; assumptions = 0; steps = 0; closings = 0 } }
 
--- check 5: the tree, where it is open (T and A lines, which check 3 keeps before any S line, always find it so)
+-- check 5: the tree, where it is open (T, A and C lines, which check 3 keeps before any S line, always find it so)
 abbrev pub requireOpen : Status → Checked Tree
 requireOpen (isOpen τ) = passed τ
 requireOpen isClosed = refused Reason.TreeClosed
@@ -69,6 +71,7 @@ zeroIfUnused unused n = eqb n 0
 zeroIfUnused place n = true
 zeroIfUnused name n = true
 zeroIfUnused side n = true
+zeroIfUnused clause n = true
 zeroIfUnused term n = true
 zeroIfUnused (of s) n = true
 
@@ -81,15 +84,17 @@ termOrName table unused n = true
 termOrName table place n = true
 termOrName table name n = leb 1 n
 termOrName table side n = true
+termOrName table clause n = true
 termOrName table term n = isTerm table n
 termOrName table (of s) n = isTerm table n
 
--- check 9: "wrong sort in T, A, `cut` or `ler`"
+-- check 9: "wrong sort in T, A, [C,] `cut` or `ler`"
 abbrev pub ofSort : Table → Use → ℕ → Bool
 ofSort table unused n = true
 ofSort table place n = true
 ofSort table name n = true
 ofSort table side n = true
+ofSort table clause n = true
 ofSort table term n = true
 ofSort table (of s) n = sameSort s (sortOf (at table n))
 
@@ -107,26 +112,46 @@ termLine table w n = do
   require (isNew table (written w n)) Reason.TermRepeated
   passed (table ++ (written w n ∷ []))
 
--- AN A LINE: checks 6, 8 and 9, and its literal; then check 15, "an A line .. would pass 1,000 places", and the literal on the branch.
-unfoldable pub literalLine : Table → Relation → Four ℕ → Checked Literal
-literalLine table R n = do
-  require (every zeroIfUnused (sides R) n) Reason.UnusedField
-  require (every (termOrName table) (sides R) n) Reason.NoSuchTerm
-  require (every (ofSort table) (sides R) n && oneSort R (sortOf (at table (n .a))) (sortOf (at table (n .b)))) Reason.WrongSort
+-- AN A OR C LINE with these fields: checks 6, 8 and 9, and its literal.
+unfoldable pub literalLine : Table → Four Use → Relation → Four ℕ → Checked Literal
+literalLine table uses R n = do
+  require (every zeroIfUnused uses n) Reason.UnusedField
+  require (every (termOrName table) uses n) Reason.NoSuchTerm
+  require (every (ofSort table) uses n && oneSort R (sortOf (at table (n .a))) (sortOf (at table (n .b)))) Reason.WrongSort
   passed (literal R (n .a) (n .b))
 
+-- An A line: then check 15, "an A line .. would pass 1,000 places", and the literal on the branch.
 unfoldable pub assumed : Tree → Literal → Checked Tree
 assumed τ l = do
   require (ltb (length (τ .branch)) maxPlaces) Reason.BranchFull
   passed (record { branch = τ .branch ++ (l ∷ []); waiting = τ .waiting })
 
+-- A C line: then check 21, "clause number 0 or one neither the last nor the next, a ninth literal, or a 401st C line", and the literal behind those of the C lines before,
+-- with its clause's number.
+abbrev pub maxDisjuncts : ℕ
+maxDisjuncts = 8
+
+abbrev pub maxClauseLines : ℕ
+maxClauseLines = 400
+
+abbrev pub lastOrNext : Clauses → ClauseNo → Bool
+lastOrNext C k = leb 1 k && (eqb k (lastClause C) || eqb k (suc (lastClause C)))
+
+abbrev pub takesDisjunct : Clauses → ClauseNo → Bool
+takesDisjunct C k = lastOrNext C k && (ltb (length (clauseOf C k)) maxDisjuncts && ltb (length C) maxClauseLines)
+
+unfoldable pub disjoined : Clauses → ClauseNo → Literal → Checked Clauses
+disjoined C k l = do
+  require (takesDisjunct C k) Reason.BadClause
+  passed (C ++ (record { clause = k; is = l } ∷ []))
+
 -- AN S LINE: checks 6, 8 and 9, then 11 to 14 of its step; then 15 and 16, and the tree after it.
-unfoldable pub stepLine : Table → List Literal → Rule → Four ℕ → Checked (List (List Literal))
-stepLine table B x n = do
+unfoldable pub stepLine : Table → Clauses → List Literal → Rule → Four ℕ → Checked (List (List Literal))
+stepLine table C B x n = do
   require (every zeroIfUnused (ruleUses x) n) Reason.UnusedField
   require (every (termOrName table) (ruleUses x) n) Reason.NoSuchTerm
   require (every (ofSort table) (ruleUses x) n) Reason.WrongSort
-  alternatives table B x n
+  alternatives table C B x n
 
 -- the rules that close, `cls` and `emp`: those whose rows have no alternative
 abbrev pub addsNothing : List Row → Bool
@@ -137,6 +162,7 @@ abbrev pub closingKind : Kind → Bool
 closingKind (rows Rs) = addsNothing Rs
 closingKind congruence = false
 closingKind replacement = false
+closingKind disjunction = false
 
 abbrev pub isClosing : Rule → Bool
 isClosing x = closingKind (rule x)
@@ -144,21 +170,26 @@ isClosing x = closingKind (rule x)
 abbrev pub counted : Counts → Command → Counts
 counted c (make w) = record { terms = suc (c .terms); assumptions = c .assumptions; steps = c .steps; closings = c .closings }
 counted c (assume R) = record { terms = c .terms; assumptions = suc (c .assumptions); steps = c .steps; closings = c .closings }
+counted c (disjoin R) = c
 counted c (infer x) = record { terms = c .terms; assumptions = c .assumptions; steps = suc (c .steps); closings = cond (isClosing x) (suc (c .closings)) (c .closings) }
 
 -- What a line does to a state whose tree is open.
 unfoldable pub runOpen : State → Tree → Command → Four ℕ → Checked State
 runOpen σ τ (make w) n = do
   table′ ← termLine (σ .table) w n
-  passed (record { table = table′; status = isOpen τ; letter = Letter.T; counts = counted (σ .counts) (make w) })
+  passed (record { table = table′; clauses = σ .clauses; status = isOpen τ; letter = Letter.T; counts = counted (σ .counts) (make w) })
 runOpen σ τ (assume R) n = do
-  l ← literalLine (σ .table) R n
+  l ← literalLine (σ .table) (sides R) R n
   τ′ ← assumed τ l
-  passed (record { table = σ .table; status = isOpen τ′; letter = Letter.A; counts = counted (σ .counts) (assume R) })
+  passed (record { table = σ .table; clauses = σ .clauses; status = isOpen τ′; letter = Letter.A; counts = counted (σ .counts) (assume R) })
+runOpen σ τ (disjoin R) n = do
+  l ← literalLine (σ .table) (clauseFields R) R n
+  C ← disjoined (σ .clauses) (n .c) l
+  passed (record { table = σ .table; clauses = C; status = isOpen τ; letter = Letter.C; counts = counted (σ .counts) (disjoin R) })
 runOpen σ τ (infer x) n = do
-  ks ← stepLine (σ .table) (τ .branch) x n
+  ks ← stepLine (σ .table) (σ .clauses) (τ .branch) x n
   status′ ← grown τ ks
-  passed (record { table = σ .table; status = status′; letter = Letter.S; counts = counted (σ .counts) (infer x) })
+  passed (record { table = σ .table; clauses = σ .clauses; status = status′; letter = Letter.S; counts = counted (σ .counts) (infer x) })
 
 -- "Checks on a line run in the order of the numbers below": 3 to 5, a line for each, then those above. The command is what the word stands
 -- for, if it is known.
@@ -197,10 +228,14 @@ pub data Verdict : Type 0 where
   accept : Counts → Verdict
   refuse : Reason → ℕ → Verdict
 
+-- "The assumed count takes A lines plus clauses", which are numbered from 1 without gaps.
+abbrev pub withClauses : Counts → Clauses → Counts
+withClauses c C = record { terms = c .terms; assumptions = c .assumptions + lastClause C; steps = c .steps; closings = c .closings }
+
 -- check 17: "input ends with a branch open; line is last line plus 1"
 abbrev pub atEnd : State → Status → ℕ → Verdict
 atEnd σ (isOpen τ) i = refuse Reason.BranchOpen (suc i)
-atEnd σ isClosed i = accept (σ .counts)
+atEnd σ isClosed i = accept (withClauses (σ .counts) (σ .clauses))
 
 abbrev pub verdictOn : RunEnd State → Verdict
 verdictOn (stopped r i) = refuse r i
@@ -214,7 +249,7 @@ verdictIf false file = refuse Reason.TooLong 0
 unfoldable pub verdict : List ℕ → Verdict
 verdict file = verdictIf (leb (length file) maxBytes) file
 
--- THE REPLY, "fields in order: `yes` or `no`, refusal number, line, T lines, A lines, S lines, closings".
+-- THE REPLY, "fields in order: `yes` or `no`, refusal number, line, T lines, A lines [and clauses], S lines, closings".
 pub record Reply : Type 0 where
   pub isYes : Bool
   pub number : ℕ

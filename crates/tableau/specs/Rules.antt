@@ -1,4 +1,4 @@
--- 'The rules': a row for each of the twenty-nine, in the order of document 01. Nothing here knows of replies.
+-- 'The rules': a row for each of the thirty, in the order of document 01, then those of document 02. Nothing here knows of replies.
 use mathlib.Core.Bool.{Bool, true, false}
 use mathlib.Core.List.{List, [], _∷_}
 use Prim.Native.Nat.{ℕ}
@@ -181,11 +181,12 @@ typ x = operator Operator.Typ x – – –
 abbrev pub dty : Pattern → Pattern
 dty x = operator Operator.Dty x – – –
 
--- A rule: one row, several of which the first whose needs are met is taken ("or"), or one of the two that no row says.
+-- A rule: one row, several of which the first whose needs are met is taken ("or"), or one of the three that no row says.
 pub data Kind : Type 0 where
   rows : List Row → Kind
   congruence : Kind
   replacement : Kind
+  disjunction : Kind
 
 infix 3 _⟶_ _；w-fresh⟶_
 infixr 2 _or_
@@ -230,5 +231,6 @@ rule Rule.Rdh = rows (t≐ (rea (wri h u f v) u f) ∷ [] ⟶ only ⟨ t ≈ v �
 rule Rule.Rdm = rows (t≐ (rea (wri h u f v) y g) ∷ [] ⟶ u ≈ y ﹐ ⟨ f ≈ g ⟩ ∥ only ⟨ t ≈ rea h y g ⟩)
 rule Rule.Cls = rows ((p∶ (a ∈ b) ∷ q∶ (a ∉ b) ∷ [] ⟶ closes) or (p∶ (a ≈ b) ∷ q∶ (a ≉ b) ∷ [] ⟶ closes) or (p∶ (a ⊑ b) ∷ q∶ (a ⋢ b) ∷ [] ⟶ closes))
 rule Rule.Emp = rows (p∶ (u ∈ emp) ∷ [] ⟶ closes)
+rule Rule.Cla = disjunction
 
--- What `sub` and `rep` need and add is in Steps.antt.
+-- What `sub`, `rep` and `cla` need and add is in Steps.antt.

@@ -1,6 +1,6 @@
 -- What a rule concludes on a branch: its needs (check 12), whether it asks for a fresh w (check 13), the literals it adds (check 14).
 use mathlib.Core.Bool.{Bool, true, false, _&&_, _||_, not, cond}
-use mathlib.Core.List.{List, [], _∷_}
+use mathlib.Core.List.{List, [], _∷_, map}
 use mathlib.Core.Option.{Option, none, some}
 use Prim.Native.Nat.{ℕ}
 use lib.Dec.{eqb}
@@ -9,8 +9,8 @@ use Rattle.tableau.specs.declared.Operator.{Operator}
 use Rattle.tableau.specs.declared.Relation.{Relation}
 use Rattle.tableau.specs.Basics.{then, guard, Four, four, every}
 use Rattle.tableau.specs.Fields.{arguments, ifArgument}
-use Rattle.tableau.specs.Terms.{TermNo, Table, Term, variable, apply, Literal, literal, at, numberOf, sortOf, sameSort, sameOperator, sameRelation, mentioned}
-use Rattle.tableau.specs.Rules.{Pattern, letter, operator, –, LiteralPattern, pattern, Need, p∶, q∶, t≐, isRegion, Row, Kind, rows, congruence, replacement, letterT, letterW}
+use Rattle.tableau.specs.Terms.{TermNo, Table, Term, variable, apply, Literal, literal, at, numberOf, sortOf, sameSort, sameOperator, sameRelation, mentioned, Clauses, disjuncts}
+use Rattle.tableau.specs.Rules.{Pattern, letter, operator, –, LiteralPattern, pattern, Need, p∶, q∶, t≐, isRegion, Row, Kind, rows, congruence, replacement, disjunction, letterT, letterW}
 
 -- An instance of a row: the term that each of its letters stands for.
 abbrev pub Letters : Type 0
@@ -82,13 +82,14 @@ module _ (table : Table) where
   madeAlternatives [] σ = some []
   madeAlternatives (l ∷ ls) σ = then (madeLiterals l σ) λ k. then (madeAlternatives ls σ) λ ks. some (k ∷ ks)
 
--- "'Fresh' means an `rfv` term that occurs in no literal now on the branch, not even inside a larger term."
+-- "'Fresh' means an `rfv` term that occurs in no literal now on the branch, not even inside a larger term"; it "must also be absent from every
+-- clause, split or not".
 abbrev pub isRfv : Term → Bool
 isRfv (variable s n) = sameSort Sort.Reference s
 isRfv (apply o k) = false
 
-unfoldable pub isFresh : Table → List Literal → TermNo → Bool
-isFresh table branch w = isRfv (at table w) && not (mentioned (at table) w branch)
+unfoldable pub isFresh : Table → Clauses → List Literal → TermNo → Bool
+isFresh table C branch w = isRfv (at table w) && not (mentioned (at table) w (disjuncts C) || mentioned (at table) w branch)
 
 -- What a rule whose needs are met concludes: whether w has to be fresh, and the alternatives, if the table has all their terms.
 pub record Conclusion : Type 0 where
@@ -124,6 +125,10 @@ concludeRep (literal R m n) (literal E a b) t =
     (cond (eqb t 2 && eqb n a) (some (addsOne (literal R m b)))
     none))
 
+-- `cla`: "splits into its literals in order", one to an alternative
+abbrev pub splitsInto : List Literal → Conclusion
+splitsInto D = record { fresh = false; adds = some (map (λ l. l ∷ []) D) }
+
 -- The letters t and w as the line gives them; a row that asks for a fresh w uses no t.
 abbrev pub given : Bool → TermNo → TermNo → Letters
 given true t w = bind unbound letterW w
@@ -139,8 +144,9 @@ module _ (table : Table) (P Q : Option Literal) (t w : ℕ) where
   concludeRows [] = none
   concludeRows (R ∷ Rs) = orElse (met (at table) (R .needs) P Q (given (R .fresh) t w)) R (concludeRows Rs)
 
-  -- none: what the rule needs isn't so
-  unfoldable pub conclude : Kind → Option Conclusion
-  conclude (rows Rs) = concludeRows Rs
-  conclude congruence = then P λ L. concludeSub table L t w
-  conclude replacement = then P λ L. then Q λ M. concludeRep L M t
+  -- D are the literals of clause t; none: what the rule needs isn't so
+  unfoldable pub conclude : List Literal → Kind → Option Conclusion
+  conclude D (rows Rs) = concludeRows Rs
+  conclude D congruence = then P λ L. concludeSub table L t w
+  conclude D replacement = then P λ L. then Q λ M. concludeRep L M t
+  conclude D disjunction = some (splitsInto D)

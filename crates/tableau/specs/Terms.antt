@@ -1,9 +1,10 @@
--- 'T lines' and 'A lines': terms and their table, literals.
+-- 'T lines', 'A lines' and C lines: terms and their table, literals, clauses.
 use mathlib.Core.Bool.{Bool, true, false, _&&_, _||_, cond}
-use mathlib.Core.List.{List, [], _∷_}
+use mathlib.Core.List.{List, [], _∷_, map}
 use mathlib.Core.Option.{Option, none, some}
 use Prim.Native.Nat.{ℕ, zero, suc}
-use lib.Dec.{eqb}
+use lib.Dec.{eqb, leb}
+use lib.ListN.{length}
 use Rattle.tableau.specs.declared.Sort.{Sort}
 use Rattle.tableau.specs.declared.Operator.{Operator}
 use Rattle.tableau.specs.declared.Word.{Word}
@@ -11,7 +12,7 @@ use Rattle.tableau.specs.declared.Relation.{Relation}
 use Rattle.tableau.specs.Basics.{Four, four, every}
 use Rattle.tableau.specs.Fields.{arguments, ifArgument}
 
--- "Places, term numbers and names are three separate kinds of count throughout."
+-- "Places, term numbers and names are three separate kinds of count throughout", and clause numbers a fourth.
 abbrev pub Place : Type 0
 Place = ℕ
 
@@ -20,6 +21,9 @@ TermNo = ℕ
 
 abbrev pub Name : Type 0
 Name = ℕ
+
+abbrev pub ClauseNo : Type 0
+ClauseNo = ℕ
 
 -- the sort of an operator's terms
 unfoldable pub result : Operator → Sort
@@ -160,3 +164,30 @@ mentionedIn table w (literal R m n) = mentions table w m || mentions table w n
 unfoldable pub mentioned : (TermNo → Term) → TermNo → List Literal → Bool
 mentioned table w [] = false
 mentioned table w (l ∷ ls) = mentionedIn table w l || mentioned table w ls
+
+-- CLAUSES: the literals of the C lines, in their order, each with the number of its clause.
+pub record Disjunct : Type 0 where
+  pub clause : ClauseNo
+  pub is : Literal
+
+abbrev pub Clauses : Type 0
+Clauses = List Disjunct
+
+abbrev pub disjuncts : Clauses → List Literal
+disjuncts C = map (λ d. d .is) C
+
+-- clause k: the literals with its number
+unfoldable pub clauseOf : Clauses → ClauseNo → List Literal
+clauseOf [] k = []
+clauseOf (d ∷ C) k = cond (eqb (d .clause) k) (d .is ∷ clauseOf C k) (clauseOf C k)
+
+-- the number of the last clause, 0 where there is none
+unfoldable pub lastClause : Clauses → ClauseNo
+lastClause [] = 0
+lastClause (d ∷ []) = d .clause
+lastClause (d ∷ e ∷ C) = lastClause (e ∷ C)
+
+-- how many C lines there are up to the last of clause k
+unfoldable pub linesTo : Clauses → ClauseNo → ℕ
+linesTo [] k = 0
+linesTo (d ∷ C) k = cond (leb 1 (length (clauseOf C k))) (suc (linesTo C k)) (cond (eqb (d .clause) k) 1 0)

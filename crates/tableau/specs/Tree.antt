@@ -8,8 +8,8 @@ use lib.ListN.{length, take, getElem?}
 use Rattle.tableau.specs.declared.Reason.{Reason}
 use Rattle.tableau.specs.declared.Rule.{Rule}
 use Rattle.tableau.specs.Basics.{Four, every}
-use Rattle.tableau.specs.Fields.{Use, unused, place, name, side, term, of, ruleUses}
-use Rattle.tableau.specs.Terms.{Place, Table, Literal}
+use Rattle.tableau.specs.Fields.{Use, unused, place, name, side, clause, term, of, ruleUses}
+use Rattle.tableau.specs.Terms.{Place, ClauseNo, Table, Literal, Clauses, clauseOf}
 use Rattle.tableau.specs.Rules.{rule}
 use Rattle.tableau.specs.Steps.{conclude, isFresh}
 
@@ -65,14 +65,21 @@ abbrev pub literalAt : List Literal → Place → Option Literal
 literalAt B zero = none
 literalAt B (suc n) = getElem? B n
 
--- check 11: "a place used is not on the branch"
-abbrev pub onBranch : List Literal → Use → ℕ → Bool
-onBranch B unused n = true
-onBranch B place n = leb 1 n && leb n (length B)
-onBranch B name n = true
-onBranch B side n = true
-onBranch B term n = true
-onBranch B (of s) n = true
+-- check 11: "a place used is not on the branch", "a `cla` on no clause"
+abbrev pub onBranch : List Literal → Place → Bool
+onBranch B n = leb 1 n && leb n (length B)
+
+abbrev pub isClause : Clauses → ClauseNo → Bool
+isClause C k = leb 1 (length (clauseOf C k))
+
+abbrev pub isThere : Clauses → List Literal → Use → ℕ → Bool
+isThere C B unused n = true
+isThere C B place n = onBranch B n
+isThere C B name n = true
+isThere C B side n = true
+isThere C B clause n = isClause C n
+isThere C B term n = true
+isThere C B (of s) n = true
 
 -- check 15: "any alternative would pass 1,000 places"
 unfoldable pub roomOnBranch : ℕ → List (List Literal) → Bool
@@ -98,19 +105,19 @@ grow τ (k ∷ ks) = isOpen (record {
   waiting = map (λ m. record { length = length (τ .branch); alternative = m }) ks ++ τ .waiting;
 })
 
--- The alternatives that rule x adds, where P and Q are the literals at places p and q, and `fresh` says whether w is fresh: checks 12 to 14, a line for each, in
--- the order of their numbers.
-unfoldable pub answer : Table → Bool → Option Literal → Option Literal → ℕ → ℕ → Rule → Checked (List (List Literal))
-answer table fresh P Q t w x = do
-  c ← requireSome (conclude table P Q t w (rule x)) Reason.NeedNotMet
+-- The alternatives that rule x adds, where P and Q are the literals at places p and q, D those of clause t, and `fresh` says whether w is fresh: checks 12 to 14, a line
+-- for each, in the order of their numbers.
+unfoldable pub answer : Table → Bool → Option Literal → Option Literal → List Literal → ℕ → ℕ → Rule → Checked (List (List Literal))
+answer table fresh P Q D t w x = do
+  c ← requireSome (conclude table P Q t w D (rule x)) Reason.NeedNotMet
   require (not (c .fresh) || fresh) Reason.NotFresh
   requireSome (c .adds) Reason.TermNotMade
 
 -- The same on a branch: check 11, then those above.
-unfoldable pub alternatives : Table → List Literal → Rule → Four ℕ → Checked (List (List Literal))
-alternatives table B x n = do
-  require (every (onBranch B) (ruleUses x) n) Reason.NoSuchPlace
-  answer table (isFresh table B (n .d)) (literalAt B (n .a)) (literalAt B (n .b)) (n .c) (n .d) x
+unfoldable pub alternatives : Table → Clauses → List Literal → Rule → Four ℕ → Checked (List (List Literal))
+alternatives table C B x n = do
+  require (every (isThere C B) (ruleUses x) n) Reason.NoSuchPlace
+  answer table (isFresh table C B (n .d)) (literalAt B (n .a)) (literalAt B (n .b)) (clauseOf C (n .c)) (n .c) (n .d) x
 
 -- What they make of an open tree: checks 15 and 16.
 unfoldable pub grown : Tree → List (List Literal) → Checked Status

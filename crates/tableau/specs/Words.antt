@@ -32,7 +32,7 @@ words =
     ("dty" ↣ Word.Operation Operator.Dty) ∷
     []
 
--- "A lines hold a word and two terms."
+-- "A lines hold a word and two terms", and so do C lines.
 unfoldable pub relations : List (Named Relation)
 relations =
     ("in" ↣ Relation.In) ∷
@@ -75,12 +75,14 @@ ruleNames =
     ("rdm" ↣ Rule.Rdm) ∷
     ("cls" ↣ Rule.Cls) ∷
     ("emp" ↣ Rule.Emp) ∷
+    ("cla" ↣ Rule.Cla) ∷
     []
 
--- What a line asks for, by its letter and word: a term, an assumption, a step.
+-- What a line asks for, by its letter and word: a term, an assumption, a literal of a clause, a step.
 pub data Command : Type 0 where
   make : Word → Command
   assume : Relation → Command
+  disjoin : Relation → Command
   infer : Rule → Command
 
 abbrev pub some-of : {A : Type 0} → (A → Command) → Option A → Option Command
@@ -90,4 +92,5 @@ some-of f (some x) = some (f x)
 unfoldable pub commandOf : Letter → List ℕ → Option Command
 commandOf Letter.T w = some-of make (lookup words w)
 commandOf Letter.A w = some-of assume (lookup relations w)
+commandOf Letter.C w = some-of disjoin (lookup relations w)
 commandOf Letter.S w = some-of infer (lookup ruleNames w)

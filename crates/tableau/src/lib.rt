@@ -1,9 +1,10 @@
-// The words of document 01, in its order. The specification in specs/ gives them their meaning; code above this crate uses the same types.
+// The words of document 01, in its order, and those that document 02 adds. The specification in specs/ gives them their meaning; code above this crate uses the same types.
 
-// "Field 1 is one of the letters T, A, S."
+// "Field 1 is one of the letters T, A, [C], S."
 pub enum Letter {
     T,
     A,
+    C,
     S,
 }
 
@@ -38,7 +39,7 @@ pub enum Word {
     Operation(Operator),
 }
 
-// The words of A lines.
+// The words of A and C lines.
 pub enum Relation {
     In,
     Ni,
@@ -79,9 +80,10 @@ pub enum Rule {
     Rdm,
     Cls,
     Emp,
+    Cla,
 }
 
-// Why a file is refused, in the order of the refusal numbers 1 to 20.
+// Why a file is refused, in the order of the refusal numbers 1 to 21.
 pub enum Reason {
     TooLong,
     BadShape,
@@ -103,6 +105,7 @@ pub enum Reason {
     BufferLength,
     BadFact,
     NotAnOrder,
+    BadClause,
 }
 
 // "Places, term numbers and names are three separate kinds of count throughout": a place on the branch, the number of a term, the name of
@@ -112,6 +115,9 @@ pub struct Place(pub usize);
 pub struct TermNumber(pub usize);
 
 pub struct Name(pub usize);
+
+// The number of a clause, from 1.
+pub struct ClauseNumber(pub usize);
 
 // The t of `rep`, a side of a literal: "1 left, 2 right".
 pub struct Side(pub usize);

@@ -59,12 +59,12 @@ module _ (table : Table) where
   within : (n : TermNo) → isTerm table n ≡ true → n ≤ length table
   within n e = leb-true n (length table) (both-true (leb 1 n) (leb n (length table)) e .1)
 
-  two-within : (l : Literal) (R : Relation) (k : Four ℕ) → LiteralPassed table R k l → (k .a ≤ length table) × (k .b ≤ length table)
+  two-within : (l : Literal) (R : Relation) (k : Four ℕ) → LiteralPassed table (sides R) R k l → (k .a ≤ length table) × (k .b ≤ length table)
   two-within l R k P = let t = two-terms R k (P .terms) in (within (k .a) (t .0), within (k .b) (t .1))
 
   pub assumption-sides : (terms : List ℕ) → Entries table terms → (l : Literal) → IsAssumption table l → (p : LiteralView) → p ≡ literalViewOf l → Sides p
   assumption-sides terms E l I p e =
-      let P = literal-passed table (I .0) (I .1) (I .2) in
+      let P = literal-passed table (sides (I .0)) (I .0) (I .1) (I .2) in
       let w = two-within l (I .0) (I .1) P in
       sides-of (sym (e ∙ ap literalViewOf (P .is))) (view-sides (I .0) (I .1 .a) (I .1 .b) (omega (arith, w .0, E .few)) (omega (arith, w .1, E .few)))
 
@@ -126,6 +126,6 @@ module _ (H : FiniteHeap) (ρ : Values H) (table : Table) (A : HeapTables) (numb
 
   pub test-true : (l : Literal) → IsAssumption table l → literalTest A table numbers rows l ≡ isTrue ρ (at table) l
   test-true l I =
-      let P = literal-passed table (I .0) (I .1) (I .2) in
+      let P = literal-passed table (sides (I .0)) (I .0) (I .1) (I .2) in
       let w = two-within table l (I .0) (I .1) P in
       subst (λ (x : Literal). literalTest A table numbers rows x ≡ isTrue ρ (at table) x) (sym (P .is)) (by-relation (I .0) (I .1) (w .0) (w .1) (P .sorts))

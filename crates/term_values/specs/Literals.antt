@@ -9,6 +9,7 @@ use Rattle.tableau.specs.Basics.{Four}
 use Rattle.tableau.specs.Terms.{Table, Literal, literal, at, sortOf}
 use Rattle.tableau.specs.Meaning.{FiniteHeap, Values}
 use Rattle.tableau.specs.Tree.{passed}
+use Rattle.tableau.specs.Fields.{sides}
 use Rattle.tableau.specs.Reply.{literalLine}
 use Rattle.tableau.proofs.WellFormed.{WellFormed}
 use Rattle.mentions.specs.Mentions.{bitAt}
@@ -36,9 +37,9 @@ module _ (A : HeapTables) (table : Table) (numbers rows : List ℕ) where
   literalTest (literal Relation.Le m n) = underTest m n
   literalTest (literal Relation.Nl m n) = not (underTest m n)
 
--- the literal of an A line that passed its checks: the sides are terms of the sorts asked
+-- the literal of an A or C line that passed its checks: the sides are terms of the sorts asked
 abbrev pub IsAssumption : Table → Literal → Type 0
-IsAssumption table l = (R : Relation) × (k : Four ℕ) × (literalLine table R k ≡ passed l)
+IsAssumption table l = (R : Relation) × (k : Four ℕ) × (literalLine table (sides R) R k ≡ passed l)
 
 -- the arrays show the values of all terms
 pub record Evaluable (H : FiniteHeap) (ρ : Values H) (table : Table) (A : HeapTables) (numbers rows : List ℕ) : Type 0 where

@@ -80,7 +80,7 @@ unused-zero Relation.Nl l = refl
 pub literal-line : (table : Table) (l : Literal) {eight nine : Bool}
     → every (termOrName table) (sides (l .relation)) (sidesIn l) ≡ eight
     → sidesSorted table (l .relation) (sidesIn l) ≡ nine
-    → literalLine table (l .relation) (sidesIn l) ≡ literalChecks eight nine (literalIn l)
+    → literalLine table (sides (l .relation)) (l .relation) (sidesIn l) ≡ literalChecks eight nine (literalIn l)
 unfolding literalLine
 literal-line table l e₈ e₉ = λ i.
     require (unused-zero (l .relation) l i) Reason.UnusedField >> literalChecks (e₈ i) (e₉ i) (literalIn l)

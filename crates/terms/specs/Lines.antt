@@ -1,4 +1,4 @@
--- What T and A lines give.
+-- What T, A and C lines give.
 use mathlib.Core.Path.{_≡_}
 use mathlib.Core.Bool.{Bool, _&&_}
 use mathlib.Core.List.{[], _∷_, _++_}

@@ -1,4 +1,4 @@
-// T lines make terms, A lines make literals of them: checks 7 to 10, in arrays that the caller lends. (Check 6, that unused fields are
+// T lines make terms, A and C lines make literals of them: checks 7 to 10, in arrays that the caller lends. (Check 6, that unused fields are
 // 0, is the caller's.)
 use packing::term_codes::pack;
 use syntax::Literal;
@@ -11,7 +11,7 @@ ghost use mathlib.Core.Bool.{true};
 ghost use Prim.Native.Nat.{_<_};
 ghost use lib.ListN.{length};
 ghost use Rattle.tableau.specs.Basics.{every};
-ghost use Rattle.tableau.specs.Fields.{wordFields};
+ghost use Rattle.tableau.specs.Fields.{sides, wordFields};
 ghost use Rattle.tableau.specs.Terms.{Table};
 ghost use Rattle.tableau.specs.Reply.{zeroIfUnused, isTerm, literalLine};
 ghost use Rattle.syntax.specs.Syntax.{wordIn, fieldsIn, sidesIn};
@@ -29,7 +29,7 @@ pub enum Making {
     Refused(Reason),
 }
 
-// The checks 8 and 9 of an A line: the packed literal.
+// The checks 8 and 9 of an A or C line: the packed literal.
 pub enum Assumption {
     Assumed(u32),
     Refused(Reason),
@@ -76,11 +76,11 @@ pub fn make_term(
     Making::Made
 }
 
-// An A line, where n terms are made.
+// An A or C line, where n terms are made.
 pub fn assume_literal(terms: &[u64; table::NUMBERS], n: usize, literal: Literal) -> Assumption
     requires { ⌜ ((table : Table) × Entries table (now terms) × (length table ≡ n)) ⌝ }
     ensures { λ r. ⌜ ((table : Table) → Entries table (now (terms .entry)) → length table ≡ n
-        → r ≡ assumptionOf (literalLine table (literal .relation) (sidesIn literal))) ⌝ }
+        → r ≡ assumptionOf (literalLine table (sides (literal .relation)) (literal .relation) (sidesIn literal))) ⌝ }
     ensures { λ r. ⌜ SmallCode r ⌝ }
 {
     if !sides::are_made(n, literal) {

@@ -16,7 +16,7 @@ use Rattle.tableau.specs.Tree.{maxPlaces, literalAt}
 use Rattle.tableau.proofs.Bools.{both-true}
 use Rattle.packing.specs.Packing.{codeLimit}
 use Rattle.tree.specs.State.{HasPlace, IsBranch, Appended}
-use Rattle.tree.proofs.Arrays.{all-set}
+use Rattle.clauses.proofs.Arrays.{all-set}
 
 -- check 11 holds of the places from 1 to n
 pub from-check : (n p : ℕ) → HasPlace n p true → (1 ≤ p) × (p ≤ n)

@@ -52,7 +52,7 @@ over f n (a ∷ ks) s h r =
     ]
 
 module _ (t : Tree) (w : Within t) where
-  branch-length : (f : ℕ → Literal) → length (treeOf f t .branch) ≡ t .len
+  pub branch-length : (f : ℕ → Literal) → length (treeOf f t .branch) ≡ t .len
   branch-length f = length-map (take (t .len) (t .branch)) f ∙ length-take-le (t .len) (t .branch) (omega arith)
 
   -- A STEP with the alternatives a and ks

@@ -2,3 +2,4 @@ pub mod Arrays
 pub mod Branch
 pub mod Waiting
 pub mod Changes
+pub mod Splits

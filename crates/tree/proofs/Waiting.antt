@@ -1,6 +1,6 @@
 -- Laws of the alternatives that wait: packing, and the stack.
 use Prim.Native.Nat.{ℕ, zero, suc, _+_, _-_, _*_, _/_, _^_, _≤_, _<_}
-use mathlib.Core.Path.{_≡_, refl, ap, _∙_}
+use mathlib.Core.Path.{_≡_, refl, ap, _∙_, subst}
 use mathlib.Core.List.{List, [], _∷_, _++_, map}
 use native.Mathlib.Numerals.{add-one}
 use native.Mathlib.Omega.{arith}
@@ -10,9 +10,11 @@ use Rattle.tableau.specs.Terms.{Literal}
 use Rattle.tableau.specs.Tree.{maxPlaces, maxWaiting, Waiting}
 use Rattle.tree.specs.declared.Alternative.{Alternative}
 use Rattle.tree.specs.declared.Begun.{Begun}
-use Rattle.tree.specs.State.{codesOf, AtMost, packed, cutOf, unpacked, IsStack, waitingOf, stackOf, topOf, begunOf, MayWait, Pushed}
+use Rattle.packing.specs.Packing.{codeLimit}
+use Rattle.clauses.specs.Held.{codesAt}
+use Rattle.tree.specs.State.{codesOf, AtMost, oneCode, packed, packedOne, cutOf, unpacked, IsStack, waitingOf, stackOf, topOf, begunOf, MayWait, Pushed}
 use Rattle.tree.specs.Change.{noneBegun}
-use Rattle.tree.proofs.Arrays.{all-set}
+use Rattle.clauses.proofs.Arrays.{all-set}
 
 -- the third code is not packed
 short : (n x y z z′ : ℕ) → n ≤ 2 → take n (x ∷ y ∷ z ∷ []) ≡ take n (x ∷ y ∷ z′ ∷ [])
@@ -110,3 +112,22 @@ begins-two cut a k g r h s = record {
   mayWait = record { count = omega arith; first = room-packed cut a g r; last = room-packed cut k h s };
   waiting = λ f. rw (waiting-packed cut a g r f, waiting-packed cut k h s f);
 }
+
+-- LITERALS OF A CLAUSE, each an alternative of its own
+pub one-code : (code : ℕ) → code < codeLimit → AtMost 2 (oneCode code)
+one-code code small = record { count = omega arith; first = small; second = omega arith; third = omega arith }
+
+-- the one before those that are stored
+pub push-literal : {l : List ℕ} {n : ℕ} {l′ : List ℕ} {n′ : ℕ} (cut : ℕ) (words : List ℕ) (i j m k n″ : ℕ) → i ≡ suc j → k ≡ suc m → cut < maxPlaces → getD words j 0 < codeLimit
+    → Pushed l n (map (packedOne cut) (codesAt words i m)) l′ n′ → n′ < maxWaiting → n″ ≡ n′ + 1
+    → Pushed l n (map (packedOne cut) (codesAt words j k)) (set l′ n′ (packedOne cut (getD words j 0))) n″
+push-literal {l} {n} {l′} {n′} cut words i j m k n″ e q h small p room next =
+    rw q (push-one n″ (packedOne cut (getD words j 0)) (subst (λ x. Pushed l n (map (packedOne cut) (codesAt words x m)) l′ n′) e p) room
+    (room-packed cut (oneCode (getD words j 0)) (one-code _ small) (omega arith)) next)
+
+-- what waits then
+pub waiting-literals : (f : ℕ → Literal) (cut : ℕ) (words : List ℕ) → cut < maxPlaces → ((i : ℕ) → getD words i 0 < codeLimit) → (i m : ℕ)
+    → map (waitingOf f) (map (packedOne cut) (codesAt words i m)) ≡ map (wait cut) (map (λ l. l ∷ []) (map f (codesAt words i m)))
+waiting-literals f cut words h small i zero = refl
+waiting-literals f cut words h small i (suc m) =
+    λ p. waiting-packed cut (oneCode (getD words i 0)) (one-code _ (small i)) (omega arith) f p ∷ waiting-literals f cut words h small (suc i) m p

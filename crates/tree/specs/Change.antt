@@ -1,18 +1,21 @@
 -- What a step makes of a tree, worked out from the tree's extent.
 use mathlib.Core.Path.{_≡_}
-use mathlib.Core.List.{_++_, map}
-use Prim.Native.Nat.{ℕ, _+_, _≤_}
+use mathlib.Core.List.{List, _++_, map}
+use Prim.Native.Nat.{ℕ, suc, _+_, _-_, _≤_, _<_}
 use lib.ListN.{take}
 use Rattle.tableau.specs.Terms.{Literal}
 use Rattle.tableau.specs.Tree as specification
 use Rattle.tableau.specs.Tree.{Checked, refused, passed, Status, isOpen, isClosed, maxPlaces, maxWaiting}
+use Rattle.tableau.specs.Reply.{maxClauseLines}
+use Rattle.clauses.specs.declared.Span.{Span}
+use Rattle.clauses.specs.Held.{codesAt}
 use Rattle.tree.specs.declared.Alternative.{Alternative}
 use Rattle.tree.specs.declared.Extent.{Extent}
 use Rattle.tree.specs.declared.Begun.{Begun}
 use Rattle.tree.specs.declared.Change.{Change}
 use Rattle.tree.specs.declared.Growth.{Growth}
 use Rattle.tree.specs.declared.Tree.{Tree}
-use Rattle.tree.specs.State.{codesOf, AtMost, waitingOf, stackOf, topOf, begunOf, MayWait, Appended, Pushed, treeOf, Within}
+use Rattle.tree.specs.State.{codesOf, AtMost, packedOne, waitingOf, stackOf, topOf, begunOf, MayWait, Appended, Pushed, treeOf, Within}
 
 -- THE EXTENT of a tree
 abbrev pub extentOf : Tree → Extent
@@ -51,6 +54,25 @@ unchangedFrom e = record { cut = e .len; adds = noLiterals; kept = e .count; beg
 pub record Stored (t : Tree) (c : Change) (t′ : Tree) : Type 0 where
   pub branch : Appended (t .branch) (c .cut) (codesOf (c .adds)) (t′ .branch) (t′ .len)
   pub waiting : Pushed (t .waiting) (c .kept) (begunOf (c .begun)) (t′ .waiting) (t′ .count)
+
+-- A CLAUSE SPLIT into its literals, which stand in an array: the first is added, the others begin to wait
+abbrev pub splitBy : (ℕ → Literal) → List ℕ → Tree → Span → specification.Tree
+splitBy f words t s = record {
+  branch = map f (take (t .len) (t .branch)) ++ map f (codesAt words (s .from) 1);
+  waiting = map (waitingOf f) (map (packedOne (t .len)) (codesAt words (suc (s .from)) (s .count - 1))) ++ stackOf f (t .waiting) (t .count);
+}
+
+-- the arrays have room for it
+pub record SplitFits (e : Extent) (s : Span) : Type 0 where
+  pub some : 1 ≤ s .count
+  pub inside : s .from + s .count ≤ maxClauseLines
+  pub places : e .len < maxPlaces
+  pub waiting : e .count + (s .count - 1) ≤ maxWaiting
+
+-- what is stored for it
+pub record SplitStored (words : List ℕ) (t : Tree) (s : Span) (t′ : Tree) : Type 0 where
+  pub branch : Appended (t .branch) (t .len) (codesAt words (s .from) 1) (t′ .branch) (t′ .len)
+  pub waiting : Pushed (t .waiting) (t .count) (map (packedOne (t .len)) (codesAt words (suc (s .from)) (s .count - 1))) (t′ .waiting) (t′ .count)
 
 -- THE GROWTH of a tree by a step, as the specification says it
 abbrev pub grownBy : (ℕ → Literal) → Tree → Growth → Checked Status

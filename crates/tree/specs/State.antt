@@ -5,7 +5,6 @@ use mathlib.Core.List.{List, [], _∷_, _++_, map}
 use mathlib.Core.Option.{some}
 use Prim.Native.Nat.{ℕ, zero, suc, _+_, _*_, _/_, _%_, _^_, _≤_, _<_}
 use lib.ListN.{length, take, getD}
-use Rattle.tableau.specs.Fields.{place}
 use Rattle.tableau.specs.Terms.{Literal}
 use Rattle.tableau.specs.Tree as specification
 use Rattle.tableau.specs.Tree.{literalAt, onBranch, maxPlaces, maxWaiting, Waiting}
@@ -25,9 +24,16 @@ pub record AtMost (n : ℕ) (a : Alternative) : Type 0 where
   pub second : a .second < codeLimit
   pub third : a .third < codeLimit
 
+-- one code
+abbrev pub oneCode : ℕ → Alternative
+oneCode code = record { count = 1; first = code; second = 0; third = 0 }
+
 -- An alternative that waits is one number: the length of the branch at its split (10 bits), its count (2 bits), two codes.
 abbrev pub packed : ℕ → Alternative → ℕ
 packed cut a = cut + 2 ^ 10 * (a .count + 2 ^ 2 * (a .first + 2 ^ 23 * a .second))
+
+abbrev pub packedOne : ℕ → ℕ → ℕ
+packedOne cut code = packed cut (oneCode code)
 
 abbrev pub cutOf : ℕ → ℕ
 cutOf w = w % 2 ^ 10
@@ -48,7 +54,7 @@ pub record IsBranch (array : List ℕ) (n : ℕ) : Type 0 where
 
 -- r is what check 11 says of place p, on every branch of n literals
 abbrev pub HasPlace : ℕ → ℕ → Bool → Type 0
-HasPlace n p r = (B : List Literal) → length B ≡ n → r ≡ onBranch B place p
+HasPlace n p r = (B : List Literal) → length B ≡ n → r ≡ onBranch B p
 
 -- r is the code at place p
 pub record IsAt (array : List ℕ) (n p r : ℕ) : Type 0 where

@@ -4,13 +4,17 @@
 ghost use mathlib.Core.Path.{_≡_};
 ghost use mathlib.Core.Bool.{true};
 ghost use mathlib.Core.List.{[], _∷_, map};
-ghost use Prim.Native.Nat.{ℕ, _+_, _≤_, _<_, min, max};
+ghost use Prim.Native.Nat.{ℕ, suc, _+_, _-_, _≤_, _<_, min, max};
+ghost use lib.ListN.{getD};
 ghost use Rattle.tableau.specs.Terms.{Literal};
 ghost use Rattle.tableau.specs.Tree.{maxPlaces, maxWaiting, root, passed, close, grown};
+ghost use Rattle.tableau.specs.Reply.{maxClauseLines};
 ghost use Rattle.packing.specs.Packing.{codeLimit};
-ghost use Rattle.tree.specs.State.{codesOf, AtMost, packed, cutOf, unpacked, IsBranch, HasPlace, IsAt, Appended};
+ghost use Rattle.clauses.specs.Held.{codesAt};
+ghost use Rattle.tree.specs.State.{codesOf, AtMost, oneCode, packed, packedOne, cutOf, unpacked, IsBranch, HasPlace, IsAt, Appended};
 ghost use Rattle.tree.specs.State.{IsStack, topOf, begunOf, MayWait, Pushed, treeOf, Within};
 ghost use Rattle.tree.specs.Change.{noLiterals, noneBegun, unchangedFrom, InLimits, Gives};
+use clauses::Span;
 use tableau::Place;
 use tableau::Reason;
 
@@ -96,7 +100,7 @@ impl Alternative {
 
     pub fn one(first: u32) -> Self
         requires { ⌜ first < codeLimit ⌝ }
-        ensures { λ r. ⌜ AtMost 1 r × (codesOf r ≡ first ∷ []) ⌝ }
+        ensures { λ r. ⌜ AtMost 1 r × (r ≡ oneCode first) ⌝ }
     {
         Self {
             count: 1,
@@ -350,5 +354,30 @@ impl Tree {
         waiting[kept] = b.last;
         waiting[kept + 1] = b.first;
         kept + 2
+    }
+
+    // The literals of a span but the first, each an alternative of its own, of a split where the branch has `cut` literals. The second of the span is taken first. The
+    // result is the new count.
+    pub fn push_rest(
+        waiting: &mut [u64; Tree::WAITING],
+        kept: usize,
+        cut: usize,
+        literals: &[u32; clauses::WORDS],
+        span: Span,
+    ) -> usize
+        requires { ⌜ IsStack (now waiting) kept × (1 ≤ span .count) × (kept + (span .count - 1) ≤ maxWaiting) × (cut < maxPlaces) ⌝ }
+        requires { ⌜ (span .from + span .count ≤ maxClauseLines) × ((i : ℕ) → getD (now literals) i 0 < codeLimit) ⌝ }
+        ensures { λ r. ⌜ Pushed (now (waiting .entry)) kept (map (packedOne cut) (codesAt (now (literals .entry)) (suc (span .from)) (span .count - 1)))
+            (now (waiting .exit)) r ⌝ }
+    {
+        let from = span.from + 1;
+        let mut count = kept;
+        let mut i = span.from + span.count;
+        while from < i {
+            i -= 1;
+            waiting[count] = Alternative::one(literals[i]).pack(cut);
+            count += 1;
+        }
+        count
     }
 }

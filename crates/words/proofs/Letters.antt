@@ -20,10 +20,11 @@ lookup-none : {A : Type 0} (w : List ℕ) → lookup {A = A} [] w ≡ none
 unfolding lookup
 lookup-none w = refl
 
-pub no-letter : (x : ℕ) → (x ≡ 84 → ⊥) → (x ≡ 65 → ⊥) → (x ≡ 83 → ⊥) → lookup letters (x ∷ []) ≡ none
+pub no-letter : (x : ℕ) → (x ≡ 84 → ⊥) → (x ≡ 65 → ⊥) → (x ≡ 67 → ⊥) → (x ≡ 83 → ⊥) → lookup letters (x ∷ []) ≡ none
 unfolding letters sameBytes bytes
-no-letter x t a s =
+no-letter x t a c s =
     lookup-other _ _ (x ∷ []) (rw (ne-eqb 84 x (λ e. t (sym e))))
     ∙ lookup-other _ _ (x ∷ []) (rw (ne-eqb 65 x (λ e. a (sym e))))
+    ∙ lookup-other _ _ (x ∷ []) (rw (ne-eqb 67 x (λ e. c (sym e))))
     ∙ lookup-other _ _ (x ∷ []) (rw (ne-eqb 83 x (λ e. s (sym e))))
     ∙ lookup-none (x ∷ [])

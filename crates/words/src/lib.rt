@@ -1,4 +1,4 @@
-// The letters of a checker file, and the words of T, A and S lines: what each stands for, and the fields that it uses. A letter's words stand in one fixed byte string, in
+// The letters of a checker file, and the words of T, A, C and S lines: what each stands for, and the fields that it uses. A letter's words stand in one fixed byte string, in
 // the order of its table.
 ghost use mathlib.Core.List.{[], _∷_};
 ghost use mathlib.Core.Path.{_≡_};
@@ -51,6 +51,9 @@ pub fn letter_of(letter: u8) -> LetterFound
     }
     if letter == b'A' {
         return LetterFound::Known(Letter::A);
+    }
+    if letter == b'C' {
+        return LetterFound::Known(Letter::C);
     }
     if letter == b'S' {
         return LetterFound::Known(Letter::S);
@@ -115,7 +118,7 @@ const RELATIONS: [Relation; RELATION_COUNT] = [
     Relation::Nl,
 ];
 
-const RULE_COUNT: usize = 29;
+const RULE_COUNT: usize = 30;
 
 const RULES: [Rule; RULE_COUNT] = [
     Rule::Eqr,
@@ -147,9 +150,10 @@ const RULES: [Rule; RULE_COUNT] = [
     Rule::Rdm,
     Rule::Cls,
     Rule::Emp,
+    Rule::Cla,
 ];
 
-// "Which fields each rule uses is one fixed table of [twenty-nine] rows."
+// "Which fields each rule uses is one fixed table of thirty rows."
 const RULE_MASKS: [u8; RULE_COUNT] = [
     Mask::P | Mask::Q, // eqr
     Mask::P | Mask::Q, // eql
@@ -180,6 +184,7 @@ const RULE_MASKS: [u8; RULE_COUNT] = [
     Mask::T, // rdm
     Mask::P | Mask::Q, // cls
     Mask::P, // emp
+    Mask::T, // cla
 ];
 
 fn pack(a: u8, b: u8, c: u8) -> usize
@@ -224,7 +229,7 @@ pub fn word_of(word: usize) -> WordFound
     WordFound::Unknown
 }
 
-// A word of an A line.
+// A word of an A or C line.
 pub fn relation_of(word: usize) -> RelationFound
     ensures { λ r. ⌜ RelationKnown word r ⌝ }
 {
@@ -244,7 +249,7 @@ pub fn rule_of(word: usize) -> RuleFound
     let masks = RULE_MASKS;
     let index = search(
         word,
-        b"eqr eql ext cpe cpi cue cui dfe dfi sge sgi cut all nul sep img wit ref sym trn sub rep ler let lea rdh rdm cls emp ",
+        b"eqr eql ext cpe cpi cue cui dfe dfi sge sgi cut all nul sep img wit ref sym trn sub rep ler let lea rdh rdm cls emp cla ",
     );
     if index < RULE_COUNT {
         let rule = rules[index];

@@ -3,6 +3,7 @@
 
 use crate::random::Random;
 
+use super::clauses;
 use super::derivations;
 use super::draft::{lit, Draft, Literal, Place, Sort, TermId, MOST_TERMS, MOST_WAITING};
 use super::refutations;
@@ -257,7 +258,7 @@ impl<'a> Builder<'a> {
     // Steps that help nothing
 
     fn idle_step(&mut self) {
-        match self.random.below(14) {
+        match self.random.below(15) {
             0 => {
                 let t = self.some_term();
                 self.draft.reflexive(t);
@@ -277,6 +278,7 @@ impl<'a> Builder<'a> {
             7 => self.idle_equation(),
             8 => self.idle_substitution(),
             9 => self.idle_read(),
+            10 => clauses::idle_clause(self),
             _ => self.idle_membership(),
         }
     }
@@ -307,7 +309,7 @@ impl<'a> Builder<'a> {
         if !self.may_split() {
             return;
         }
-        match self.random.below(5) {
+        match self.random.below(6) {
             0 => {
                 let u = self.any(Sort::Reference);
                 let t = self.draft.term("sin", &[u]);
@@ -315,6 +317,7 @@ impl<'a> Builder<'a> {
             }
             1 => self.idle_extension(),
             2 => self.idle_image(),
+            3 => clauses::idle_split(self),
             _ => {
                 let (t, w) = (self.any(Sort::Reference), self.any(Sort::Region));
                 self.draft.cut(t, w);

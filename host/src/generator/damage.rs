@@ -68,6 +68,7 @@ fn number_changed(tableau: &Tableau, random: &mut Random) -> Vec<u8> {
             Entry::Term(old) => Entry::Term(other_number(old, random)),
             Entry::Place(old) => Entry::Place(other_number(old, random)),
             Entry::Side(old) => Entry::Side(3 - old.min(3)),
+            Entry::Clause(old) => Entry::Clause(other_number(old, random)),
         };
         break;
     }
@@ -142,7 +143,7 @@ fn variable_at_random(tableau: &Tableau, random: &mut Random) -> Vec<u8> {
     planted::variable_at_random(tableau, random).unwrap_or_else(|| word_changed(tableau, random))
 }
 
-const BYTES: &[u8] = b"TAS,,,\n\n0123456789abcdefghilmnprstuwy -\r\0\xff";
+const BYTES: &[u8] = b"TACS,,,\n\n0123456789abcdefghilmnprstuwy -\r\0\xff";
 
 fn byte_changed(tableau: &Tableau, random: &mut Random) -> Vec<u8> {
     let mut bytes = tableau.bytes();

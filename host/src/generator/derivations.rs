@@ -2,6 +2,7 @@
 //! or derive it by a rule from other literals obtained in the same way.
 
 use super::builder::Builder;
+use super::clauses;
 use super::draft::{lit, Literal, Place, Sort, TermId};
 
 /// Brings the literal onto the branch, by up to `depth` rules one upon the
@@ -15,6 +16,9 @@ pub fn obtain(builder: &mut Builder, wanted: Literal, depth: usize) -> Place {
     }
     if depth == 0 || builder.spent() || builder.random.chance(1, 3) {
         return builder.draft.assume(wanted);
+    }
+    if clauses::has_room(builder) && builder.random.chance(1, 10) {
+        return clauses::with_literal(builder, wanted, depth - 1);
     }
     let Literal { left, word, right } = wanted;
     match word {

@@ -7,6 +7,8 @@ use std::collections::{HashMap, HashSet};
 pub const MOST_TERMS: usize = 600;
 pub const MOST_PLACES: usize = 1_000;
 pub const MOST_WAITING: usize = 200;
+pub const MOST_IN_CLAUSE: usize = 8;
+pub const MOST_CLAUSE_LINES: usize = 400;
 
 #[derive(Debug, Clone, Copy, PartialEq, Eq, Hash)]
 pub struct TermId(pub usize);
@@ -69,6 +71,10 @@ impl Place {
     }
 }
 
+/// A clause by its index, from 0 on.
+#[derive(Debug, Clone, Copy, PartialEq, Eq)]
+pub struct ClauseId(pub usize);
+
 /// What a field of a step holds.
 #[derive(Debug, Clone, Copy, PartialEq, Eq)]
 pub enum Field {
@@ -77,6 +83,8 @@ pub enum Field {
     Term(TermId),
     /// The t of `rep`: 1 left, 2 right.
     Side(u32),
+    /// The t of `cla`.
+    Clause(ClauseId),
 }
 
 pub struct Step {
@@ -95,11 +103,14 @@ struct Waiting {
 pub struct Draft {
     pub terms: Vec<Term>,
     pub assumptions: Vec<Literal>,
+    /// Of each, at least one literal is assumed.
+    pub clauses: Vec<Vec<Literal>>,
     pub steps: Vec<Step>,
     numbers: HashMap<Term, TermId>,
     /// For each term the reference variables in it.
     variables: Vec<HashSet<TermId>>,
-    /// Variables that a step has taken as fresh; no assumption may hold one.
+    /// Variables that a step has taken as fresh; no assumption and no clause
+    /// may hold one.
     witnesses: HashSet<TermId>,
     branch: Vec<Literal>,
     waiting: Vec<Waiting>,
@@ -224,7 +235,9 @@ impl Draft {
 
     pub fn is_fresh(&self, variable: TermId) -> bool {
         let holds = |literal: &Literal| self.holds(literal, variable);
-        !self.assumptions.iter().any(holds) && !self.branch.iter().any(holds)
+        !self.assumptions.iter().any(holds)
+            && !self.clauses.iter().flatten().any(holds)
+            && !self.branch.iter().any(holds)
     }
 
     fn holds(&self, literal: &Literal, variable: TermId) -> bool {
@@ -236,11 +249,31 @@ impl Draft {
 
     /// Assumes a literal, even if it is assumed already.
     pub fn assume(&mut self, literal: Literal) -> Place {
-        for witness in &self.witnesses {
-            assert!(!self.holds(&literal, *witness), "a witness is assumed of");
-        }
+        self.expect_no_witness(&literal);
         self.assumptions.push(literal);
         Place::Assumed(self.assumptions.len() - 1)
+    }
+
+    /// Assumes that one of some literals is true. They take no place.
+    pub fn assume_among(&mut self, literals: Vec<Literal>) -> ClauseId {
+        for literal in &literals {
+            self.expect_no_witness(literal);
+        }
+        assert!((1..=MOST_IN_CLAUSE).contains(&literals.len()));
+        assert!(self.clause_lines() + literals.len() <= MOST_CLAUSE_LINES);
+        self.clauses.push(literals);
+        ClauseId(self.clauses.len() - 1)
+    }
+
+    /// How many literals the clauses have together.
+    pub fn clause_lines(&self) -> usize {
+        self.clauses.iter().map(Vec::len).sum()
+    }
+
+    fn expect_no_witness(&self, literal: &Literal) {
+        for witness in &self.witnesses {
+            assert!(!self.holds(literal, *witness), "a witness is assumed of");
+        }
     }
 
     /// A step with these alternatives. Gives the place of the first literal

@@ -5,6 +5,7 @@ use std::collections::HashSet;
 
 use crate::random::Random;
 
+use super::clause_damage;
 use super::draft::{MOST_PLACES, MOST_TERMS};
 use super::planted;
 use super::refusal;
@@ -14,7 +15,7 @@ use super::Expected;
 pub type Damaged = Option<(Vec<u8>, Expected)>;
 pub type Damage = fn(&Tableau, &mut Random) -> Damaged;
 
-pub const EXACT: [(&str, Damage); 27] = [
+pub const EXACT: [(&str, Damage); 36] = [
     ("last closing dropped", last_closing_dropped),
     ("last closing doubled", last_closing_doubled),
     ("a line misshapen", misshapen),
@@ -41,7 +42,25 @@ pub const EXACT: [(&str, Damage); 27] = [
     ("w inside a right side", planted::inside_on_the_right),
     ("w inside both sides", planted::inside_on_both_sides),
     ("w as a left side", planted::on_the_left),
+    ("w in a clause only", planted::in_a_clause_only),
     ("a step by fir", planted::former_rule),
+    ("a clause numbered 0", clause_damage::number_0),
+    ("a gap in the clauses", clause_damage::gap),
+    ("clauses going back", clause_damage::going_back),
+    ("a ninth literal", clause_damage::ninth_literal),
+    (
+        "a T or A line among the clauses",
+        clause_damage::earlier_kind_among,
+    ),
+    (
+        "a clause before an A line",
+        clause_damage::clause_before_assumption,
+    ),
+    ("a split of no clause", clause_damage::no_such_clause),
+    (
+        "a clause without its last alternative",
+        clause_damage::last_alternative_left_out,
+    ),
 ];
 
 /// A random line that is as asked.
@@ -75,7 +94,7 @@ fn some_entry(
 }
 
 /// The file with one field changed, refused at that line.
-fn changed(tableau: &Tableau, index: usize, field: usize, new: Entry, number: u32) -> Damaged {
+pub fn changed(tableau: &Tableau, index: usize, field: usize, new: Entry, number: u32) -> Damaged {
     let mut lines = tableau.lines.clone();
     lines[index].entries[field] = new;
     Some((text(&lines), refusal(number, index + 1)))
@@ -87,7 +106,7 @@ fn with_doubled(tableau: &Tableau, index: usize) -> Vec<u8> {
     text(&lines)
 }
 
-fn without(tableau: &Tableau, from: usize, to: usize) -> Vec<u8> {
+pub fn without(tableau: &Tableau, from: usize, to: usize) -> Vec<u8> {
     let mut lines = tableau.lines.clone();
     lines.drain(from..to);
     text(&lines)
@@ -137,7 +156,7 @@ fn last_lf_dropped(tableau: &Tableau, _: &mut Random) -> Damaged {
     Some((bytes, refusal(2, tableau.lines.len())))
 }
 
-/// A T or A line after the steps, even a good one.
+/// A T, A or C line after the steps, even a good one.
 fn earlier_kind(tableau: &Tableau, random: &mut Random) -> Damaged {
     let index = some_line(tableau, random, |line| line.letter != 'S')?;
     let mut lines = tableau.lines.clone();
@@ -150,11 +169,11 @@ const TERM_WORDS: [&str; 17] = [
     "fnv", "clv", "typ", "dty",
 ];
 const LITERAL_WORDS: [&str; 6] = ["in", "ni", "eq", "ne", "le", "nl"];
-/// The twenty-nine rules.
-pub const RULES: [&str; 29] = [
+/// The thirty rules.
+pub const RULES: [&str; 30] = [
     "eqr", "eql", "ext", "cpe", "cpi", "cue", "cui", "dfe", "dfi", "sge", "sgi", "cut", "all",
     "nul", "sep", "img", "wit", "ref", "sym", "trn", "sub", "rep", "ler", "let", "lea", "rdh",
-    "rdm", "cls", "emp",
+    "rdm", "cla", "cls", "emp",
 ];
 /// A rule in older files; now no letter has the word.
 pub const FORMER_RULE: &str = "fir";
@@ -163,7 +182,7 @@ pub const FORMER_RULE: &str = "fir";
 pub fn words_of(letter: char) -> &'static [&'static str] {
     match letter {
         'T' => &TERM_WORDS,
-        'A' => &LITERAL_WORDS,
+        'A' | 'C' => &LITERAL_WORDS,
         _ => &RULES,
     }
 }
@@ -216,7 +235,7 @@ fn no_such_term(tableau: &Tableau, random: &mut Random) -> Damaged {
 /// Both sides of `in`, `ni` or `cut` exchanged.
 fn wrong_sorts(tableau: &Tableau, random: &mut Random) -> Damaged {
     let asked = |line: &Line| match line.letter {
-        'A' => matches!(line.word, "in" | "ni"),
+        'A' | 'C' => matches!(line.word, "in" | "ni"),
         'S' => line.word == "cut",
         _ => false,
     };
@@ -224,7 +243,7 @@ fn wrong_sorts(tableau: &Tableau, random: &mut Random) -> Damaged {
     let mut lines = tableau.lines.clone();
     let entries = &mut lines[index].entries;
     match tableau.lines[index].letter {
-        'A' => entries.swap(0, 1),
+        'A' | 'C' => entries.swap(0, 1),
         _ => entries.swap(2, 3),
     }
     Some((text(&lines), refusal(9, index + 1)))
@@ -289,7 +308,7 @@ fn looked_up_left_out(tableau: &Tableau, random: &mut Random) -> Damaged {
 
 /// As many closings are needed as alternatives were added, and one. So a file
 /// that lacks or has one too many can't be accepted.
-fn miscounted(bytes: Vec<u8>) -> Damaged {
+pub fn miscounted(bytes: Vec<u8>) -> Damaged {
     Some((bytes, Expected::Refused))
 }
 

@@ -53,6 +53,8 @@ const KINDS: &[Kind] = &[
     ("region rules", mixtures::region_rules),
     ("class and heap rules", mixtures::class_and_heap_rules),
     ("900 A lines", mixtures::many_assumptions),
+    ("`cla`, 50 clauses of 8", splits::clauses_of_eight),
+    ("`cla`, 200 clauses of 2", splits::clauses_of_two),
 ];
 
 pub fn all() -> Vec<FullTable> {

@@ -17,7 +17,7 @@ mod truth;
 use crate::random::Random;
 
 use super::draft::denial;
-use super::tableau::{text, Line, Tableau};
+use super::tableau::{text, Tableau};
 use super::{closed_tableau, near_misses, neighbour, noise, small_tableau};
 use blind_damage::blind;
 use fitting::{fit, names_of};
@@ -99,12 +99,12 @@ pub fn pairs(seed: u64, batch: u64) -> Vec<Pair> {
     pairs
 }
 
-/// T and A lines and a heap file, both without fault.
+/// T, A and C lines and a heap file, both without fault.
 struct GoodPair {
     /// Has no steps.
     table: Tableau,
     heap: HeapFile,
-    /// Which of the assumptions are true.
+    /// Which literals are true, those of A lines and then those of C lines.
     truths: Vec<bool>,
 }
 
@@ -112,7 +112,11 @@ impl GoodPair {
     fn new(random: &mut Random) -> GoodPair {
         let table = assumptions::table(random);
         let heap = fit(&names_of(&table), random);
-        let truths = truth::truths(&table.bytes(), &heap);
+        GoodPair::of(table, heap)
+    }
+
+    fn of(table: Tableau, heap: HeapFile) -> GoodPair {
+        let truths = truth::truths(&table, &heap);
         GoodPair {
             table,
             heap,
@@ -122,12 +126,18 @@ impl GoodPair {
 
     /// The reply when only so many lines of the checker file are read.
     fn reply_to_lines(&self, lines: usize) -> Evaluation {
-        let read = lines.saturating_sub(self.table.terms);
-        let mut truths = self.truths.iter().take(read);
-        let line = truths
-            .position(|truth| !truth)
-            .map_or(0, |index| self.table.terms + index + 1);
-        Evaluation::Reply([0, 0, line as u32])
+        let ranges = self.table.assumed_ranges().into_iter();
+        let mut read = ranges
+            .filter(|(from, _)| *from < lines)
+            .map(|(from, to)| (from, to.min(lines)));
+        let is_false = |range: &(usize, usize)| !self.has_true(&self.truths, *range);
+        let (_, last_line) = read.find(is_false).unwrap_or((0, 0));
+        Evaluation::Reply([0, 0, last_line as u32])
+    }
+
+    /// Whether one of the literals on these lines is true.
+    fn has_true(&self, truths: &[bool], (from, to): (usize, usize)) -> bool {
+        truths[from - self.table.terms..to - self.table.terms].contains(&true)
     }
 
     fn reply(&self) -> Evaluation {
@@ -143,38 +153,56 @@ impl GoodPair {
         }
     }
 
-    /// The lines with every false assumption denied.
-    fn true_lines(&self) -> Vec<Line> {
+    /// The checker file with literals denied, so that these are their truths.
+    fn with_truths(&self, wanted: &[bool]) -> Vec<u8> {
         let mut lines = self.table.lines.clone();
-        for (line, truth) in lines[self.table.terms..].iter_mut().zip(&self.truths) {
-            if !truth {
+        let truths = self.truths.iter().zip(wanted);
+        for (line, (truth, wanted)) in lines[self.table.terms..].iter_mut().zip(truths) {
+            if truth != wanted {
                 line.word = denial(line.word);
             }
         }
-        lines
+        text(&lines)
+    }
+
+    /// Truths with which all that is assumed is true.
+    fn all_true(&self, random: &mut Random) -> Vec<bool> {
+        let mut truths = self.truths.clone();
+        for (from, to) in self.table.assumed_ranges() {
+            if !self.has_true(&truths, (from, to)) {
+                truths[from - self.table.terms + random.below(to - from)] = true;
+            }
+        }
+        truths
     }
 
     fn undamaged(&self, random: &mut Random, pairs: &mut Vec<Pair>) {
         pairs.push(self.pair("assumptions at random"));
-        let mut lines = self.true_lines();
+        let mut truths = self.all_true(random);
         pairs.push(Pair {
-            checker: text(&lines),
+            checker: self.with_truths(&truths),
             expected: Evaluation::Reply([0, 0, 0]),
             ..self.pair("all true")
         });
         pairs.push(Pair {
-            checker: text(&lines),
+            checker: self.with_truths(&truths),
             heap: self.heap.in_another_order(random).bytes(),
             expected: Evaluation::Reply([0, 0, 0]),
             ..self.pair("all true, D lines in another order")
         });
-        if self.table.assumptions > 0 {
-            let index = self.table.terms + random.below(self.table.assumptions);
-            lines[index].word = denial(lines[index].word);
+        let ranges = self.table.assumed_ranges();
+        let mut first_false = usize::MAX;
+        for kind in ["one is false", "two are false"] {
+            if ranges.is_empty() {
+                return;
+            }
+            let (from, to) = random.pick(&ranges);
+            truths[from - self.table.terms..to - self.table.terms].fill(false);
+            first_false = first_false.min(to);
             pairs.push(Pair {
-                checker: text(&lines),
-                expected: Evaluation::Reply([0, 0, index as u32 + 1]),
-                ..self.pair("one is false")
+                checker: self.with_truths(&truths),
+                expected: Evaluation::Reply([0, 0, first_false as u32]),
+                ..self.pair(kind)
             });
         }
     }

@@ -2,6 +2,7 @@
 
 use crate::random::Random;
 
+use super::clause_limits;
 use super::closable::{Closable, MEMBER};
 use super::draft::{lit, Draft, Place, TermId, MOST_PLACES, MOST_TERMS, MOST_WAITING};
 use super::tableau::{self, Tableau};
@@ -17,12 +18,13 @@ pub fn samples(random: &mut Random) -> Vec<Sample> {
     derived_places(&mut samples);
     waiting(random, &mut samples);
     three_alternatives(&mut samples);
+    samples.extend(clause_limits::samples());
     samples
 }
 
 /// The accepted file up to its first line that closes, then one line more that
 /// is refused.
-fn beyond(kind: &'static str, tableau: &Tableau, line: &str, number: u32) -> Sample {
+pub fn beyond(kind: &'static str, tableau: &Tableau, line: &str, number: u32) -> Sample {
     let kept = tableau.lines.iter().take_while(|line| !line.closes);
     let mut text: String = kept.clone().map(|line| line.text()).collect();
     text += line;

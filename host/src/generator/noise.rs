@@ -29,7 +29,7 @@ fn random_bytes(random: &mut Random) -> Vec<u8> {
 fn bytes_of_files(random: &mut Random) -> Vec<u8> {
     let length = random.below(200);
     (0..length)
-        .map(|_| random.pick(b"TTAASS,,,,,,,,,,\n\n000123456789inpqrtuwcel"))
+        .map(|_| random.pick(b"TTAACCSS,,,,,,,,,,\n\n000123456789inpqrtuwcel"))
         .collect()
 }
 
@@ -43,7 +43,7 @@ fn some_word(letter: char, random: &mut Random) -> &'static str {
 
 fn random_lines(random: &mut Random) -> Vec<u8> {
     let mut text = String::new();
-    for letter in ['T', 'A', 'S'] {
+    for letter in ['T', 'A', 'C', 'S'] {
         for _ in 0..random.below(6) {
             let word = some_word(letter, random);
             let used = random.below(5);
@@ -61,7 +61,7 @@ fn random_lines(random: &mut Random) -> Vec<u8> {
 /// Some first lines of a closed tableau, then steps whose unused fields are
 /// mostly 0 and whose places and terms mostly exist.
 fn random_steps(tableau: &Tableau, random: &mut Random) -> Vec<u8> {
-    let first_step = tableau.terms + tableau.assumptions;
+    let first_step = tableau.first_step();
     let kept = first_step + random.below(tableau.steps);
     let mut text: String = tableau.lines[..kept]
         .iter()
@@ -81,7 +81,7 @@ fn used_fields(rule: &str) -> [bool; 4] {
         FORMER_RULE => "w",
         "cpi" | "dfi" | "rep" => "pqt",
         "cui" | "img" => "pt",
-        "sgi" | "ref" | "ler" | "rdh" | "rdm" => "t",
+        "sgi" | "ref" | "ler" | "rdh" | "rdm" | "cla" => "t",
         "cut" => "tw",
         "sub" => "ptw",
         _ => "p",
@@ -100,8 +100,10 @@ fn random_step(tableau: &Tableau, steps_before: usize, random: &mut Random) -> S
             *number = 1 + random.below(bound);
         }
     }
-    if rule == "rep" {
-        numbers[2] = 1 + random.below(2);
+    match rule {
+        "rep" => numbers[2] = 1 + random.below(2),
+        "cla" => numbers[2] = 1 + random.below(tableau.clauses + 1),
+        _ => {}
     }
     let [p, q, t, w] = numbers;
     format!("S,{rule},{p},{q},{t},{w}\n")

@@ -62,6 +62,15 @@ impl Planted {
         Entry::Place(self.assumptions as u32)
     }
 
+    /// Plants a clause of one literal as the last one.
+    fn assume_alone(&mut self, tableau: &Tableau, left: Entry, word: &'static str, right: Entry) {
+        let clause = Entry::Clause(tableau.clauses as u32 + 1);
+        let line = plain_line('C', word, [left, right, clause, NONE]);
+        let index = self.before_steps + tableau.first_step();
+        self.lines.insert(index, line);
+        self.before_steps += 1;
+    }
+
     /// Plants a step before the line that had this index. Gives the number of
     /// the planted line.
     fn step(&mut self, before: usize, rule: &'static str, entries: [Entry; 4]) -> usize {
@@ -86,7 +95,7 @@ fn equation(tableau: &Tableau, random: &mut Random) -> Option<(Entry, u32, u32)>
 
 /// `sub` as the first step, where it may not be.
 fn refused_sub(tableau: &Tableau, mut planted: Planted, entries: [Entry; 4]) -> Damaged {
-    let line = planted.step(tableau.terms + tableau.assumptions, "sub", entries);
+    let line = planted.step(tableau.first_step(), "sub", entries);
     planted.refused(12, line)
 }
 
@@ -155,6 +164,26 @@ pub fn on_the_left(tableau: &Tableau, random: &mut Random) -> Damaged {
     planted.refused(13, line + 1)
 }
 
+/// A clause that no step splits has w in it, itself or inside a larger term. So
+/// w is not fresh where it is first taken.
+pub fn in_a_clause_only(tableau: &Tableau, random: &mut Random) -> Damaged {
+    let index = some_line(tableau, random, Line::takes_fresh)?;
+    let w = tableau.lines[index].entries[3];
+    let takes_w = |line: &Line| line.takes_fresh() && line.entries[3] == w;
+    let first = tableau.lines.iter().position(takes_w)?;
+    let mut planted = Planted::new(tableau)?;
+    let (left, word, right) = match random.below(3) {
+        0 => (w, "ni", planted.term("all", NONE)),
+        1 => (planted.term("nul", NONE), "in", planted.term("sin", w)),
+        _ => {
+            let typ = planted.term("typ", w);
+            (typ, "le", typ)
+        }
+    };
+    planted.assume_alone(tableau, left, word, right);
+    planted.refused(13, first + planted.before_steps + 1)
+}
+
 /// A step by a word that is no rule any more, with the fields that older files
 /// have or with others: among the steps, or after the last, where the tree is
 /// closed.
@@ -172,7 +201,7 @@ pub fn former_rule(tableau: &Tableau, random: &mut Random) -> Damaged {
     } else {
         random.below(tableau.steps)
     };
-    let index = tableau.terms + tableau.assumptions + steps_before;
+    let index = tableau.first_step() + steps_before;
     let mut lines = tableau.lines.clone();
     let entries = numbers.map(Entry::Name);
     lines.insert(index, plain_line('S', FORMER_RULE, entries));

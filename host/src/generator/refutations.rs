@@ -3,6 +3,7 @@
 //! splits too.
 
 use super::builder::Builder;
+use super::clauses;
 use super::derivations::obtain;
 use super::draft::{denial, lit, Literal, Place, Sort, TermId};
 use super::heap_refutations as heaps;
@@ -10,7 +11,7 @@ use super::identities;
 
 type Refutation = fn(&mut Builder, usize);
 
-const REFUTATIONS: [Refutation; 33] = [
+const REFUTATIONS: [Refutation; 34] = [
     eqr,
     eql,
     ext_of_all,
@@ -40,6 +41,7 @@ const REFUTATIONS: [Refutation; 33] = [
     heaps::rdh,
     heaps::rdm,
     heaps::rdm_by_field,
+    clauses::refuted,
     contradiction,
     empty,
     identities::unequal,
@@ -63,12 +65,12 @@ pub fn contradiction_again(builder: &mut Builder) {
     contradiction(builder, 0);
 }
 
-fn denied(literal: Literal) -> Literal {
+pub fn denied(literal: Literal) -> Literal {
     lit(literal.left, denial(literal.word), literal.right)
 }
 
 /// Closes the branch with the literal at a place and its denial.
-fn deny(builder: &mut Builder, place: Place, denial_place: Place) {
+pub fn deny(builder: &mut Builder, place: Place, denial_place: Place) {
     if matches!(builder.draft.literal(place).word, "in" | "eq" | "le") {
         builder.draft.cls(place, denial_place);
     } else {
@@ -92,7 +94,7 @@ fn two_regions(builder: &mut Builder) -> (TermId, TermId) {
     (region(builder), region(builder))
 }
 
-fn some_literal(builder: &mut Builder) -> Literal {
+pub fn some_literal(builder: &mut Builder) -> Literal {
     match builder.random.below(3) {
         0 => lit(reference(builder), "in", region(builder)),
         1 => {

@@ -1,7 +1,7 @@
-//! The twenty-nine rules, as steps of a draft. Who calls one knows that its
+//! The thirty rules, as steps of a draft. Who calls one knows that its
 //! needs are met. Each gives the place of the first literal added.
 
-use super::draft::{lit, Draft, Field, Place, TermId};
+use super::draft::{lit, ClauseId, Draft, Field, Place, TermId};
 
 const NONE: Field = Field::Unused;
 
@@ -223,6 +223,13 @@ impl Draft {
         let changed = vec![lit(u, "eq", y), lit(f, "eq", g)];
         let kept = vec![lit(t, "eq", rea)];
         self.add("rdm", [NONE, NONE, of(t), NONE], vec![changed, kept])
+    }
+
+    pub fn cla(&mut self, clause: ClauseId) -> Place {
+        let literals = self.clauses[clause.0].iter();
+        let alternatives = literals.map(|literal| vec![*literal]).collect();
+        let fields = [NONE, NONE, Field::Clause(clause), NONE];
+        self.add("cla", fields, alternatives)
     }
 
     pub fn cls(&mut self, p: Place, q: Place) {

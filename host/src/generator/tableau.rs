@@ -2,7 +2,7 @@
 
 use crate::random::Random;
 
-use super::draft::{denial, Draft, Field, Literal, Place, Step, TermId};
+use super::draft::{denial, ClauseId, Draft, Field, Literal, Place, Step, TermId};
 
 /// What a field of a line holds.
 #[derive(Debug, Clone, Copy, PartialEq, Eq, Hash)]
@@ -12,6 +12,7 @@ pub enum Entry {
     Term(u32),
     Place(u32),
     Side(u32),
+    Clause(u32),
 }
 
 impl Entry {
@@ -19,7 +20,7 @@ impl Entry {
         match self {
             Entry::Unused => 0,
             Entry::Name(number) | Entry::Term(number) => number,
-            Entry::Place(number) | Entry::Side(number) => number,
+            Entry::Place(number) | Entry::Side(number) | Entry::Clause(number) => number,
         }
     }
 }
@@ -42,6 +43,11 @@ impl Line {
         format!("{},{},{a},{b},{c},{d}\n", self.letter, self.word)
     }
 
+    /// The number of the clause of a C line.
+    pub fn clause(&self) -> u32 {
+        self.entries[2].number()
+    }
+
     /// Whether the step takes a fresh variable.
     pub fn takes_fresh(&self) -> bool {
         self.letter == 'S' && matches!(self.word, "ext" | "wit")
@@ -52,7 +58,10 @@ impl Line {
 pub struct Tableau {
     pub lines: Vec<Line>,
     pub terms: usize,
+    /// The A lines.
     pub assumptions: usize,
+    pub clauses: usize,
+    pub clause_lines: usize,
     pub steps: usize,
     pub closings: usize,
 }
@@ -64,9 +73,39 @@ impl Tableau {
 
     /// The reply that a closed tableau gets: a yes and its counts.
     pub fn reply(&self) -> [u32; 6] {
-        let [terms, assumptions, steps, closings] =
-            [self.terms, self.assumptions, self.steps, self.closings].map(|count| count as u32);
-        [0, 0, terms, assumptions, steps, closings]
+        let assumed = self.assumptions + self.clauses;
+        let [terms, assumed, steps, closings] =
+            [self.terms, assumed, self.steps, self.closings].map(|count| count as u32);
+        [0, 0, terms, assumed, steps, closings]
+    }
+
+    /// Where the C lines begin.
+    pub fn first_clause_line(&self) -> usize {
+        self.terms + self.assumptions
+    }
+
+    /// Where the steps begin.
+    pub fn first_step(&self) -> usize {
+        self.first_clause_line() + self.clause_lines
+    }
+
+    /// The lines (from, up to) of all that is assumed: of every A line, and of
+    /// every clause.
+    pub fn assumed_ranges(&self) -> Vec<(usize, usize)> {
+        let lines = &self.lines[self.terms..self.first_step()];
+        let one_clause =
+            |one: &Line, next: &Line| one.letter == 'C' && one.clause() == next.clause();
+        let mut end = self.terms;
+        let ranges = lines.chunk_by(one_clause).map(|assumed| {
+            end += assumed.len();
+            (end - assumed.len(), end)
+        });
+        ranges.collect()
+    }
+
+    /// The lines (from, up to) of every clause.
+    pub fn clause_ranges(&self) -> Vec<(usize, usize)> {
+        self.assumed_ranges().split_off(self.assumptions)
     }
 
     /// The rule of each step.
@@ -75,18 +114,35 @@ impl Tableau {
         steps.map(|line| line.word)
     }
 
-    /// The files with one assumption left out, and those with one denied.
-    /// Their steps fit no more, but their assumptions may be true.
+    /// The files with one assumption or one clause left out, and those with one
+    /// literal denied. Their steps fit no more, but their assumptions may be
+    /// true.
     pub fn with_other_assumptions(&self) -> Vec<Vec<u8>> {
         let mut files = Vec::new();
-        for index in self.terms..self.terms + self.assumptions {
+        for index in self.terms..self.first_step() {
             let mut lines = self.lines.clone();
             lines[index].word = denial(lines[index].word);
             files.push(text(&lines));
-            lines.remove(index);
-            files.push(text(&lines));
+            if index < self.first_clause_line() {
+                lines.remove(index);
+                files.push(text(&lines));
+            }
+        }
+        for (from, to) in self.clause_ranges() {
+            files.push(text(&self.without_clause(from, to)));
         }
         files
+    }
+
+    /// The lines without those of one clause, the later ones renumbered on the
+    /// C lines.
+    fn without_clause(&self, from: usize, to: usize) -> Vec<Line> {
+        let mut lines = self.lines.clone();
+        for line in &mut lines[to..self.first_step()] {
+            line.entries[2] = Entry::Clause(line.clause() - 1);
+        }
+        lines.drain(from..to);
+        lines
     }
 
     /// How many alternatives wait before this line.
@@ -128,10 +184,18 @@ pub fn text(lines: &[Line]) -> Vec<u8> {
     texts.concat().into_bytes()
 }
 
-/// Numbers for terms and assumed places.
+/// The order in which terms, assumptions and clauses stand.
+struct Order {
+    terms: Vec<usize>,
+    assumptions: Vec<usize>,
+    clauses: Vec<usize>,
+}
+
+/// Numbers for terms, assumed places and clauses.
 struct Numbering {
     terms: Vec<u32>,
     assumed: Vec<u32>,
+    clauses: Vec<u32>,
 }
 
 impl Numbering {
@@ -146,12 +210,17 @@ impl Numbering {
         }
     }
 
+    fn clause(&self, clause: ClauseId) -> Entry {
+        Entry::Clause(self.clauses[clause.0])
+    }
+
     fn entry(&self, field: Field) -> Entry {
         match field {
             Field::Unused => Entry::Unused,
             Field::Place(place) => Entry::Place(self.place(place)),
             Field::Term(term) => Entry::Term(self.term(term)),
             Field::Side(side) => Entry::Side(side),
+            Field::Clause(clause) => self.clause(clause),
         }
     }
 }
@@ -165,33 +234,51 @@ fn numbers_in(order: &[usize]) -> Vec<u32> {
     numbers
 }
 
-/// Finishes a closed draft whose terms and assumptions keep their order.
+/// Finishes a closed draft whose terms, assumptions and clauses keep their
+/// order.
 pub fn in_order(draft: &Draft) -> Tableau {
-    let terms: Vec<usize> = (0..draft.terms.len()).collect();
-    let assumptions: Vec<usize> = (0..draft.assumptions.len()).collect();
-    closed(draft, number(draft, &terms, &assumptions))
-}
-
-/// Finishes a closed draft with its terms and assumptions in a random order.
-pub fn shuffled(draft: &Draft, random: &mut Random) -> Tableau {
-    closed(draft, shuffled_lines(draft, random))
-}
-
-/// The lines of a draft, closed or not, with its terms and assumptions in a
-/// random order.
-pub fn shuffled_lines(draft: &Draft, random: &mut Random) -> Vec<Line> {
-    let terms = random_order_of_terms(draft, random);
-    let mut assumptions: Vec<usize> = (0..draft.assumptions.len()).collect();
-    random.shuffle(&mut assumptions);
-    number(draft, &terms, &assumptions)
-}
-
-fn closed(draft: &Draft, lines: Vec<Line>) -> Tableau {
     assert!(draft.is_closed());
+    let order = Order {
+        terms: (0..draft.terms.len()).collect(),
+        assumptions: (0..draft.assumptions.len()).collect(),
+        clauses: (0..draft.clauses.len()).collect(),
+    };
+    counted(draft, number(draft, &order))
+}
+
+/// Finishes a closed draft with its terms, assumptions and clauses in a random
+/// order.
+pub fn shuffled(draft: &Draft, random: &mut Random) -> Tableau {
+    assert!(draft.is_closed());
+    counted(draft, shuffled_lines(draft, random))
+}
+
+/// The same of a draft without steps.
+pub fn without_steps(draft: &Draft, random: &mut Random) -> Tableau {
+    assert!(draft.steps.is_empty());
+    counted(draft, shuffled_lines(draft, random))
+}
+
+/// The lines of a draft, closed or not, with its terms, assumptions and clauses
+/// in a random order.
+pub fn shuffled_lines(draft: &Draft, random: &mut Random) -> Vec<Line> {
+    let mut order = Order {
+        terms: random_order_of_terms(draft, random),
+        assumptions: (0..draft.assumptions.len()).collect(),
+        clauses: (0..draft.clauses.len()).collect(),
+    };
+    random.shuffle(&mut order.assumptions);
+    random.shuffle(&mut order.clauses);
+    number(draft, &order)
+}
+
+fn counted(draft: &Draft, lines: Vec<Line>) -> Tableau {
     Tableau {
         lines,
         terms: draft.terms.len(),
         assumptions: draft.assumptions.len(),
+        clauses: draft.clauses.len(),
+        clause_lines: draft.clause_lines(),
         steps: draft.steps.len(),
         closings: draft.closings(),
     }
@@ -222,17 +309,25 @@ fn random_order_of_terms(draft: &Draft, random: &mut Random) -> Vec<usize> {
     order
 }
 
-fn number(draft: &Draft, terms: &[usize], assumptions: &[usize]) -> Vec<Line> {
+fn number(draft: &Draft, order: &Order) -> Vec<Line> {
     let numbering = Numbering {
-        terms: numbers_in(terms),
-        assumed: numbers_in(assumptions),
+        terms: numbers_in(&order.terms),
+        assumed: numbers_in(&order.assumptions),
+        clauses: numbers_in(&order.clauses),
     };
     let mut lines = Vec::new();
-    for index in terms {
+    for index in &order.terms {
         lines.push(term_line(draft, TermId(*index), &numbering));
     }
-    for index in assumptions {
-        lines.push(assumption_line(&draft.assumptions[*index], &numbering));
+    for index in &order.assumptions {
+        let literal = &draft.assumptions[*index];
+        lines.push(literal_line('A', literal, Entry::Unused, &numbering));
+    }
+    for index in &order.clauses {
+        let clause = numbering.clause(ClauseId(*index));
+        for literal in &draft.clauses[*index] {
+            lines.push(literal_line('C', literal, clause, &numbering));
+        }
     }
     for step in &draft.steps {
         lines.push(step_line(step, &numbering));
@@ -264,11 +359,11 @@ fn term_line(draft: &Draft, id: TermId, numbering: &Numbering) -> Line {
     plain_line('T', term.word, entries)
 }
 
-fn assumption_line(literal: &Literal, numbering: &Numbering) -> Line {
+/// An A line or a C line.
+fn literal_line(letter: char, literal: &Literal, clause: Entry, numbering: &Numbering) -> Line {
     let left = Entry::Term(numbering.term(literal.left));
     let right = Entry::Term(numbering.term(literal.right));
-    let entries = [left, right, Entry::Unused, Entry::Unused];
-    plain_line('A', literal.word, entries)
+    plain_line(letter, literal.word, [left, right, clause, Entry::Unused])
 }
 
 fn step_line(step: &Step, numbering: &Numbering) -> Line {

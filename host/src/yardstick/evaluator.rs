@@ -6,6 +6,7 @@ mod facts;
 mod heap;
 mod values;
 
+use super::literals::Literal;
 use super::reader::{refused, Reader};
 use super::refusal::{ensure, Refusal};
 use super::steps::Checker;
@@ -20,7 +21,8 @@ const CHECKER_FILE: u32 = 1;
 const HEAP_FILE: u32 = 2;
 
 /// Refusal number, file (1 checker, 2 heap, 0 without a refusal), line: that of
-/// the refusal, else that of the first false A line, 0 where all are true.
+/// the refusal, else that of the first false A line, else the last line of the
+/// first clause with no true literal, 0 where there is none.
 pub fn evaluate(checker: &[u8], heap: &[u8]) -> [u32; 3] {
     let first_false = || -> Result<u32, Refused> {
         let checker = read_checker_file(checker)?;
@@ -33,14 +35,19 @@ pub fn evaluate(checker: &[u8], heap: &[u8]) -> [u32; 3] {
     }
 }
 
-/// The line of the first false A line, or 0.
+/// The line of the first false A line, else the last line of the first clause
+/// with no true literal, or 0.
 fn first_false(checker: &Checker, heap: &Heap) -> u32 {
     let values = Values::of_terms(&checker.terms, heap);
-    let assumptions = checker.tree.branch();
-    let is_false = |literal: &u32| !values.is_true(*literal, &checker.terms, heap);
-    match assumptions.iter().position(is_false) {
-        // The A lines come directly after the T lines.
-        Some(index) => checker.terms.count() + index as u32 + 1,
+    let (assumptions, clauses) = (checker.tree.branch(), &checker.clauses);
+    let is_false = |literal: &Literal| !values.is_true(*literal, &checker.terms, heap);
+    // The A lines come directly after the T lines, the C lines directly after
+    // these.
+    if let Some(index) = assumptions.iter().position(is_false) {
+        return checker.terms.count() + index as u32 + 1;
+    }
+    match clauses.first_end(is_false) {
+        Some(end) => checker.terms.count() + (assumptions.len() + end) as u32,
         None => 0,
     }
 }
@@ -57,7 +64,7 @@ fn read_checker_file(file: &[u8]) -> Result<Checker, Refused> {
     }
 }
 
-/// The T lines and the A lines.
+/// The T lines, the A lines and the C lines.
 #[inline(always)]
 fn read_assumptions(reader: &mut Reader, checker: &mut Checker) -> Result<(), Refusal> {
     reader.read_before_steps()?;
@@ -67,6 +74,10 @@ fn read_assumptions(reader: &mut Reader, checker: &mut Checker) -> Result<(), Re
     }
     while reader.line.letter == Some(b'A') {
         checker.assume(reader.line)?;
+        reader.read_before_steps()?;
+    }
+    while reader.line.letter == Some(b'C') {
+        checker.assume_among(reader.line)?;
         reader.read_before_steps()?;
     }
     match reader.line.letter {

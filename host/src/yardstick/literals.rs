@@ -21,6 +21,9 @@ pub enum Relation {
 
 const DENIAL: Literal = 1 << RELATION;
 
+/// No literal, as 0 is no term number.
+pub const NO_LITERAL: Literal = 0;
+
 #[inline(always)]
 pub fn literal(left: u32, relation: Relation, right: u32) -> Literal {
     (relation as Literal) << RELATION | left << NUMBER_BITS | right

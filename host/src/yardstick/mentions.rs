@@ -1,6 +1,7 @@
-//! Which reference variables stand in the literals of the branch.
+//! Which reference variables stand in the literals of the branch and of the
+//! clauses.
 
-use super::literals::{left, right};
+use super::literals::{left, right, Literal};
 use super::packing::{field, has_arguments, has_head, Packed, RFV};
 use super::terms::{Terms, MOST_TERMS};
 use super::tree::Tree;
@@ -24,7 +25,8 @@ enum Variables {
 pub struct Mentions {
     in_terms: Vec<Variables>,
     rows: Vec<Row>,
-    /// The variables in the first `noted` literals of the branch.
+    /// The variables in the clauses and in the first `noted` literals of the
+    /// branch.
     now: Row,
     noted: usize,
     /// What `noted` and `now` were at the splits of the alternatives that have
@@ -33,16 +35,24 @@ pub struct Mentions {
 }
 
 impl Mentions {
-    /// Whether a reference variable stands in no literal of the branch.
-    pub fn is_fresh(&mut self, variable: u32, terms: &Terms, tree: &Tree) -> bool {
+    /// Whether a reference variable stands in no literal of the branch, and in
+    /// none of the clauses.
+    pub fn is_fresh(
+        &mut self,
+        variable: u32,
+        terms: &Terms,
+        clauses: &[Literal],
+        tree: &Tree,
+    ) -> bool {
         if self.in_terms.is_empty() {
             self.note_terms(terms.all());
+            self.note_literals(clauses);
         }
         for waiting in &tree.waiting()[self.at_splits.len()..] {
-            self.note_literals(tree, waiting.length);
+            self.note_branch(tree, waiting.length);
             self.at_splits.push((self.noted, self.now));
         }
-        self.note_literals(tree, tree.branch().len());
+        self.note_branch(tree, tree.branch().len());
         let index = variable as usize - 1;
         self.now[index / 64] >> (index % 64) & 1 == 0
     }
@@ -83,14 +93,19 @@ impl Mentions {
     }
 
     #[inline(always)]
-    fn note_literals(&mut self, tree: &Tree, length: usize) {
-        for literal in &tree.branch()[self.noted..length] {
+    fn note_branch(&mut self, tree: &Tree, length: usize) {
+        self.note_literals(&tree.branch()[self.noted..length]);
+        self.noted = length;
+    }
+
+    #[inline(always)]
+    fn note_literals(&mut self, literals: &[Literal]) {
+        for literal in literals {
             for side in [left(*literal), right(*literal)] {
                 let set = self.in_terms[side as usize - 1];
                 unite(&mut self.now, set, &self.rows);
             }
         }
-        self.noted = length;
     }
 
     /// To be called when a closing has taken an alternative: back to its split,

@@ -143,7 +143,7 @@ fn end_or_shape(file: &[u8], position: u32) -> Result<(), Refusal> {
 /// The refusal of a line with a wrong letter or word: its shape comes first.
 #[cold]
 pub fn refused(letter: Option<u8>, word: u32, refusal: Refusal) -> Refusal {
-    let known = matches!(letter, Some(b'T' | b'A' | b'S'));
+    let known = matches!(letter, Some(b'T' | b'A' | b'C' | b'S'));
     let small = |letters: &[u8]| letters.iter().all(u8::is_ascii_lowercase);
     let shaped = match word.to_le_bytes() {
         [a, b, b',', _] => small(&[a, b]),

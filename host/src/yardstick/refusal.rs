@@ -24,6 +24,7 @@ pub enum Refusal {
     Buffer = 18,
     Fact = 19,
     ClassOrder = 20,
+    Clause = 21,
 }
 
 /// Refuses where a condition doesn't hold.

@@ -1,4 +1,4 @@
-//! The twenty-nine rules. Each takes p, q, t and w, and makes its checks in the
+//! The thirty rules. Each takes p, q, t and w, and makes its checks in the
 //! order of their numbers: fields that it doesn't use, terms, sorts, places,
 //! needs, freshness, terms to be added. All are inlined into the loop over the
 //! lines, so that the fields stay in registers.
@@ -37,8 +37,21 @@ fn arguments<const N: usize>(term: Packed, head: Head) -> Result<[u32; N], Refus
 impl Checker {
     #[inline(always)]
     fn ensure_fresh(&mut self, number: u32, term: Packed) -> Step {
-        let fresh = has_head(term, RFV) && self.mentions.is_fresh(number, &self.terms, &self.tree);
+        let fresh = has_head(term, RFV) && self.is_fresh(number);
         ensure(fresh, Refusal::Fresh)
+    }
+
+    #[inline(always)]
+    fn is_fresh(&mut self, variable: u32) -> bool {
+        let clauses = self.clauses.literals();
+        self.mentions
+            .is_fresh(variable, &self.terms, clauses, &self.tree)
+    }
+
+    #[inline(always)]
+    pub fn cla(&mut self, [p, q, t, w]: Fields) -> Step {
+        unused([p, q, w])?;
+        self.tree.split_among(self.clauses.named(t)?)
     }
 
     #[inline(always)]

@@ -1,6 +1,7 @@
-//! A lines and S lines.
+//! A lines, C lines and S lines.
 
-use super::literals::{literal, Relation};
+use super::clauses::Clauses;
+use super::literals::{literal, Literal, Relation};
 use super::mentions::Mentions;
 use super::packing::{has_sort, same_sort, Sort};
 use super::reader::{refused, Line};
@@ -11,6 +12,7 @@ use super::words::{relation, rule};
 
 pub struct Checker {
     pub terms: Terms,
+    pub clauses: Clauses,
     pub tree: Tree,
     pub mentions: Mentions,
 }
@@ -19,14 +21,37 @@ impl Checker {
     pub fn new() -> Checker {
         Checker {
             terms: Terms::new(),
+            clauses: Clauses::new(),
             tree: Tree::new(),
             mentions: Mentions::default(),
         }
     }
 
+    /// How much is assumed: each A line, and each clause.
+    pub fn assumptions(&self) -> u32 {
+        (self.tree.branch().len() + self.clauses.count()) as u32
+    }
+
     /// An A line.
     #[inline(always)]
     pub fn assume(&mut self, line: Line) -> Result<(), Refusal> {
+        let [.., third, fourth] = line.fields;
+        let literal = self.literal(line, [third, fourth])?;
+        self.tree.add([literal])
+    }
+
+    /// A C line.
+    #[inline(always)]
+    pub fn assume_among(&mut self, line: Line) -> Result<(), Refusal> {
+        let [.., clause, fourth] = line.fields;
+        let literal = self.literal(line, [fourth])?;
+        self.clauses.add(clause, literal)
+    }
+
+    /// The literal of an A line or of a C line, with the fields that such a
+    /// line doesn't use.
+    #[inline(always)]
+    fn literal<const N: usize>(&self, line: Line, rest: [u32; N]) -> Result<Literal, Refusal> {
         let relation = match line.word {
             relation::IN => Relation::In,
             relation::NI => Relation::Ni,
@@ -36,7 +61,7 @@ impl Checker {
             relation::NL => Relation::Nl,
             _ => return Err(refused(line.letter, line.word, Refusal::Word)),
         };
-        let [left, right, rest @ ..] = line.fields;
+        let [left, right, ..] = line.fields;
         unused(rest)?;
         let (a, b) = (self.terms.named(left)?, self.terms.named(right)?);
         let fit = match relation {
@@ -47,7 +72,7 @@ impl Checker {
             Relation::Le | Relation::Nl => has_sort(a, Sort::Class) && has_sort(b, Sort::Class),
         };
         ensure(fit, Refusal::Sort)?;
-        self.tree.add([literal(left, relation, right)])
+        Ok(literal(left, relation, right))
     }
 
     /// An S line.
@@ -82,6 +107,7 @@ impl Checker {
             rule::LEA => self.lea(fields),
             rule::RDH => self.rdh(fields),
             rule::RDM => self.rdm(fields),
+            rule::CLA => self.cla(fields),
             rule::CLS => self.cls(fields),
             rule::EMP => self.empty(fields),
             _ => Err(refused(line.letter, line.word, Refusal::Word)),

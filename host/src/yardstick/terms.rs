@@ -55,7 +55,9 @@ impl Terms {
         self.search(pack(head, fields)).ok_or(Refusal::Missing)
     }
 
-    /// Goes through the table from its start.
+    /// Goes through the table from its start. A function of its own: its loop
+    /// is then short, and takes the same time wherever the linker puts it.
+    #[inline(never)]
     fn search(&self, packed: Packed) -> Option<u32> {
         let found = self.all().iter().position(|term| *term == packed)?;
         Some(found as u32 + 1)

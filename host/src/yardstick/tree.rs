@@ -1,6 +1,6 @@
 //! The branch and the alternatives that wait.
 
-use super::literals::Literal;
+use super::literals::{Literal, NO_LITERAL};
 use super::refusal::{ensure, Refusal};
 
 const MOST_PLACES: usize = 1_000;
@@ -15,9 +15,6 @@ pub struct Waiting {
     /// Or `NO_LITERAL`.
     second: Literal,
 }
-
-/// No literal, as 0 is no term number.
-pub const NO_LITERAL: Literal = 0;
 
 pub struct Tree {
     length: usize,
@@ -94,6 +91,21 @@ impl Tree {
             self.wait(literal, NO_LITERAL);
         }
         self.extend([first]);
+        Ok(())
+    }
+
+    /// A split with an alternative for each of some literals, in their order.
+    #[inline(always)]
+    pub fn split_among(&mut self, literals: &[Literal]) -> Result<(), Refusal> {
+        let [first, rest @ ..] = literals else {
+            unreachable!("a clause has a literal");
+        };
+        self.ensure_room(1)?;
+        self.ensure_waiting(rest.len())?;
+        for literal in rest.iter().rev() {
+            self.wait(*literal, NO_LITERAL);
+        }
+        self.extend([*first]);
         Ok(())
     }
 

@@ -23,7 +23,7 @@ int main(void)
     int accepted = tabcheck(file, length, reply, sizeof reply) == TABCHECK_YES;
 
     printf("%s,%u,%u,", accepted ? "yes" : "no", number(reply, TABCHECK_REFUSAL), number(reply, TABCHECK_LINE));
-    printf("%u,%u,", number(reply, TABCHECK_T_LINES), number(reply, TABCHECK_A_LINES));
+    printf("%u,%u,", number(reply, TABCHECK_T_LINES), number(reply, TABCHECK_ASSUMED));
     printf("%u,%u\n", number(reply, TABCHECK_S_LINES), number(reply, TABCHECK_CLOSINGS));
     return accepted ? 0 : 1;
 }

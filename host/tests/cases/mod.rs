@@ -1,11 +1,15 @@
 //! Files for the checker, each with the reply that it must get.
 //!
 //! Every reply is worked out by hand from the scope document, its rule `fir`
-//! struck. In comments `3: u in r` says that place 3 of the branch now holds
-//! that literal; beside a closing it is what the next alternative adds. A number
-//! beside a T line is the number of the term.
+//! struck, and from the request "Assumptions with an or in them". In comments
+//! `3: u in r` says that place 3 of the branch now holds that literal; beside a
+//! closing it is what the next alternative adds. A number beside a T line is the
+//! number of the term.
 
 mod allocated;
+mod clause_freshness;
+mod clause_splits;
+mod clauses;
 mod failings;
 mod limits;
 mod marked;
@@ -31,6 +35,9 @@ pub fn all() -> Vec<Case> {
         failings::cases(),
         tree::cases(),
         allocated::cases(),
+        clauses::cases(),
+        clause_splits::cases(),
+        clause_freshness::cases(),
     ];
     topics.into_iter().flatten().collect()
 }

@@ -281,24 +281,30 @@ fn letters_out_of_order() -> Vec<Case> {
     ]
 }
 
+const TERM_WORDS: [&str; 13] = [
+    "rfv", "rea", "rgv", "cup", "cap", "dif", "sin", "arv", "wri", "fnv", "clv", "typ", "dty",
+];
+const TERM_AND_RULE_WORDS: [&str; 4] = ["nul", "emp", "all", "img"];
+const LITERAL_WORDS: [&str; 6] = ["in", "ni", "eq", "ne", "le", "nl"];
+const RULE_WORDS: [&str; 26] = [
+    "eqr", "eql", "ext", "cpe", "cpi", "cue", "cui", "dfe", "dfi", "sge", "sgi", "cut", "sep",
+    "wit", "ref", "sym", "trn", "sub", "rep", "ler", "let", "lea", "rdh", "rdm", "cls", "cla",
+];
+
+/// The words of terms and of rules, none of them a literal's.
+pub fn words_of_no_literal() -> Vec<&'static str> {
+    [&TERM_WORDS[..], &TERM_AND_RULE_WORDS, &RULE_WORDS].concat()
+}
+
 fn words_of_other_letters() -> Vec<Case> {
-    let terms = [
-        "rfv", "rea", "rgv", "cup", "cap", "dif", "sin", "arv", "wri", "fnv", "clv", "typ", "dty",
-    ];
-    let terms_and_rules = ["nul", "emp", "all", "img"];
-    let literals = ["in", "ni", "eq", "ne", "le", "nl"];
-    let rules = [
-        "eqr", "eql", "ext", "cpe", "cpi", "cue", "cui", "dfe", "dfi", "sge", "sgi", "cut", "sep",
-        "wit", "ref", "sym", "trn", "sub", "rep", "ler", "let", "lea", "rdh", "rdm", "cls",
-    ];
     let mut cases = Vec::new();
-    for word in [&literals[..], &rules].concat() {
+    for word in [&LITERAL_WORDS[..], &RULE_WORDS].concat() {
         cases.push(f_with(4, &format!("T,{word},0,0,0,0"), "no,4,4,0,0,0,0"));
     }
-    for word in [&terms[..], &terms_and_rules, &rules].concat() {
+    for word in words_of_no_literal() {
         cases.push(f_with(5, &format!("A,{word},1,4,0,0"), "no,4,5,0,0,0,0"));
     }
-    for word in [&terms[..], &literals].concat() {
+    for word in [&TERM_WORDS[..], &LITERAL_WORDS].concat() {
         cases.push(f_with(7, &format!("S,{word},1,0,0,0"), "no,4,7,0,0,0,0"));
     }
     cases
@@ -572,25 +578,33 @@ fn wrong_sorts_of_arguments() -> Vec<Case> {
     cases
 }
 
-fn wrong_sorts_of_literals() -> Vec<Case> {
-    let mut cases = Vec::new();
+/// Literals on terms 1 to 5 that have a wrong sort: reference, region, heap,
+/// field and class.
+pub fn literals_of_wrong_sorts() -> Vec<String> {
+    let mut wrong = Vec::new();
     for left in 1..=5 {
         for right in 1..=5 {
-            let mut wrong = Vec::new();
+            let mut words = Vec::new();
             if (left, right) != (1, 2) {
-                wrong.extend(["in", "ni"]);
+                words.extend(["in", "ni"]);
             }
             if left != right {
-                wrong.extend(["eq", "ne"]);
+                words.extend(["eq", "ne"]);
             }
             if (left, right) != (5, 5) {
-                wrong.extend(["le", "nl"]);
+                words.extend(["le", "nl"]);
             }
-            for word in wrong {
-                let line = format!("A,{word},{left},{right},0,0");
-                cases.push(sorts_with(7, &line, "no,9,7,0,0,0,0"));
-            }
+            wrong.extend(words.iter().map(|word| format!("{word},{left},{right}")));
         }
+    }
+    wrong
+}
+
+fn wrong_sorts_of_literals() -> Vec<Case> {
+    let mut cases = Vec::new();
+    for literal in literals_of_wrong_sorts() {
+        let line = format!("A,{literal},0,0");
+        cases.push(sorts_with(7, &line, "no,9,7,0,0,0,0"));
     }
     cases
 }

@@ -135,7 +135,8 @@ pub const STRUCK: [&str; 7] = [
     "S,emp,3,0,0,0",
 ];
 
-/// An accepted file and its counts: T lines, A lines, S lines, closings.
+/// An accepted file and its counts: T lines, A lines and clauses, S lines,
+/// closings.
 pub struct Accepted {
     pub rule: &'static str,
     pub lines: Vec<&'static str>,
@@ -150,8 +151,8 @@ fn accepted(rule: &'static str, text: &'static str, counts: [u32; 4]) -> Accepte
     }
 }
 
-/// For each of the twenty-nine rules, in the document's order, a file that uses
-/// it.
+/// For each of the thirty rules, in the order of docs/FORMAT.md, a file that
+/// uses it.
 pub fn rule_files() -> Vec<Accepted> {
     vec![
         accepted(
@@ -334,6 +335,14 @@ pub fn rule_files() -> Vec<Accepted> {
             lines: RDM.to_vec(),
             counts: [9, 2, 3, 2],
         },
+        accepted(
+            "cla",
+            "T,rfv,1,0,0,0 T,rgv,1,0,0,0 T,rgv,2,0,0,0
+             A,ni,1,2,0,0 A,ni,1,3,0,0
+             C,in,1,2,1,0 C,in,1,3,1,0
+             S,cla,0,0,1,0 S,cls,3,1,0,0 S,cls,3,2,0,0",
+            [3, 3, 3, 2],
+        ),
         accepted(
             "cls",
             "T,clv,1,0,0,0 T,clv,2,0,0,0

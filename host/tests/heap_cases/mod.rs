@@ -1,11 +1,12 @@
 //! Checker files and heap files for the evaluator, each pair with the reply
 //! that it must get.
 //!
-//! Every reply is worked out by hand from document 01 and from the request "Try
-//! a heap against the assumptions". A number beside a T line is the number of
-//! the term.
+//! Every reply is worked out by hand from document 01 and from the requests "Try
+//! a heap against the assumptions" and "Assumptions with an or in them". A number
+//! beside a T line is the number of the term.
 
 mod checker_file;
+mod clauses;
 mod heap_file;
 mod order;
 mod ranges;
@@ -28,6 +29,7 @@ pub fn all() -> Vec<Case> {
         ranges::cases(),
         checker_file::cases(),
         order::cases(),
+        clauses::cases(),
     ];
     topics.into_iter().flatten().collect()
 }

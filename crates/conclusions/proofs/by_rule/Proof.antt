@@ -5,7 +5,7 @@ use Rattle.tableau.specs.declared.Rule.{Rule}
 use Rattle.tableau.specs.Fields.{ruleFields}
 use Rattle.rules.specs.declared.outcome.Outcome.{Outcome}
 use Rattle.conclusions.specs.Infers.{Given, Infers}
-use Rattle.conclusions.proofs.Laws.{given-as, infers, infers-fresh, not-rep}
+use Rattle.conclusions.proofs.Laws.{given-as, infers, infers-fresh, not-rep, not-cla}
 use borrow.Author.Needs.{needs}
 use Rattle.conclusions.proofs.by_rule.Statement.{statement}
 use Rattle.conclusions.proofs.by_rule.Tie as tie
@@ -192,6 +192,7 @@ by-rule-spec =
     (λ c κs. search needs)
     (λ c. search needs)
     (λ c κs. let s = c .before .before in ((s .pre .0 .0, s .pre .0 .1 .entries), s .pre .1 .0))
+    (λ c. search needs)
     eqr
     eql
     ext
@@ -213,11 +214,12 @@ by-rule-spec =
     sym
     trn
     sub
-    (λ c. let s = c .before .before in absurd (not-rep {x = s .args .rule} (s .args .t) (s .pre .1 .3) (cc)))
+    (λ c. let s = c .before .before in absurd (not-rep {x = s .args .rule} (s .pre .1 .3) (cc)))
     ler
     transitive
     lea
     rdh
     rdm
     cls
-    emp)
+    emp
+    (λ c. let s = c .before .before in absurd (not-cla {x = s .args .rule} (s .pre .1 .3) (cc))))

@@ -4,9 +4,11 @@ use Rattle.tableau.specs.Fields.{ruleFields}
 use denote.Ref.{now}
 use Rattle.rules.specs.declared.outcome.Outcome.{Outcome}
 use Rattle.syntax.specs.declared.ThirdField as declared
-use Rattle.syntax.specs.Syntax.{ThirdFits, thirdIn}
+use Rattle.syntax.specs.Syntax.{ThirdFits, thirdIn, kindIn}
 use Rattle.conclusions.specs.Infers.{Given, Infers}
 use Rattle.conclusions.proofs.Laws.{infers, is-rep}
+use Prim.Native.Nat.{_<_}
+use native.Mathlib.Omega.{arith}
 use borrow.Author.Needs.{needs}
 use Rattle.conclusions.proofs.conclude.Statement.{statement}
 use Rattle.conclusions.proofs.conclude.Tie as tie
@@ -34,12 +36,19 @@ returns c =
     let s = c .before .before .before .before in
     let e = c .before .before .third .given .1 in
     subst (λ (k : declared.ThirdField). Answers s k (c .rep .result)) (sym e)
-    (infers (is-rep (s .args .rule) _ (fits s _ e)) (rule-given s _ e) (λ table S. tt) (c .rep .ensures))
+    (infers (is-rep (s .args .rule) (fits s _ e)) (rule-given s _ e) (λ table S. tt) (c .rep .ensures))
 
 returns-2 : tie.Need-returns-2
 returns-2 c =
     let s = c .before .before .before .before in
     subst (λ (k : declared.ThirdField). Answers s k (c .by-rule .result)) (sym (c .before .before .third2 .given .1)) (c .by-rule .ensures)
 
+-- no clause comes here
+returns-3 : tie.Need-returns-3
+returns-3 c =
+    let s = c .before .before in
+    let z : 2 < 2 = subst (λ (k : declared.ThirdField). kindIn k < 2) (c .enum-told .given .1) (s .pre .1 .4) in
+    absurd (omega arith)
+
 pub conclude-spec : {M : Type 1} → statement M
-conclude-spec = tie.close (tie.spec (λ c. search needs) (λ c κs. search needs) (λ c. search needs) by-rule-requires returns returns-2)
+conclude-spec = tie.close (tie.spec (λ c. search needs) (λ c κs. search needs) (λ c. search needs) by-rule-requires (λ c. search needs) returns returns-2 returns-3)

@@ -14,18 +14,18 @@ use Rattle.freshness.proofs.is_fresh.Tie as tie
 
 returns : tie.Need-returns
 unfolding isFresh
-returns c table codes E e P = rw (at-beyond table (c .before .args .w .0) (omega arith))
+returns c table C codes E e P = rw (at-beyond table (c .before .args .w .0) (omega arith))
 
 returns-2 : tie.Need-returns-2
 unfolding isFresh
-returns-2 c table codes E e P =
+returns-2 c table C codes E e P =
     let v = c .before in
     let i = not-variable (at table (v .before .before .args .w .0)) (v .view .result) (sym (v .view .ensures table E .is)) (c .match .keys2) in
     rw i
 
 returns-3 : tie.Need-returns-3
 unfolding isFresh
-returns-3 c table codes E e P =
+returns-3 c table C codes E e P =
     let v = c .before .before .before .before in
     let i = view-variable (at table (v .before .before .args .w .0)) _ _ (sym (c .before .before .sort .given .1) ∙ sym (v .view .ensures table E .is))
     ∙ not-reference _ (c .match2 .keys2) in
@@ -33,7 +33,7 @@ returns-3 c table codes E e P =
 
 returns-4 : tie.Need-returns-4
 unfolding isFresh sortIndex
-returns-4 c table codes E e P =
+returns-4 c table C codes E e P =
     let s = c .before .before .before .before in
     let v = s .before .before in
     let w = v .before .before .args .w .0 in

@@ -16,5 +16,9 @@ returns-3 : tie.Need-returns-3
 unfolding rank
 returns-3 c = sym (ap rank (c .enum-told3 .given .1))
 
+returns-4 : tie.Need-returns-4
+unfolding rank
+returns-4 c = sym (ap rank (c .enum-told4 .given .1))
+
 pub rank-spec : {M : Type 1} → statement M
-rank-spec = tie.close (tie.spec (λ c. search needs) (λ c. search needs) (λ c. search needs) returns returns-2 returns-3)
+rank-spec = tie.close (tie.spec (λ c. search needs) (λ c. search needs) (λ c. search needs) (λ c. search needs) returns returns-2 returns-3 returns-4)

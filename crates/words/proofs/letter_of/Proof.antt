@@ -13,4 +13,5 @@ letter-of-spec =
     (λ c. rw (c .if1 .taken))
     (λ c. rw (c .if2 .taken))
     (λ c. rw (c .if3 .taken))
-    (λ c. rw (no-letter (c .before .before .before .args .letter) (c .before .before .if1 .left) (c .before .if2 .left) (c .if3 .left))))
+    (λ c. rw (c .if4 .taken))
+    (λ c. rw (no-letter (c .before .before .before .before .args .letter) (c .before .before .before .if1 .left) (c .before .before .if2 .left) (c .before .if3 .left) (c .if4 .left))))

@@ -3,7 +3,9 @@
 use super::fill;
 use super::rounds::Round;
 use crate::generator::closable::{Closable, NO_MEMBER};
-use crate::generator::draft::{lit, MOST_WAITING};
+use crate::generator::draft::{
+    lit, ClauseId, Literal, Sort, MOST_CLAUSE_LINES, MOST_IN_CLAUSE, MOST_WAITING,
+};
 use crate::generator::tableau::Tableau;
 
 pub fn cut_shallow() -> Tableau {
@@ -53,5 +55,36 @@ pub fn sgi() -> Tableau {
     made.fill_with(Round::of(2, 1), |made, _| {
         let outside = made.draft.sgi(sin);
         made.draft.cls(allocated, outside);
+    })
+}
+
+/// All alternatives but the last closed at once.
+pub fn clauses_of_eight() -> Tableau {
+    with_clauses(MOST_IN_CLAUSE)
+}
+
+pub fn clauses_of_two() -> Tableau {
+    with_clauses(2)
+}
+
+/// As many clauses of one size as there may be, split one after the other,
+/// again and again.
+fn with_clauses(size: usize) -> Tableau {
+    let mut made = Closable::new();
+    fill(&mut made.draft, 0);
+    let regions = made.draft.terms_of_sort(Sort::Region);
+    let literals = regions[..MOST_CLAUSE_LINES]
+        .iter()
+        .map(|region| lit(made.u, "in", *region));
+    let literals: Vec<Literal> = literals.collect();
+    for clause in literals.chunks(size) {
+        made.draft.assume_among(clause.to_vec());
+    }
+    let clauses = made.draft.clauses.len();
+    made.fill_with(Round::of(size, 1), |made, number| {
+        made.draft.cla(ClauseId(number % clauses));
+        for _ in 1..size {
+            made.cls();
+        }
     })
 }

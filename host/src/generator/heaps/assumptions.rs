@@ -1,7 +1,7 @@
 //! Tables of random terms, deep ones among them, with random assumptions.
 
-use crate::generator::draft::{lit, Draft, Literal, Sort, TermId};
-use crate::generator::tableau::{shuffled_lines, Tableau};
+use crate::generator::draft::{lit, Draft, Literal, Sort, TermId, MOST_IN_CLAUSE};
+use crate::generator::tableau::{without_steps, Tableau};
 use crate::random::Random;
 
 use Sort::{Class, Field, Heap, Reference, Region};
@@ -41,17 +41,11 @@ pub fn table(random: &mut Random) -> Tableau {
     for _ in 0..random.pick(&[0, 1, 2, 3, 5, 8, 13, 40]) {
         assume(&mut draft, random);
     }
-    without_steps(&draft, random)
-}
-
-pub fn without_steps(draft: &Draft, random: &mut Random) -> Tableau {
-    Tableau {
-        lines: shuffled_lines(draft, random),
-        terms: draft.terms.len(),
-        assumptions: draft.assumptions.len(),
-        steps: 0,
-        closings: 0,
+    for _ in 0..random.pick(&[0, 0, 0, 1, 2, 3, 5, 40]) {
+        let literals = 1 + random.below(MOST_IN_CLAUSE);
+        assume_among(&mut draft, literals, random);
     }
+    without_steps(&draft, random)
 }
 
 /// Makes a term of those that there are, which may be one of them.
@@ -68,6 +62,12 @@ pub fn grow(draft: &mut Draft, operations: &[Operation], random: &mut Random) {
 pub fn assume(draft: &mut Draft, random: &mut Random) {
     let literal = some_literal(draft, random);
     draft.assume(literal);
+}
+
+/// Assumes one of so many random literals.
+pub fn assume_among(draft: &mut Draft, literals: usize, random: &mut Random) {
+    let literals = (0..literals).map(|_| some_literal(draft, random)).collect();
+    draft.assume_among(literals);
 }
 
 /// Some variables of each sort, and the constants.

@@ -4,7 +4,7 @@ use crate::random::Random;
 
 use super::WORDS;
 
-const BYTES: &[u8] = b"TASD,,,\n\n0123456789acdefilnrstuvz -\r\0\xff";
+const BYTES: &[u8] = b"TACSD,,,\n\n0123456789acdefilnrstuvz -\r\0\xff";
 
 /// The text, which is ASCII, with a line or a byte changed.
 pub fn blind(text: &[u8], random: &mut Random) -> Vec<u8> {

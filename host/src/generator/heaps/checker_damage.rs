@@ -1,4 +1,4 @@
-//! Changes of a checker file whose reply is known: damage to its T and A
+//! Changes of a checker file whose reply is known: damage to its T, A and C
 //! lines, and lines that begin an S line or nearly so.
 
 use crate::generator::draft::sort_of_word;
@@ -12,8 +12,8 @@ use super::{checker_refusal, Evaluation, GoodPair, Pair};
 type Damaged = Option<(Vec<u8>, Evaluation)>;
 type Damage = fn(&GoodPair, &mut Random) -> Damaged;
 
-/// The damage for checkers that T and A lines alone can have.
-const OF_TERMS_AND_ASSUMPTIONS: [&str; 7] = [
+/// The damage for checkers that T, A and C lines alone can have.
+const BEFORE_STEPS: [&str; 13] = [
     "a line misshapen",
     "last LF dropped",
     "an unknown word",
@@ -21,12 +21,18 @@ const OF_TERMS_AND_ASSUMPTIONS: [&str; 7] = [
     "a term doubled",
     "a number of no term",
     "sides of wrong sorts",
+    "a clause numbered 0",
+    "a gap in the clauses",
+    "clauses going back",
+    "a ninth literal",
+    "a T or A line among the clauses",
+    "a clause before an A line",
 ];
 
 const CHANGES: [(&str, Damage); 8] = [
-    ("a T or A line damaged", line_damaged),
-    ("a T or A line damaged", line_damaged),
-    ("a T line after an A line", term_late),
+    ("a line before the steps damaged", line_damaged),
+    ("a line before the steps damaged", line_damaged),
+    ("a T line after an A or C line", term_late),
     ("a term of a wrong sort", wrong_sort),
     ("an S line put in", step_put_in),
     ("what comes after an S line", after_steps),
@@ -72,7 +78,7 @@ pub fn neighbour(good: &GoodPair, random: &mut Random) -> Pair {
 }
 
 fn line_damaged(good: &GoodPair, random: &mut Random) -> Damaged {
-    let wanted = random.pick(&OF_TERMS_AND_ASSUMPTIONS);
+    let wanted = random.pick(&BEFORE_STEPS);
     let (_, damage) = EXACT.iter().find(|(kind, _)| *kind == wanted)?;
     match damage(&good.table, random)? {
         (bytes, Expected::Reply([number, line, ..])) => {
@@ -84,7 +90,8 @@ fn line_damaged(good: &GoodPair, random: &mut Random) -> Damaged {
 
 /// Even one with other faults.
 fn term_late(good: &GoodPair, random: &mut Random) -> Damaged {
-    if good.table.assumptions == 0 {
+    let literals = good.truths.len();
+    if literals == 0 {
         return None;
     }
     let mut lines = good.table.lines.clone();
@@ -93,7 +100,7 @@ fn term_late(good: &GoodPair, random: &mut Random) -> Damaged {
         line.word = random.pick(&["in", "zzz", "rfv"]);
         line.entries[3] = Entry::Name(1);
     }
-    let index = good.table.terms + 1 + random.below(good.table.assumptions);
+    let index = good.table.terms + 1 + random.below(literals);
     lines.insert(index, line);
     Some((text(&lines), checker_refusal(3, index + 1)))
 }

@@ -1,17 +1,18 @@
 //! Pairs to time the evaluators on. In all of them every assumption is true, so
 //! that an evaluator goes through all lines of both files.
 
-use crate::generator::draft::{Draft, MOST_PLACES, MOST_TERMS};
-use crate::generator::tableau::text;
+use crate::generator::draft::{Draft, MOST_CLAUSE_LINES, MOST_IN_CLAUSE, MOST_PLACES, MOST_TERMS};
+use crate::generator::tableau::without_steps;
 use crate::random::Random;
 
 use super::assumptions::{self, OPERATIONS};
 use super::heap_file::{fact, Fact, HeapFile, LIMITS, MOST_BYTES};
-use super::{truth, Evaluation, GoodPair, Pair};
+use super::{Evaluation, GoodPair, Pair};
 
 pub fn full_pairs() -> Vec<Pair> {
     vec![
         full("600 terms, 1,000 A lines, full heap file", mixture()),
+        full("600 terms, 400 C lines, full heap file", clauses()),
         full("`img` under 300 `wri`", images()),
         full("1,000 `eq` and `ne` of heaps", comparisons()),
         full("the most subjects", subjects()),
@@ -121,6 +122,31 @@ fn full_heap_file() -> HeapFile {
 /// Every word, on many variables.
 fn mixture() -> (Vec<u8>, HeapFile) {
     let mut random = Random::new(1);
+    let mut draft = full_table(&mut random);
+    for _ in 0..MOST_PLACES {
+        assumptions::assume(&mut draft, &mut random);
+    }
+    let good = GoodPair::of(without_steps(&draft, &mut random), full_heap_file());
+    let truths = good.all_true(&mut random);
+    (good.with_truths(&truths), good.heap)
+}
+
+/// As many clauses of eight literals as there may be; the last literal of each
+/// is its only true one.
+fn clauses() -> (Vec<u8>, HeapFile) {
+    let mut random = Random::new(2);
+    let mut draft = full_table(&mut random);
+    for _ in 0..MOST_CLAUSE_LINES / MOST_IN_CLAUSE {
+        assumptions::assume_among(&mut draft, MOST_IN_CLAUSE, &mut random);
+    }
+    let good = GoodPair::of(without_steps(&draft, &mut random), full_heap_file());
+    let places = 1..=MOST_CLAUSE_LINES;
+    let truths: Vec<bool> = places.map(|place| place % MOST_IN_CLAUSE == 0).collect();
+    (good.with_truths(&truths), good.heap)
+}
+
+/// 600 terms with every word.
+fn full_table(random: &mut Random) -> Draft {
     let mut draft = Draft::default();
     for name in 1..=NAMES {
         for word in ["rfv", "rgv", "arv", "fnv", "clv"] {
@@ -131,20 +157,9 @@ fn mixture() -> (Vec<u8>, HeapFile) {
         draft.term(word, &[]);
     }
     while draft.terms.len() < MOST_TERMS {
-        assumptions::grow(&mut draft, &OPERATIONS, &mut random);
+        assumptions::grow(&mut draft, &OPERATIONS, random);
     }
-    for _ in 0..MOST_PLACES {
-        assumptions::assume(&mut draft, &mut random);
-    }
-    let table = assumptions::without_steps(&draft, &mut random);
-    let heap = full_heap_file();
-    let truths = truth::truths(&table.bytes(), &heap);
-    let good = GoodPair {
-        table,
-        heap,
-        truths,
-    };
-    (text(&good.true_lines()), good.heap)
+    draft
 }
 
 const WRITES: u32 = 300;

@@ -2,7 +2,7 @@
 
 use std::collections::HashSet;
 
-use crate::generator::draft::{MOST_PLACES, MOST_TERMS};
+use crate::generator::draft::{MOST_CLAUSE_LINES, MOST_IN_CLAUSE, MOST_PLACES, MOST_TERMS};
 use crate::random::Random;
 
 use super::heap_file::{fact, Fact, HeapFile, LIMITS, MOST_BYTES};
@@ -14,6 +14,7 @@ pub fn pairs(good: &GoodPair, random: &mut Random) -> Vec<Pair> {
     checker_bytes(good, random, &mut pairs);
     terms(good, &mut pairs);
     assumptions(good, &mut pairs);
+    clauses(good, &mut pairs);
     pairs.push(largest_heap());
     pairs
 }
@@ -162,6 +163,37 @@ fn assumptions(good: &GoodPair, pairs: &mut Vec<Pair>) {
         let expected = checker_refusal(number, MOST_PLACES + 2);
         add("1,001 assumptions", &last, expected);
     }
+}
+
+/// So many C lines with a true literal, in clauses of eight.
+fn clause_lines(count: usize) -> String {
+    let clauses = (0..count).map(|index| index / MOST_IN_CLAUSE + 1);
+    let lines = clauses.map(|clause| format!("C,eq,1,1,{clause},0\n"));
+    lines.collect()
+}
+
+/// 400 C lines and one more, eight literals and one more.
+fn clauses(good: &GoodPair, pairs: &mut Vec<Pair>) {
+    let mut add = |kind, lines: usize, last: &str, expected| {
+        let lines = clause_lines(lines);
+        pairs.push(Pair {
+            checker: format!("T,nul,0,0,0,0\n{lines}{last}").into_bytes(),
+            expected,
+            ..good.pair(kind)
+        })
+    };
+    let all_true = Evaluation::Reply([0, 0, 0]);
+    let last_false = Evaluation::Reply([0, 0, MOST_CLAUSE_LINES as u32 + 1]);
+    let false_clause = "C,ne,1,1,50,0\n".repeat(MOST_IN_CLAUSE);
+    let before_it = MOST_CLAUSE_LINES - MOST_IN_CLAUSE;
+    add("400 C lines", MOST_CLAUSE_LINES, "", all_true);
+    add("400 C lines", before_it, &false_clause, last_false);
+    for (last, number) in [("C,eq,1,1,51,0\n", 21), ("C,le,1,1,51,0\n", 9)] {
+        let expected = checker_refusal(number, MOST_CLAUSE_LINES + 2);
+        add("401 C lines", MOST_CLAUSE_LINES, last, expected);
+    }
+    let expected = checker_refusal(21, MOST_IN_CLAUSE + 2);
+    add("9 literals", MOST_IN_CLAUSE, "C,eq,1,1,1,0\n", expected);
 }
 
 /// The largest heap, its last reference, field and class used.

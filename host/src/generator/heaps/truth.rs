@@ -6,9 +6,11 @@ use crate::independent::{read, TermWord};
 use crate::meaning::{literal_true, values_of_terms, variables, Heap, Value, Values, Variable};
 
 use super::heap_file::{Fact, HeapFile, Kind};
+use crate::generator::tableau::{text, Entry, Tableau};
 
-/// The truth of each assumption.
-pub fn truths(checker: &[u8], file: &HeapFile) -> Vec<bool> {
+/// The truth of each literal, of A lines and then of C lines.
+pub fn truths(table: &Tableau, file: &HeapFile) -> Vec<bool> {
+    let checker = &with_clauses_apart(table);
     let heap = heap_of(file);
     let variables = variables(checker).expect("T lines without fault");
     let given = variables.into_iter().map(|one| (one, value(file, one)));
@@ -22,6 +24,16 @@ pub fn truths(checker: &[u8], file: &HeapFile) -> Vec<bool> {
         .iter()
         .map(|literal| literal_true(literal, &known, &heap).expect("true or false"))
         .collect()
+}
+
+/// The file with an A line for each C line: a literal has one meaning on both.
+fn with_clauses_apart(table: &Tableau) -> Vec<u8> {
+    let mut lines = table.lines.clone();
+    for line in &mut lines[table.first_clause_line()..] {
+        line.letter = 'A';
+        line.entries[2] = Entry::Unused;
+    }
+    text(&lines)
 }
 
 fn facts_of<'a>(file: &'a HeapFile, word: &'a str) -> impl Iterator<Item = &'a Fact> {

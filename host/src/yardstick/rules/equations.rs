@@ -4,12 +4,11 @@
 use super::{arguments, need, sides, Fields, Step};
 use crate::yardstick::literals::Relation::{Eq, Le, Ne};
 use crate::yardstick::literals::{
-    has_relation, left, literal, right, turned, with_left, with_right,
+    has_relation, left, literal, right, turned, with_left, with_right, NO_LITERAL,
 };
 use crate::yardstick::packing::{field, has_arguments, has_sort, same_head, Sort, REA, WRI};
 use crate::yardstick::refusal::{ensure, unused, Refusal};
 use crate::yardstick::steps::Checker;
-use crate::yardstick::tree::NO_LITERAL;
 
 impl Checker {
     /// The rule `ref`.

@@ -1,4 +1,4 @@
--- Check 20; else the first false literal.
+-- Check 20; else the first false literal; else the first clause with no true one.
 use mathlib.Core.Path.{_≡_, sym, _∙_, ap}
 use mathlib.Core.Bool.{true}
 use native.Mathlib.Omega.{arith}
@@ -9,7 +9,7 @@ use borrow.Author.Tests.{not-true, not-false}
 use Rattle.tableau.specs.Basics.{Four}
 use Rattle.evaluation.specs.Evaluation.{noRefusal}
 use Rattle.heap_tables.proofs.HeapLaws.{sizes-high}
-use Rattle.evaluator.proofs.TrialLaws.{on-heap, order-is, false-line}
+use Rattle.evaluator.proofs.TrialLaws.{on-heap, order-is, false-line, false-clause-line}
 use Rattle.evaluator.proofs.trial.try_heap.Statement.{statement}
 use Rattle.evaluator.proofs.trial.try_heap.Tie as tie
 
@@ -36,14 +36,39 @@ first-false-requires c κs =
     let S = begun (c .before .before .before) .pre .0 .1 in
     ((_, S .entries, S .checked), (S .branch, omega (arith, S .count, S .entries .few)))
 
+-- what was read, with the order
+abbrev valued : tie.After-first-false → tie.After-term-values
+valued c = c .before .before .before
+
+abbrev passed-order : tie.After-first-false → tie.Else1
+passed-order c = valued c .before .before .before
+
+-- a literal is false
 returns-2 : tie.Need-returns-2
 returns-2 c σ g S F p z =
-    let f = c .before in
-    let r = f .before .before .before .before in
-    let e = r .before .before in
+    let f = c .before .before in
+    let e = passed-order f in
     let o = e .before in
     let ordered = order-is F p z (o .before .read-tables .ensures) (o .is-order .ensures) (not-false _ (e .if1 .left)) in
-    c .no-refusal .ensures ∙ ap noRefusal (false-line F p z (o .before .read-tables .ensures) S ordered (f .before .before .before .term-values .ensures) (f .first-false .ensures))
+    c .no-refusal .ensures ∙ ap noRefusal (false-line F p z (o .before .read-tables .ensures) S ordered (valued f .term-values .ensures) (f .first-false .ensures) (c .before .if2 .taken))
+    ∙ sym (on-heap σ g ordered)
+
+first-false-clause-requires : tie.Need-first-false-clause-requires
+first-false-clause-requires c κs =
+    let S = begun (valued (c .before .before .before) .before) .pre .0 .1 in
+    ((_, _, S .entries, S .disjuncts′, S .clauses), omega (arith, S .count, S .entries .few, S .branch .room))
+
+-- none is: the clauses
+returns-3 : tie.Need-returns-3
+returns-3 c σ g S F p z =
+    let u = c .before in
+    let n = u .before .before .before in
+    let f = n .before in
+    let e = passed-order f in
+    let o = e .before in
+    let ordered = order-is F p z (o .before .read-tables .ensures) (o .is-order .ensures) (not-false _ (e .if1 .left)) in
+    c .no-refusal2 .ensures
+    ∙ ap noRefusal (false-clause-line F p z (o .before .read-tables .ensures) S ordered (valued f .term-values .ensures) (rw (n .if2 .left) at (f .first-false .ensures)) (u .first-false-clause .ensures _ (S .clauses)))
     ∙ sym (on-heap σ g ordered)
 
 pub try-heap-spec : {M : Type 1} → statement M
@@ -57,4 +82,8 @@ try-heap-spec =
     term-values-requires
     first-false-requires
     (λ c κs. tt)
-    returns-2)
+    returns-2
+    (λ c. let S = begun (valued (c .before) .before) .pre .0 .1 in omega (arith, S .count, S .entries .few, S .branch .room))
+    first-false-clause-requires
+    (λ c κs. tt)
+    returns-3)

@@ -1,6 +1,6 @@
 -- Every line so far passed, and arrays, tree and counts are what these lines make of them. The measure is what is left of the file.
 use mathlib.Core.Path.{_≡_, sym, _∙_, ap, subst}
-use Prim.Native.Nat.{ℕ, _-_}
+use Prim.Native.Nat.{ℕ, suc, _+_, _-_}
 use native.Mathlib.Omega.{arith}
 use lib.ListN.{length}
 use Rattle.lines.specs.declared.LineRead.{LineRead}
@@ -8,25 +8,25 @@ use Rattle.lines.specs.Lines.{lineAt, LFAhead}
 use Rattle.lines.proofs.FileSteps.{ahead-here, no-line-behind}
 use Rattle.terms.specs.Arrays.{arrays}
 use Rattle.line_checks.specs.Checks.{Ready}
-use Rattle.tree.specs.Change.{extentOf}
+use Rattle.tree.specs.Change.{extentOf, SplitFits}
 use Rattle.running.proofs.Lines.{check-fields, line-here}
 use Rattle.file_run.specs.Reached.{Reached}
-use Rattle.file_run.proofs.Reaching.{reached-start, ready, reached-bad, reached-end, reached-refused, fits, cut-branch, kept-stack, reached-more}
+use Rattle.file_run.proofs.Reaching.{reached-start, ready, reached-bad, reached-end, reached-refused, fits, cut-branch, kept-stack, reached-more, split-fits, split-held, reached-split}
 use borrow.Author.Needs.{needs}
 use Rattle.file_run.proofs.Run.run.Statement.{statement}
 use Rattle.file_run.proofs.Run.run.Tie as tie
 
 abbrev Inv-loop : tie.InvT-loop
-Inv-loop file terms₀ chains₀ rows₀ prefix₀ self₀ progress₀ end at₀ terms chains rows prefix self progress at =
-    Reached file (arrays terms chains rows) prefix (self .tree) progress at
+Inv-loop file terms₀ chains₀ rows₀ prefix₀ clauses₀ self₀ progress₀ end at₀ terms chains rows prefix clauses self progress at =
+    Reached file (arrays terms chains rows) clauses prefix (self .tree) progress at
 
 abbrev μ-loop : tie.MeasureT-loop
-μ-loop file terms₀ chains₀ rows₀ prefix₀ self₀ progress₀ end at₀ terms chains rows prefix self progress at = length file - at
+μ-loop file terms₀ chains₀ rows₀ prefix₀ clauses₀ self₀ progress₀ end at₀ terms chains rows prefix clauses self progress at = length file - at
 
 loop-holds : tie.Need-loop-holds Inv-loop μ-loop
 loop-holds c =
     let p = c .before .before .before .pre in
-    rw (c .before .start .ensures) (reached-start (p .0 .0) (p .0 .1) (p .1 .0) (p .1 .1) (p .1 .2))
+    rw (c .before .start .ensures) (reached-start (p .0 .0) (p .0 .1) (p .0 .2) (p .1 .0) (p .1 .1) (p .1 .2))
 
 -- in the loop an LF is ahead
 ahead : (c : tie.In-loop Inv-loop μ-loop) → LFAhead (c .before .before .before .before .before .args .file .now) (c .before .loop .at)
@@ -63,22 +63,22 @@ extent-is c = ap (λ (x : ℕ). record { len = begun (told c) .loop .self .tree 
 
 check-line-requires : tie.Need-check-line-requires Inv-loop μ-loop
 check-line-requires c κs =
-    let u = c .before .before .before .before .before in
+    let u = c .before .before .before .before .before .before in
     let k = told u in
     let R = begun k .loop .inv in
     let h = ahead-here _ _ (ahead (k .before .before .before .before)) in
-    ((R .table, R .held), (subst (Ready _) (extent-is u) (ready R h), R .within .branch, line-here check-fields _ _ _ (is-line k) .small .a))
+    ((R .table, R .held), (subst (Ready _) (extent-is u) (ready R h), R .within .branch, line-here check-fields _ _ _ (is-line k) .small .a, (R .clauses, R .clausesHeld)))
 
 -- the other checks
 abbrev with : tie.After-check-line Inv-loop μ-loop → tie.After-self2 Inv-loop μ-loop
-with c = c .before .before .before .before .before .before
+with c = c .before .before .before .before .before .before .before
 
 returns-2 : tie.Need-returns-2 Inv-loop μ-loop
 returns-2 c =
     let x = c .before .before .before .before in
     let k = told (with x) in
     let R = begun k .loop .inv in
-    reached-refused R _ (is-line k) (extent-is (with x)) (x .check-line .ensures (R .table) (R .held) (R .rows)) _ (c .ends .ensures .0) (c .before .before .reason .given .1)
+    reached-refused R _ (is-line k) (extent-is (with x)) (x .check-line .ensures (R .table) (R .clauses) (R .held) (R .clausesHeld) (R .rows)) _ (c .ends .ensures .0) (c .before .before .reason .given .1)
 
 -- the line passed
 abbrev checked : tie.After-next Inv-loop μ-loop → tie.After-check-line Inv-loop μ-loop
@@ -90,7 +90,7 @@ append-requires c κs =
     let x = checked n in
     let k = told (with x) in
     let R = begun k .loop .inv in
-    let D = x .check-line .ensures (R .table) (R .held) (R .rows) in
+    let D = x .check-line .ensures (R .table) (R .clauses) (R .held) (R .clausesHeld) (R .rows) in
     let F = fits R _ (is-line k) (extent-is (with x)) D (n .next .given .1) in
     (cut-branch R _ (is-line k) (extent-is (with x)) D (n .next .given .1), F .adds, F .places)
 
@@ -100,7 +100,7 @@ push-requires c κs =
     let x = checked n in
     let k = told (with x) in
     let R = begun k .loop .inv in
-    let D = x .check-line .ensures (R .table) (R .held) (R .rows) in
+    let D = x .check-line .ensures (R .table) (R .clauses) (R .held) (R .clausesHeld) (R .rows) in
     let F = fits R _ (is-line k) (extent-is (with x)) D (n .next .given .1) in
     (kept-stack R _ (is-line k) (extent-is (with x)) D (n .next .given .1), F .waiting, F .begun)
 
@@ -117,8 +117,64 @@ loop-again c =
     let x = checked n in
     let k = told (with x) in
     let R = begun k .loop .inv in
-    let D = x .check-line .ensures (R .table) (R .held) (R .rows) in
+    let D = x .check-line .ensures (R .table) (R .clauses) (R .held) (R .clausesHeld) (R .rows) in
     reached-more R _ (is-line k) (extent-is (with x)) D (n .next .given .1) (record { branch = a .append .ensures; waiting = p .push .ensures })
+
+-- a clause is split
+abbrev split : tie.After-next2 Inv-loop μ-loop → tie.After-check-line Inv-loop μ-loop
+split c = c .before .before
+
+room : (c : tie.After-next2 Inv-loop μ-loop) → (let t = begun (told (with (split c))) .loop .self .tree in
+    SplitFits (record { len = t .len; count = t .count; top = with (split c) .before .top .result }) (c .next2 .given .0 .1 .0))
+room c =
+    let x = split c in
+    let k = told (with x) in
+    let R = begun k .loop .inv in
+    split-fits R _ (is-line k) (extent-is (with x)) (x .check-line .ensures (R .table) (R .clauses) (R .held) (R .clausesHeld) (R .rows)) (c .next2 .given .1)
+
+-- the first literal is small
+one-requires : tie.Need-one-requires Inv-loop μ-loop
+one-requires c κs =
+    let n = c .before .before in
+    let x = split n in
+    let k = told (with x) in
+    let R = begun k .loop .inv in
+    split-held R _ (is-line k) (extent-is (with x)) (x .check-line .ensures (R .table) (R .clauses) (R .held) (R .clausesHeld) (R .rows)) (n .next2 .given .1) .bounded _
+
+append-requires-2 : tie.Need-append-requires-2 Inv-loop μ-loop
+append-requires-2 c κs =
+    let o = c .before in
+    let n = o .before .before .before in
+    let R = begun (told (with (split n))) .loop .inv in
+    let a = o .one .ensures .0 in
+    (R .within .branch, record { count = omega (arith, a .count); first = a .first; second = a .second; third = a .third }, rw (o .one .ensures .1) (omega (arith, room n .places)))
+
+push-rest-requires : tie.Need-push-rest-requires Inv-loop μ-loop
+push-rest-requires c κs =
+    let n = c .before .before .before .before .before .before .before .before in
+    let x = split n in
+    let k = told (with x) in
+    let R = begun k .loop .inv in
+    let f = room n in
+    ((R .within .waiting, f .some, f .waiting, f .places), (f .inside, split-held R _ (is-line k) (extent-is (with x)) (x .check-line .ensures (R .table) (R .clauses) (R .held) (R .clausesHeld) (R .rows)) (n .next2 .given .1) .bounded))
+
+loop-less-2 : tie.Need-loop-less-2 Inv-loop μ-loop
+loop-less-2 c =
+    let l = line-here check-fields _ _ _ (is-line (told (with (split (c .before .before .before .before .before .before .before .before .before .before))))) in
+    omega (arith, l .longer, l .inside)
+
+loop-again-2 : tie.Need-loop-again-2 Inv-loop μ-loop
+loop-again-2 c =
+    let p = c .before in
+    let a = p .before .before .before .before in
+    let o = a .before .before in
+    let n = o .before .before .before in
+    let x = split n in
+    let k = told (with x) in
+    let R = begun k .loop .inv in
+    let D = x .check-line .ensures (R .table) (R .clauses) (R .held) (R .clausesHeld) (R .rows) in
+    reached-split R _ (is-line k) (extent-is (with x)) D (n .next2 .given .1)
+    (record { branch = rw (o .one .ensures .1) at (a .append2 .ensures); waiting = p .push-rest .ensures })
 
 -- what stands behind the last LF is a bad line
 bad-requires-2 : tie.Need-ends-at-bad-shape-requires-2 Inv-loop μ-loop
@@ -159,8 +215,16 @@ run-spec =
     (λ c. search needs)
     append-requires
     push-requires
+    (λ c. search needs)
+    (λ c. omega (arith, room (c .before) .inside, room (c .before) .some))
+    (λ c. omega (arith, room (c .before) .inside, room (c .before) .some))
+    one-requires
+    append-requires-2
+    push-rest-requires
     loop-less
     loop-again
+    loop-less-2
+    loop-again-2
     bad-requires-2
     returns-3
     (λ c κs. search needs)

@@ -19,27 +19,27 @@ known c = subst (RuleKnown _) (c .before .row .given .1) (c .before .before .bef
 
 -- check 4
 returns : tie.Need-returns
-returns c table H P =
+returns c table C H K P =
     let s = c .before .before .before .before in
     let p = s .pre .1 in
-    step-unknown table _ _ (p .0) (s .args .f) (p .2) _ _ _ (subst (RuleKnown _) (c .enum-told .given .1) (c .before .before .rule-of .ensures))
+    step-unknown table C _ _ (p .0) (s .args .f) (p .2) _ _ _ _ K (subst (RuleKnown _) (c .enum-told .given .1) (c .before .before .rule-of .ensures))
 
 -- check 5
 returns-2 : tie.Need-returns-2
-returns-2 c table H P =
+returns-2 c table C H K P =
     let k = c .before in
     let s = first k in
     let p = s .pre .1 in
-    step-closed table _ _ (p .0) (s .args .f) (p .2) _ _ _ _ (known k .0) (c .if1 .taken)
+    step-closed table C _ _ (p .0) (s .args .f) (p .2) _ _ _ _ K _ (known k .0) (c .if1 .taken)
 
 -- check 6
 returns-3 : tie.Need-returns-3
-returns-3 c table H P =
+returns-3 c table C H K P =
     let o = c .before .before in
     let k = o .before .before in
     let s = first k in
     let p = s .pre .1 in
-    step-unused table _ _ (p .0) (s .args .f) (p .2) _ _ _ _ (known k .0) (o .before .if1 .left) (subst (StepTakenAs _ _) (c .enum-told2 .given .1) (o .step-of .ensures))
+    step-unused table C _ _ (p .0) (s .args .f) (p .2) _ _ _ _ K _ (known k .0) (o .before .if1 .left) (subst (StepTakenAs _ _) (c .enum-told2 .given .1) (o .step-of .ensures))
 
 take-requires : tie.Need-take-requires
 take-requires c κs =
@@ -47,17 +47,17 @@ take-requires c κs =
     let o = x .before .before in
     let s = first (o .before .before) in
     let u = subst (StepTakenAs _ _) (x .step .given .1) (o .step-of .ensures) in
-    (s .pre .0, (s .pre .1 .0, s .pre .1 .1, u .2))
+    (s .pre .0, (s .pre .1 .0, s .pre .1 .1, u .2, s .pre .1 .3))
 
 returns-4 : tie.Need-returns-4
-returns-4 c table H P =
+returns-4 c table C H K P =
     let x = c .before .before .before in
     let o = x .before .before in
     let k = o .before .before in
     let s = first k in
     let p = s .pre .1 in
     let u = subst (StepTakenAs _ _) (x .step .given .1) (o .step-of .ensures) in
-    step-takes table _ _ (p .0) (s .args .f) (p .2) _ _ _ _ (known k .0) (o .before .if1 .left) H _ (u .0) (u .1) _ (c .take .ensures table H P)
+    step-takes table C _ _ (p .0) (s .args .f) (p .2) _ _ _ _ K _ (known k .0) (o .before .if1 .left) H _ (u .0) (u .1) _ (c .take .ensures table C H K P)
 
 pub check-spec : {M : Type 1} → statement M
 check-spec =

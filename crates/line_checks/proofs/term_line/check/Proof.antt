@@ -39,18 +39,18 @@ taken c = subst (TermTakenAs _ _) (c .before .term .given .1) (c .before .before
 
 -- check 4
 returns : tie.Need-returns
-returns c table h =
+returns c table C h =
     let s = c .before .before .before .before in
     let p = s .pre .1 in
-    term-unknown table _ _ (s .args .f) (p .0) (p .1) (p .2) _ (subst (WordKnown _) (c .enum-told .given .1) (c .before .before .word-of .ensures))
+    term-unknown table C _ _ (s .args .f) (p .0) (p .1) (p .2) _ (subst (WordKnown _) (c .enum-told .given .1) (c .before .before .word-of .ensures))
 
 -- check 6
 returns-2 : tie.Need-returns-2
-returns-2 c table h =
+returns-2 c table C h =
     let k = c .before .before .before in
     let s = k .before .before .before .before .before in
     let p = s .pre .1 in
-    term-unused table _ _ (s .args .f) (p .0) (p .1) (p .2) _ (known k .0) _ (subst (TermTakenAs _ _) (c .enum-told2 .given .1) (c .before .before .term-of .ensures))
+    term-unused table C _ _ (s .args .f) (p .0) (p .1) (p .2) _ (known k .0) _ (subst (TermTakenAs _ _) (c .enum-told2 .given .1) (c .before .before .term-of .ensures))
 
 make-term-requires : tie.Need-make-term-requires
 make-term-requires c κs =
@@ -62,24 +62,24 @@ make-term-requires c κs =
 
 -- checks 7 to 10
 returns-3 : tie.Need-returns-3
-returns-3 c table h =
+returns-3 c table C h =
     let m = c .before .before .before .before in
     let k = m .before .before .before .before in
     let s = first k in
     let p = s .pre .1 in
     let t = taken k in
     rw (c .before .after-term .ensures, c .unchanged .ensures)
-    (term-made table _ _ (s .args .f) (p .0) (p .1) (p .2) _ (known (word-told k) .0) _ (t .1) (t .2)
+    (term-made table C _ _ (s .args .f) (p .0) (p .1) (p .2) _ (known (word-told k) .0) _ (t .1) (t .2)
     (subst (MakesTerm table _ _ _ _) (c .before .before .enum-told3 .given .1) (m .make-term .ensures table h)))
 
 returns-4 : tie.Need-returns-4
-returns-4 c table h =
+returns-4 c table C h =
     let m = c .before .before .before in
     let k = m .before .before .before .before in
     let s = first k in
     let p = s .pre .1 in
     let t = taken k in
-    term-refused table _ _ (s .args .f) (p .0) (p .1) (p .2) _ (known (word-told k) .0) _ (t .1) (t .2) _
+    term-refused table C _ _ (s .args .f) (p .0) (p .1) (p .2) _ (known (word-told k) .0) _ (t .1) (t .2) _
     (subst (MakesTerm table _ _ _ _) (c .before .reason .given .1) (m .make-term .ensures table h))
 
 pub check-spec : {M : Type 1} → statement M

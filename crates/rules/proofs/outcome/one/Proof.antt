@@ -1,6 +1,7 @@
 use mathlib.Core.Path.{_∙_, ap}
 use mathlib.Core.List.{[], _∷_, map}
 use Rattle.packing.specs.Packing.{unpackLiteral}
+use Rattle.tree.specs.State.{codesOf}
 use Rattle.rules.proofs.Laws.{packed-back}
 use Rattle.rules.proofs.outcome.one.Statement.{statement}
 use Rattle.rules.proofs.outcome.one.Tie as tie
@@ -8,7 +9,7 @@ use Rattle.rules.proofs.outcome.one.Tie as tie
 returns : tie.Need-returns
 returns c = record {
   atMost = c .one .ensures .0;
-  is = ap (map unpackLiteral) (c .one .ensures .1) ∙ ap (λ l. l ∷ []) (packed-back _ (c .before .before .pre) (c .before .pack .ensures .0));
+  is = ap (λ k. map unpackLiteral (codesOf k)) (c .one .ensures .1) ∙ ap (λ l. l ∷ []) (packed-back _ (c .before .before .pre) (c .before .pack .ensures .0));
 }
 
 pub one-spec : {M : Type 1} → statement M

@@ -13,10 +13,10 @@ use Rattle.steps.proofs.asking.ask_fresh.Tie as tie
 returns : tie.Need-returns
 returns c = (
   c .before .before .before .pre .1 .1,
-  λ table E M q P.
+  λ table C E M q P.
       let s = c .before .before .before .args in
       record {
-        fresh = λ L R t. unasked-answer table L R t (s .step .w .0) (s .step .rule) (sym (c .before .asks-fresh .ensures) ∙ not-true _ (c .if1 .taken)) false _;
+        fresh = λ L R D t. unasked-answer table L R D t (s .step .w .0) (s .step .rule) (sym (c .before .asks-fresh .ensures) ∙ not-true _ (c .if1 .taken)) false _;
         rows = P;
       },
 )
@@ -25,10 +25,10 @@ returns-2 : tie.Need-returns-2
 returns-2 c =
     let s = c .before .before .before .before .before .before .before in (
       omega arith,
-      λ table E M q P.
-          let rows = c .before .before .note .ensures table M q P in
+      λ table C E M q P.
+          let rows = c .before .before .note .ensures table C M q P in
           record {
-            fresh = λ L R t. ap (λ (f : Bool). answer table f L R t (s .args .step .w .0) (s .args .step .rule)) (c .is-fresh .ensures table (now (s .args .branch)) E q rows);
+            fresh = λ L R D t. ap (λ (f : Bool). answer table f L R D t (s .args .step .w .0) (s .args .step .rule)) (c .is-fresh .ensures table C (now (s .args .branch)) E q rows);
             rows = rows;
           },
     )

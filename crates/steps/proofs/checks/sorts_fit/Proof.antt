@@ -1,11 +1,12 @@
--- Check 9 speaks of t and w; `rep`, whose t is a side, asks for no sort.
+-- Check 9 speaks of t and w; a rule whose t is no term asks for no sort.
 use mathlib.Core.Path.{sym, _∙_, subst}
+use Prim.Native.Nat.{_≤_}
+use native.Mathlib.Omega.{arith}
 use Rattle.tableau.specs.Fields.{ruleFields}
-use Rattle.syntax.specs.Syntax.{stepFields, thirdIn, ThirdFits}
+use Rattle.syntax.specs.Syntax.{kindOf, stepFields, thirdIn, ThirdFits}
 use Rattle.syntax.specs.declared.ThirdField as declared
 use Rattle.conclusions.specs.Infers.{ThirdGiven}
-use Rattle.steps.proofs.CheckLaws.{nine, step-given, third-small, fourth-small}
-use Rattle.conclusions.proofs.Laws.{is-rep}
+use Rattle.steps.proofs.CheckLaws.{no-term, nine, step-given, third-small, fourth-small, unsorted-unless-term}
 use borrow.Author.Needs.{needs}
 use Rattle.steps.proofs.checks.sorts_fit.Statement.{statement}
 use Rattle.steps.proofs.checks.sorts_fit.Tie as tie
@@ -13,9 +14,10 @@ use Rattle.steps.proofs.checks.sorts_fit.Tie as tie
 returns : tie.Need-returns
 unfolding ruleFields
 returns c = λ table E.
-    let s = c .before .before .before in
+    let s = c .before .before in
     let x = s .args .step .rule in
-    sym (nine table x (stepFields (s .args .step)) ∙ rw (is-rep x _ (subst (ThirdFits (ruleFields x .t)) (c .enum-told .given .1) (s .pre .1 .third))))
+    let l : 1 ≤ kindOf (ruleFields x .t) = omega (arith, s .pre .1 .third, no-term (s .args .step .t) (c .match .keys2)) in
+    sym (nine table x (stepFields (s .args .step)) ∙ unsorted-unless-term table x _ _ l)
 
 has-sorts-requires : tie.Need-has-sorts-requires
 has-sorts-requires c κs =
@@ -35,4 +37,4 @@ returns-2 c = λ table E.
     sym (nine table (s .args .step .rule) (stepFields (s .args .step)) ∙ rw (k .third .given .1) (sym (c .has-sorts .ensures table E)))
 
 pub sorts-fit-spec : {M : Type 1} → statement M
-sorts-fit-spec = tie.close (tie.spec (λ c. search needs) (λ c. search needs) returns has-sorts-requires returns-2)
+sorts-fit-spec = tie.close (tie.spec (λ c. search needs) returns has-sorts-requires returns-2)

@@ -1,6 +1,8 @@
 -- Check 8 speaks of t, where it is a term, and of w.
 use mathlib.Core.Path.{_≡_, sym, _∙_, subst}
 use mathlib.Core.Bool.{_&&_, _||_}
+use Prim.Native.Nat.{_≤_}
+use native.Mathlib.Omega.{arith}
 use lib.Bits.{bitAnd}
 use lib.Dec.{eqb}
 use Rattle.tableau.specs.declared.TermNumber.{TermNumber}
@@ -10,9 +12,8 @@ use Rattle.tableau.specs.Terms.{Table}
 use Rattle.tableau.specs.Reply.{isTerm, termOrName}
 use Rattle.syntax.specs.declared.Step.{Step}
 use Rattle.syntax.specs.declared.ThirdField as declared
-use Rattle.syntax.specs.Syntax.{stepFields, ThirdFits, WellTaken}
-use Rattle.syntax.proofs.Sides.{side-fits}
-use Rattle.steps.proofs.CheckLaws.{eight, third-made, fourth-made, unset-t, unset-w}
+use Rattle.syntax.specs.Syntax.{kindOf, stepFields, ThirdFits, WellTaken}
+use Rattle.steps.proofs.CheckLaws.{no-term, eight, third-made, third-unmade, fourth-made, unset-t, unset-w}
 use borrow.Author.Needs.{needs}
 use Rattle.steps.proofs.checks.terms_made.Statement.{statement}
 use Rattle.steps.proofs.checks.terms_made.Tie as tie
@@ -27,15 +28,15 @@ third-term table s W t e =
     eight table x (stepFields s)
     ∙ rw (e, h, fourth-made table (ruleFields x .w), unset-t s W, unset-w s W)
 
--- t is a side
+-- t is a side, or a clause number
 returns : tie.Need-returns
 returns c = λ table e.
     let k = c .before in
-    let s = k .before .before .before .before in
+    let s = k .before .before .before in
     let x = s .args .step .rule in
-    let is-side = side-fits (ruleFields x .t) _ (subst (ThirdFits (ruleFields x .t)) (k .enum-told .given .1) (s .pre .third)) in
+    let l : 1 ≤ kindOf (ruleFields x .t) = omega (arith, s .pre .third, no-term (s .args .step .t) (k .match .keys2)) in
     sym (eight table x (stepFields (s .args .step))
-    ∙ rw (is-side, fourth-made table (ruleFields x .w), ← unset-w (s .args .step) (s .pre)) (sym (c .made-if-used .ensures table e)))
+    ∙ rw (third-unmade table (ruleFields x .t) _ l, fourth-made table (ruleFields x .w), ← unset-w (s .args .step) (s .pre)) (sym (c .made-if-used .ensures table e)))
 
 -- t is made, and w decides
 returns-2 : tie.Need-returns-2
@@ -60,7 +61,6 @@ pub terms-made-spec : {M : Type 1} → statement M
 terms-made-spec =
     tie.close
     (tie.spec
-    (λ c. search needs)
     (λ c. search needs)
     (λ c κs. search needs)
     returns

@@ -14,7 +14,9 @@ eight-held c table q = sym (c .before .terms-made .ensures table q) ∙ not-fals
 
 returns : tie.Need-returns
 unfolding stepLine
-returns c = (tt, λ table H q F. rw (c .before .before .pre .1 .1 .unusedZero, sym (c .before .terms-made .ensures table q) ∙ not-true _ (c .if1 .taken)))
+returns c =
+    let t = c .before in
+    (rw (c .refused .ensures) tt, λ table C H q s l F. rw (c .refused .ensures, t .before .before .pre .1 .1 .unusedZero, sym (t .before .terms-made .ensures table q) ∙ not-true _ (t .if1 .taken)))
 
 sorts-fit-requires : tie.Need-sorts-fit-requires
 sorts-fit-requires c κs =
@@ -25,9 +27,10 @@ sorts-fit-requires c κs =
 returns-2 : tie.Need-returns-2
 unfolding stepLine
 returns-2 c =
-    let k = c .before .before in
+    let t = c .before in
+    let k = t .before .before in
     let W = k .before .before .pre .1 .1 in
-    (tt, λ table H q F. rw (W .unusedZero, eight-held k table q, sym (c .before .sorts-fit .ensures table (H .entries)) ∙ not-true _ (c .if2 .taken)))
+    (rw (c .refused2 .ensures) tt, λ table C H q s l F. rw (c .refused2 .ensures, W .unusedZero, eight-held k table q, sym (t .before .sorts-fit .ensures table (H .entries)) ∙ not-true _ (t .if2 .taken)))
 
 added-requires : tie.Need-added-requires
 added-requires c κs =
@@ -43,9 +46,9 @@ returns-3 c =
     let k = j .before .before in
     let W = k .before .before .pre .1 .1 in (
       c .added .ensures .0,
-      λ table H q F. rw (W .unusedZero, eight-held k table q, sym (j .before .sorts-fit .ensures table (H .entries)) ∙ not-false _ (j .if2 .left))
-          (c .added .ensures .1 table H F),
+      λ table C H q s l F. rw (W .unusedZero, eight-held k table q, sym (j .before .sorts-fit .ensures table (H .entries)) ∙ not-false _ (j .if2 .left))
+          (c .added .ensures .1 table C H s l F),
     )
 
 pub infer-spec : {M : Type 1} → statement M
-infer-spec = tie.close (tie.spec (λ c κs. c .pre .1 .1) returns sorts-fit-requires returns-2 added-requires returns-3)
+infer-spec = tie.close (tie.spec (λ c κs. c .pre .1 .1) (λ c κs. tt) returns sorts-fit-requires (λ c κs. tt) returns-2 added-requires returns-3)

@@ -3,7 +3,7 @@ use native.Mathlib.Omega.{arith}
 use Prim.Native.Nat.{ℕ}
 use mathlib.Core.Path.{refl}
 use lib.ListN.{length-replicate}
-use Rattle.tree.proofs.Arrays.{getD-zeros}
+use Rattle.clauses.proofs.Arrays.{getD-zeros}
 use Rattle.tree.proofs.Tree.empty.Statement.{statement}
 use Rattle.tree.proofs.Tree.empty.Tie as tie
 
