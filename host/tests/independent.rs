@@ -4,28 +4,13 @@
 
 mod examples;
 
-use examples::{file, rule_files, ALLOCATED, F, G, IMG, RDM, STRUCK, WIT};
+use examples::{file, rule_files, ALLOCATED, F, G, IMG, OR, RDM, STRUCK, WIT};
 use host::independent::{call, check, reply_line, Reply};
 
 const RULES: [&str; 30] = [
     "eqr", "eql", "ext", "cpe", "cpi", "cue", "cui", "dfe", "dfi", "sge", "sgi", "cut", "all",
     "nul", "sep", "img", "wit", "ref", "sym", "trn", "sub", "rep", "ler", "let", "lea", "rdh",
     "rdm", "cls", "emp", "cla",
-];
-
-/// A clause of two literals, each denied by an assumption. Terms: 1 u, 2 r, 3 s.
-/// Places: 1 u ni r, 2 u ni s, then 3 u in r, and 3 u in s.
-const OR: [&str; 10] = [
-    "T,rfv,1,0,0,0",
-    "T,rgv,1,0,0,0",
-    "T,rgv,2,0,0,0",
-    "A,ni,1,2,0,0",
-    "A,ni,1,3,0,0",
-    "C,in,1,2,1,0",
-    "C,in,1,3,1,0",
-    "S,cla,0,0,1,0",
-    "S,cls,3,1,0,0",
-    "S,cls,3,2,0,0",
 ];
 
 fn yes(terms: u32, assumptions: u32, steps: u32, closings: u32) -> Reply {

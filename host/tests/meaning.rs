@@ -6,7 +6,7 @@ mod examples;
 
 use std::collections::BTreeSet;
 
-use examples::{file, rule_files, ALLOCATED, F, IMG, STRUCK};
+use examples::{file, rule_files, ALLOCATED, F, IMG, OR, STRUCK};
 use host::independent::{check, read_assumed, TermWord};
 use host::meaning::{
     assumptions, assumptions_true, values_of_terms, variables, Heap, Value, Values, Variable,
@@ -630,19 +630,7 @@ fn accepted_cases_have_no_model() {
 
 /// Accepted files with clauses, each alternative closed.
 const CLAUSES: [&[&str]; 3] = [
-    // u in r or u in s; neither.
-    &[
-        "T,rfv,1,0,0,0",
-        "T,rgv,1,0,0,0",
-        "T,rgv,2,0,0,0",
-        "A,ni,1,2,0,0",
-        "A,ni,1,3,0,0",
-        "C,in,1,2,1,0",
-        "C,in,1,3,1,0",
-        "S,cla,0,0,1,0",
-        "S,cls,3,1,0,0",
-        "S,cls,3,2,0,0",
-    ],
+    &OR,
     // u eq nul or v eq nul; u in all, v in all. Terms: 1 u, 2 v, 3 nul, 4 all.
     &[
         "T,rfv,1,0,0,0",

@@ -158,11 +158,7 @@ module _ {C : Clauses} {words : List ℕ} {last : ClauseNo} (H : ClausesHeld C w
   ok = fitting C k h
 
   pub next-few : k ≤ maxClauseLines
-  next-few = go (ok .lastOrNext′)
-    where
-      go : (k ≡ lastClause C) ⊎ (k ≡ suc (lastClause C)) → k ≤ maxClauseLines
-      go (inl e) = omega (arith, H .last, last-few H)
-      go (inr e) = omega (arith, H .last, grows H last (omega arith), H .lines, ok .few)
+  next-few = omega (arith, ok .most, H .last, grows H last (omega arith), H .lines, ok .few)
 
   long : length (set words n code) ≡ wordsLength
   long = length-set words n code ∙ H .size
@@ -184,7 +180,7 @@ module _ {C : Clauses} {words : List ℕ} {last : ClauseNo} (H : ClausesHeld C w
 
   -- the clause that it joins, or begins, ends with the lines so far
   ends-here : endAt words (k - 1) + length (clauseOf C k) ≡ n
-  ends-here = go (ok .lastOrNext′)
+  ends-here = go (ok .is)
     where
       go : (k ≡ lastClause C) ⊎ (k ≡ suc (lastClause C)) → endAt words (k - 1) + length (clauseOf C k) ≡ n
       go (inl e) =
@@ -203,7 +199,7 @@ module _ {C : Clauses} {words : List ℕ} {last : ClauseNo} (H : ClausesHeld C w
 
   -- its codes before
   old-codes : map unpackLiteral (codesAt words (endAt words (k - 1)) (length (clauseOf C k))) ≡ clauseOf C k
-  old-codes = go (ok .lastOrNext′)
+  old-codes = go (ok .is)
     where
       empty : (ls : List Literal) → length ls ≡ 0 → map unpackLiteral (codesAt words (endAt words (k - 1)) (length ls)) ≡ ls
       empty [] e = refl
@@ -228,11 +224,7 @@ module _ {C : Clauses} {words : List ℕ} {last : ClauseNo} (H : ClausesHeld C w
 
   -- a clause before it is as it was
   before-last : (j : ClauseNo) → j < k → j ≤ last
-  before-last j l = go (ok .lastOrNext′)
-    where
-      go : (k ≡ lastClause C) ⊎ (k ≡ suc (lastClause C)) → j ≤ last
-      go (inl e) = omega (arith, e, H .last)
-      go (inr e) = omega (arith, e, H .last)
+  before-last j l = omega (arith, ok .most, H .last)
 
   -- what is so of this clause, and of those before it
   each-to : (P : ClauseNo → Type 0) → P k → ((j : ClauseNo) → j < k → P j) → (j : ClauseNo) → j ≤ k → P j

@@ -25,7 +25,7 @@ pub record Assumed (σ : State) : Type 0 where
   pub literals : List Literal
   pub status : σ .status ≡ isOpen (unsplit literals)
   pub checked : AllAssumptions (σ .table) literals
-  pub checkedToo : AllAssumptions (σ .table) (disjuncts (σ .clauses))
+  pub disjunctsChecked : AllAssumptions (σ .table) (disjuncts (σ .clauses))
   pub first : inOrder (σ .letter) Letter.T ≡ true → (literals ≡ []) × (σ .clauses ≡ [])
   pub wellFormed : WellFormed (at (σ .table))
 
@@ -51,7 +51,7 @@ line-assumed {σ} {σ′} {l} p h A = go (p .command) refl (p .run .did) (comman
           literals = [];
           status = d .1 ∙ ap isOpen (tree-is ∙ ap unsplit (none .0));
           checked = tt;
-          checkedToo = rw (d .2, none .1) tt;
+          disjunctsChecked = rw (d .2, none .1) tt;
           first = λ o. (refl, d .2 ∙ none .1);
           wellFormed = line-well-formed p (A .wellFormed);
         }
@@ -61,19 +61,19 @@ line-assumed {σ} {σ′} {l} p h A = go (p .command) refl (p .run .did) (comman
           literals = A .literals ++ (literal R (n .a) (n .b) ∷ []);
           status = d .1 ∙ ap (λ (t : Tree). isOpen (record { branch = t .branch ++ (literal R (n .a) (n .b) ∷ []); waiting = t .waiting })) tree-is;
           checked = subst (λ (x : Table). AllAssumptions x (A .literals ++ (literal R (n .a) (n .b) ∷ []))) (sym (d .0)) (one-more (σ .table) (A .literals) _ (A .checked) (R, n, d .2));
-          checkedToo = rw (d .0, d .3) (A .checkedToo);
+          disjunctsChecked = rw (d .0, d .3) (A .disjunctsChecked);
           first = λ o. absurd (true≢false (sym o ∙ ap (λ (x : Letter). inOrder x Letter.T) (p .run .letter ∙ ap letterOf e)));
           wellFormed = line-well-formed p (A .wellFormed);
         }
     go (disjoin R) e d k =
         let n = p .line .fields in
         let D : Disjunct = record { clause = n .c; is = literal R (n .a) (n .b) } in
-        let h = one-more (σ .table) (disjuncts (σ .clauses)) (literal R (n .a) (n .b)) (A .checkedToo) (R, four (n .a) (n .b) 0 (n .d), sym (disjunct-as-assumption (σ .table) R n) ∙ d .2 .line) in
+        let h = one-more (σ .table) (disjuncts (σ .clauses)) (literal R (n .a) (n .b)) (A .disjunctsChecked) (R, four (n .a) (n .b) 0 (n .d), sym (disjunct-as-assumption (σ .table) R n) ∙ d .2 .line) in
         record {
           literals = A .literals;
           status = d .1 ∙ ap isOpen tree-is;
           checked = rw (d .0) (A .checked);
-          checkedToo = rw (d .0, d .2 .after, more-disjuncts (σ .clauses) D) h;
+          disjunctsChecked = rw (d .0, d .2 .after, more-disjuncts (σ .clauses) D) h;
           first = λ o. absurd (true≢false (sym o ∙ ap (λ (x : Letter). inOrder x Letter.T) (p .run .letter ∙ ap letterOf e)));
           wellFormed = line-well-formed p (A .wellFormed);
         }

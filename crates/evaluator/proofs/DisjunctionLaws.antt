@@ -4,7 +4,7 @@ use mathlib.Core.Bool.{Bool, true, false, cond}
 use mathlib.Core.List.{List, [], _∷_, map}
 use mathlib.Core.Logic.{⊎-elim}
 use native.Mathlib.Nat.{eq-or-lt-of-le}
-use Prim.Native.Nat.{ℕ, zero, suc, _+_, _-_, _<_, _≤_}
+use Prim.Native.Nat.{ℕ, zero, suc, _+_, _<_, _≤_}
 use native.Mathlib.Omega.{arith}
 use lib.Dec.{eqb}
 use lib.ListN.{getD}
@@ -19,6 +19,7 @@ use Rattle.regions.specs.declared.HeapTables.{HeapTables}
 use Rattle.term_values.specs.Literals.{IsAssumption, Evaluable}
 use Rattle.evaluator.specs.Assumptions.{AllAssumptions, AnyIs, FirstFalseClause}
 use Rattle.evaluator.proofs.AssumptionLaws.{TestedAs}
+use Rattle.evaluator.proofs.Searches.{NotBefore, at-start, at-end, found, passed-by}
 
 -- A CLAUSE'S LITERALS passed their checks where all did
 pub clause-checked : (table : Table) (C : Clauses) (k : ClauseNo) → AllAssumptions table (disjuncts C) → AllAssumptions table (clauseOf C k)
@@ -39,14 +40,18 @@ checked-at table words from (suc n) i h l a = ⊎-elim
     (λ (e : from < i). checked-at table words (suc from) n i e (omega arith) (a .1))
     (eq-or-lt-of-le h)
 
--- NONE BEFORE i IS TRUE: whether one is hangs on those from i on
+-- WHETHER ONE OF n CODES IS TRUE, from i on
+abbrev anyFrom : {H : FiniteHeap} → Values H → Table → List ℕ → ℕ → ℕ → Bool
+anyFrom ρ table words i n = anyPasses (isTrue ρ (at table)) (map unpackLiteral (codesAt words i n))
+
+-- none before i is
 pub record NoneBefore (words : List ℕ) (from n : ℕ) (terms numbers rows : List ℕ) (tables : HeapTables) (i : ℕ) : Type 0 where
   pub goes-on : (H : FiniteHeap) (ρ : Values H) (table : Table) → Entries table terms → AllAssumptions table (map unpackLiteral (codesAt words from n)) → Evaluable H ρ table tables numbers rows
-      → anyPasses (isTrue ρ (at table)) (map unpackLiteral (codesAt words from n)) ≡ anyPasses (isTrue ρ (at table)) (map unpackLiteral (codesAt words i (from + n - i)))
+      → NotBefore (anyFrom ρ table words) from n i
 
 module _ {words : List ℕ} {from n : ℕ} {terms numbers rows : List ℕ} {tables : HeapTables} where
   pub none-looked-at : NoneBefore words from n terms numbers rows tables from
-  none-looked-at = let e : from + n - from ≡ n = omega arith in record { goes-on = λ H ρ table E A W. rw e }
+  none-looked-at = record { goes-on = λ H ρ table E A W. at-start (anyFrom ρ table words) from n }
 
   module _ {i : ℕ} (N : NoneBefore words from n terms numbers rows tables i) where
     -- (of m literals, which are n)
@@ -54,46 +59,37 @@ module _ {words : List ℕ} {from n : ℕ} {terms numbers rows : List ℕ} {tabl
     as-many {m} {b} q a = subst (λ (k : ℕ). AnyIs (map unpackLiteral (codesAt words from k)) terms numbers rows tables b) q a
 
     pub none-true : {m : ℕ} → n ≡ m → from + n ≤ i → AnyIs (map unpackLiteral (codesAt words from m)) terms numbers rows tables false
-    none-true q h = let e : from + n - i ≡ 0 = omega arith in as-many q (record { is = λ H ρ table E A W. sym (N .goes-on H ρ table E A W ∙ rw e) })
+    none-true q h = as-many q (record { is = λ H ρ table E A W. sym (at-end (anyFrom ρ table words) from n h (N .goes-on H ρ table E A W)) })
 
     module _ (h : from ≤ i) (l : i < from + n) {b : Bool} (t : TestedAs terms numbers rows tables (unpackLiteral (getD words i 0)) b) where
-      left : from + n - i ≡ suc (from + n - (i + 1))
-      left = omega arith
-
-      next : suc i ≡ i + 1
-      next = omega arith
-
       tested : (H : FiniteHeap) (ρ : Values H) (table : Table) → Entries table terms → AllAssumptions table (map unpackLiteral (codesAt words from n)) → Evaluable H ρ table tables numbers rows → {c : Bool} → b ≡ c
           → isTrue ρ (at table) (unpackLiteral (getD words i 0)) ≡ c
       tested H ρ table E A W e = sym (t H ρ table E (checked-at table words from n i h l A) W) ∙ e
 
       pub one-true-here : {m : ℕ} → n ≡ m → b ≡ true → AnyIs (map unpackLiteral (codesAt words from m)) terms numbers rows tables true
-      one-true-here q e = as-many q record { is = λ H ρ table E A W. sym (N .goes-on H ρ table E A W ∙ rw (left, tested H ρ table E A W e)) }
+      one-true-here q e = as-many q (record { is = λ H ρ table E A W. sym (found (anyFrom ρ table words) from n l (N .goes-on H ρ table E A W) (λ m. rw (tested H ρ table E A W e))) })
 
       pub not-here : b ≡ false → NoneBefore words from n terms numbers rows tables (i + 1)
-      not-here e = record { goes-on = λ H ρ table E A W. N .goes-on H ρ table E A W ∙ rw (left, tested H ρ table E A W e, next) }
+      not-here e = record { goes-on = λ H ρ table E A W. passed-by (anyFrom ρ table words) from n l (N .goes-on H ρ table E A W) (λ m. rw (tested H ρ table E A W e)) }
 
 -- EVERY CLAUSE BEFORE k HAS A TRUE LITERAL: the first that has none is one from k on
 pub record MetBefore (C : Clauses) (before : ℕ) (terms numbers rows : List ℕ) (tables : HeapTables) (k : ClauseNo) : Type 0 where
   pub goes-on : (H : FiniteHeap) (ρ : Values H) (table : Table) → Entries table terms → AllAssumptions table (disjuncts C) → Evaluable H ρ table tables numbers rows
-      → firstFalseClause (isTrue ρ (at table)) before C 1 (lastClause C) ≡ firstFalseClause (isTrue ρ (at table)) before C k (suc (lastClause C) - k)
+      → NotBefore (firstFalseClause (isTrue ρ (at table)) before C) 1 (lastClause C) k
 
 module _ {C : Clauses} {before : ℕ} {terms numbers rows : List ℕ} {tables : HeapTables} where
   pub none-before : MetBefore C before terms numbers rows tables 1
-  none-before = let e : suc (lastClause C) - 1 ≡ lastClause C = omega arith in record { goes-on = λ H ρ table E A W. rw e }
+  none-before = record { goes-on = λ H ρ table E A W. at-start (firstFalseClause (isTrue ρ (at table)) before C) 1 (lastClause C) }
 
   module _ {k : ClauseNo} (M : MetBefore C before terms numbers rows tables k) where
     pub all-met : lastClause C < k → FirstFalseClause C before terms numbers rows tables 0
     unfolding firstFalseClause
-    all-met h = let e : suc (lastClause C) - k ≡ 0 = omega arith in record { is = λ H ρ table E A W. sym (M .goes-on H ρ table E A W ∙ rw e) }
+    all-met h = record { is = λ H ρ table E A W. sym (at-end (firstFalseClause (isTrue ρ (at table)) before C) 1 (lastClause C) (omega arith) (M .goes-on H ρ table E A W)) }
 
-    module _ (l : k ≤ lastClause C) {words : List ℕ} {s : Span} (S : SpanOf C words k s) {b : Bool}
+    module _ (h : k ≤ lastClause C) {words : List ℕ} {s : Span} (S : SpanOf C words k s) {b : Bool}
         (t : AnyIs (map unpackLiteral (codesAt words (s .from) (s .count))) terms numbers rows tables b) where
-      clauses-left : suc (lastClause C) - k ≡ suc (suc (lastClause C) - (k + 1))
-      clauses-left = omega arith
-
-      next-clause : suc k ≡ k + 1
-      next-clause = omega arith
+      left : k < 1 + lastClause C
+      left = omega arith
 
       clause-tested : (H : FiniteHeap) (ρ : Values H) (table : Table) → Entries table terms → AllAssumptions table (disjuncts C) → Evaluable H ρ table tables numbers rows → {c : Bool} → b ≡ c
           → anyPasses (isTrue ρ (at table)) (clauseOf C k) ≡ c
@@ -103,8 +99,12 @@ module _ {C : Clauses} {before : ℕ} {terms numbers rows : List ℕ} {tables : 
 
       pub false-clause-here : b ≡ false → FirstFalseClause C before terms numbers rows tables (before + (s .from + s .count))
       unfolding firstFalseClause
-      false-clause-here e = record { is = λ H ρ table E A W. sym (M .goes-on H ρ table E A W ∙ rw (clauses-left, clause-tested H ρ table E A W e, S .end)) }
+      false-clause-here e = record {
+        is = λ H ρ table E A W. sym (found (firstFalseClause (isTrue ρ (at table)) before C) 1 (lastClause C) left (M .goes-on H ρ table E A W) (λ m. rw (clause-tested H ρ table E A W e, S .end)));
+      }
 
       pub met-here : b ≡ true → MetBefore C before terms numbers rows tables (k + 1)
       unfolding firstFalseClause
-      met-here e = record { goes-on = λ H ρ table E A W. M .goes-on H ρ table E A W ∙ rw (clauses-left, clause-tested H ρ table E A W e, next-clause) }
+      met-here e = record {
+        goes-on = λ H ρ table E A W. passed-by (firstFalseClause (isTrue ρ (at table)) before C) 1 (lastClause C) left (M .goes-on H ρ table E A W) (λ m. rw (clause-tested H ρ table E A W e));
+      }

@@ -62,7 +62,7 @@ module _ (file heap : List ℕ) where
       assumed =
           let r : Run LinePassed start (linesRead file) state = rw (← part-lines) (lines-passed LinePassed runLine (λ σ σ′. line-passed σ) (split LF (take k file)) 0 start (F .runs)) in
           let n : NoSteps (linesRead file) = rw (lines-read (split LF file)) (no-steps (linesOf file)) in
-          run-assumed r n (record { literals = []; status = refl; checked = tt; checkedToo = tt; first = λ o. (refl, refl); wellFormed = empty-well-formed })
+          run-assumed r n (record { literals = []; status = refl; checked = tt; disjunctsChecked = tt; first = λ o. (refl, refl); wellFormed = empty-well-formed })
 
       -- the branch is the only one, and its literals are those assumed
       literals-are : (c : Bool) (τ : specification.Tree) (ls : List Literal) → statusOf c τ ≡ isOpen (unsplit ls) → (assumptionsOf (statusOf c τ) ≡ τ .branch) × (ls ≡ τ .branch)
@@ -80,5 +80,5 @@ module _ (file heap : List ℕ) where
             literals = l .0;
             checked = subst (AllAssumptions (F .table)) (l .1) (assumed .checked);
             clauses = F .clausesHeld;
-            disjuncts′ = assumed .checkedToo;
+            disjuncts′ = assumed .disjunctsChecked;
           }

@@ -4,4 +4,5 @@ pub mod ValueLaws
 pub mod TrialLaws
 pub mod FileLaws
 pub mod CallLaws
+pub mod Searches
 pub mod DisjunctionLaws

@@ -58,7 +58,7 @@ reached-start {file} H P K w q s = record {
     closings = omega arith;
     clauses = omega arith;
     closed = λ z. absurd (let y : _≡_ {A = ℕ} 0 1 = cc in omega arith);
-    unclaused = λ z. refl;
+    noClauseYet = λ z. refl;
   };
   noted = omega arith;
   lines = omega arith;

@@ -41,7 +41,7 @@ pub record Counted (g : Progress) : Type 0 where
   pub closings : g .counts .closings ≤ g .lines
   pub clauses : g .clauses ≤ g .lines
   pub closed : g .closed ≡ true → g .letter ≡ Letter.S
-  pub unclaused : inOrder (g .letter) Letter.A ≡ true → g .clauses ≡ 0
+  pub noClauseYet : inOrder (g .letter) Letter.A ≡ true → g .clauses ≡ 0
 
 abbrev pub atStart : Progress
 atStart = record { letter = Letter.T; closed = false; lines = 0; noted = 0; clauses = 0; counts = record { terms = 0; assumptions = 0; steps = 0; closings = 0 } }

@@ -2,7 +2,7 @@
 use mathlib.Core.Path.{_≡_, refl, sym, _∙_, ap, ap₂}
 use mathlib.Core.Bool.{Bool, true, false, _&&_}
 use mathlib.Core.List.{[], _∷_, _++_, map}
-use mathlib.Core.Option.{none, some}
+use mathlib.Core.Option.{some}
 use Prim.Native.Nat.{ℕ, suc, _+_, _≤_}
 use native.Mathlib.Omega.{arith}
 use native.Mathlib.Numerals.{add-one}
@@ -11,19 +11,15 @@ use lib.ListN.{length}
 use borrow.Author.Tests.{le-leb}
 use Rattle.tableau.specs.declared.Letter.{Letter}
 use Rattle.tableau.specs.declared.Reason.{Reason}
-use Rattle.tableau.specs.declared.Relation.{Relation}
 use Rattle.tableau.specs.Basics.{lookup}
 use Rattle.tableau.specs.File.{letters, rank, inOrder}
-use Rattle.tableau.specs.Words.{relations, assume, some-of}
-use mathlib.Core.Option.{Option}
+use Rattle.tableau.specs.Words.{assume}
 use Rattle.tableau.specs.Terms.{Table, Clauses, maxTerms}
 use Rattle.tableau.specs.Terms as terms
 use Rattle.tableau.specs.Tree as specification
 use Rattle.tableau.specs.Tree.{Checked, refused, passed, _>>=_, _>>_, require, Status, isOpen, isClosed, maxPlaces, maxWaiting, roomOnBranch, roomToWait, grow, grown}
-use Rattle.tableau.specs.Reply.{State, assumed, counted, requireOpen, runOpen}
+use Rattle.tableau.specs.Reply.{State, assumed, runOpen}
 use Rattle.lines.specs.declared.LineFields.{LineFields}
-use Rattle.lines.specs.Lines.{numbersOf}
-use Rattle.words.specs.Words.{lookupPacked}
 use Rattle.packing.specs.Packing.{unpackLiteral}
 use Rattle.terms.specs.declared.Assumption.{Assumption}
 use Rattle.terms.specs.Lines.{assumptionOf}
@@ -35,11 +31,10 @@ use Rattle.tree.proofs.Waiting.{stack-length}
 use Rattle.reply.specs.Verdict.{countsOf}
 use Rattle.growth.specs.declared.Progress.{Progress}
 use Rattle.growth.specs.declared.LineResult.{LineResult}
-use Rattle.growth.specs.Progress.{statusOf, stateAt, afterLiteral, resultOf}
+use Rattle.growth.specs.Progress.{stateAt, afterLiteral, resultOf}
 use Rattle.running.specs.Running.{packedCommand, runFields}
-use Rattle.running.proofs.Lines.{run-unknown, run-known}
 use Rattle.line_checks.specs.Checks.{Ready, literalRead, KeptAfter, AssumptionDone}
-use Rattle.line_checks.proofs.LiteralLines.{refused-so, assumed-so}
+use Rattle.line_checks.proofs.LiteralLines.{literal-runs, refused-so, assumed-so}
 use Rattle.line_checks.proofs.Results.{open-before, with, result-state, result-follows}
 
 -- CHECK 15 of a line is that of a step with one alternative of one literal, which never closes the tree
@@ -90,12 +85,7 @@ module _ (table : Table) (C : Clauses) (g : Progress) (e : Extent) (f : LineFiel
   -- checks 4, 6, 8 and 9, then 15
   assumption-runs : (τ : specification.Tree) → runFields (stateAt table C τ g) f ≡ (literalRead table Letter.A f >>= λ x. assumed τ x >>= made)
   unfolding packedCommand runOpen
-  assumption-runs τ = go (lookupPacked relations (f .word)) refl
-    where
-      go : (m : Option Relation) → lookupPacked relations (f .word) ≡ m → runFields (stateAt table C τ g) f ≡ (literalRead table Letter.A f >>= λ x. assumed τ x >>= made)
-      go none h = run-unknown (stateAt table C τ g) f k o (ap (some-of assume) h) ∙ sym (rw h)
-      go (some R) h = run-known (stateAt table C τ g) f k (assume R) o (ap (some-of assume) h)
-          ∙ ap (λ (b : Bool). requireOpen (statusOf b τ) >>= λ τ. runOpen (stateAt table C τ g) τ (assume R) (numbersOf f)) opened ∙ sym (rw h)
+  assumption-runs = literal-runs table C g f k o opened assume refl (λ τ x. assumed τ x >>= made) (λ τ R. refl)
 
   by-status : (m : Checked specification.Tree) → (m >>= made) ≡ ((m >>= λ τ. passed (isOpen τ)) >>= with table C (afterLiteral g))
   by-status (refused r) = refl
@@ -144,7 +134,7 @@ module _ (table : Table) (C : Clauses) (g : Progress) (e : Extent) (f : LineFiel
                     closings = omega arith;
                     clauses = omega arith;
                     closed = λ z. absurd (let y : _≡_ {A = ℕ} 0 1 = cc in omega arith);
-                    unclaused = λ z. c .unclaused o;
+                    noClauseYet = λ z. c .noClauseYet o;
                   })
                   (W .noted) (W .limits) y (G .fits t w q) (λ z. absurd (stays-open τ l room (ap (grownBy unpackLiteral t) (sym z) ∙ grows)));
               runs = assumption-runs τ ∙ ap (λ (n : Checked terms.Literal). n >>= λ y. assumed τ y >>= made) a ∙ by-status (assumed τ l)

@@ -1,27 +1,23 @@
 -- C lines in the specification's run.
-use mathlib.Core.Path.{_≡_, refl, sym, _∙_, ap}
-use mathlib.Core.Bool.{Bool, true, false}
+use mathlib.Core.Path.{_≡_, refl, _∙_, ap}
+use mathlib.Core.Bool.{true, false}
 use mathlib.Core.List.{List, [], _∷_, _++_}
-use mathlib.Core.Logic.{_⊎_, inl, inr}
-use mathlib.Core.Option.{Option, none, some}
+use mathlib.Core.Option.{some}
 use Prim.Native.Nat.{ℕ, suc, _+_, _≤_}
 use native.Mathlib.Omega.{arith}
 use lib.ListN.{length}
 use Rattle.tableau.specs.declared.Letter.{Letter}
 use Rattle.tableau.specs.declared.Reason.{Reason}
-use Rattle.tableau.specs.declared.Relation.{Relation}
 use Rattle.tableau.specs.Basics.{lookup}
 use Rattle.tableau.specs.File.{letters, rank, inOrder}
-use Rattle.tableau.specs.Words.{relations, disjoin, some-of}
+use Rattle.tableau.specs.Words.{disjoin}
 use Rattle.tableau.specs.Terms.{Table, Clauses, lastClause, maxTerms}
 use Rattle.tableau.specs.Terms as terms
 use Rattle.tableau.specs.Tree as specification
 use Rattle.tableau.specs.Tree.{Checked, refused, passed, _>>=_, isOpen}
-use Rattle.tableau.specs.Reply.{State, takesDisjunct, disjoined, requireOpen, runOpen}
+use Rattle.tableau.specs.Reply.{State, takesDisjunct, disjoined, runOpen}
 use Rattle.tableau.proofs.ClauseLaws.{fitting}
 use Rattle.lines.specs.declared.LineFields.{LineFields}
-use Rattle.lines.specs.Lines.{numbersOf}
-use Rattle.words.specs.Words.{lookupPacked}
 use Rattle.packing.specs.Packing.{unpackLiteral}
 use Rattle.clauses.specs.Held.{ClausesHeld}
 use Rattle.freshness.specs.Prefixes.{PrefixRows}
@@ -34,12 +30,11 @@ use Rattle.tree.proofs.Changes.{unchanged-fits}
 use Rattle.reply.specs.Verdict.{countsOf}
 use Rattle.growth.specs.declared.Progress.{Progress}
 use Rattle.growth.specs.declared.LineResult.{LineResult}
-use Rattle.growth.specs.Progress.{statusOf, stateAt, afterDisjunct}
+use Rattle.growth.specs.Progress.{stateAt, afterDisjunct}
 use Rattle.running.specs.Running.{packedCommand, runFields}
-use Rattle.running.proofs.Lines.{run-unknown, run-known}
 use Rattle.line_checks.specs.Checks.{Ready, literalRead, DisjunctDone}
 use Rattle.line_checks.proofs.Results.{open-before, unchanged}
-use Rattle.line_checks.proofs.LiteralLines.{refused-so, assumed-so}
+use Rattle.line_checks.proofs.LiteralLines.{literal-runs, refused-so, assumed-so}
 
 module _ (table : Table) (C : Clauses) (g : Progress) (e : Extent) (f : LineFields) (W : Ready g e) (k : lookup letters (f .letter ∷ []) ≡ some Letter.C) (o : inOrder (g .letter) Letter.C ≡ true) where
   opened : g .closed ≡ false
@@ -53,12 +48,7 @@ module _ (table : Table) (C : Clauses) (g : Progress) (e : Extent) (f : LineFiel
   -- checks 4, 6, 8 and 9, then 21
   clause-runs : (τ : specification.Tree) → runFields (stateAt table C τ g) f ≡ (literalRead table Letter.C f >>= λ x. disjoined C (f .c) x >>= made τ)
   unfolding packedCommand runOpen
-  clause-runs τ = go (lookupPacked relations (f .word)) refl
-    where
-      go : (m : Option Relation) → lookupPacked relations (f .word) ≡ m → runFields (stateAt table C τ g) f ≡ (literalRead table Letter.C f >>= λ x. disjoined C (f .c) x >>= made τ)
-      go none h = run-unknown (stateAt table C τ g) f k o (ap (some-of disjoin) h) ∙ sym (rw h)
-      go (some R) h = run-known (stateAt table C τ g) f k (disjoin R) o (ap (some-of disjoin) h)
-          ∙ ap (λ (b : Bool). requireOpen (statusOf b τ) >>= λ τ. runOpen (stateAt table C τ g) τ (disjoin R) (numbersOf f)) opened ∙ sym (rw h)
+  clause-runs = literal-runs table C g f k o opened disjoin refl (λ τ x. disjoined C (f .c) x >>= made τ) (λ τ R. refl)
 
   module _ (codes words prefix : List ℕ) where
     refusal : (r : Reason) → ((τ : specification.Tree) → runFields (stateAt table C τ g) f ≡ refused r) → DisjunctDone table C codes g e f words prefix (LineResult.Refused r (g .lines + 1))
@@ -81,11 +71,7 @@ module _ (table : Table) (C : Clauses) (g : Progress) (e : Extent) (f : LineFiel
       C′ = C ++ (record { clause = f .c; is = unpackLiteral code } ∷ [])
 
       few-clauses : takesDisjunct C (f .c) ≡ true → lastClause C ≡ g .clauses → f .c ≤ g .lines + 1
-      few-clauses z l = go (fitting C (f .c) z .lastOrNext′)
-        where
-          go : (f .c ≡ lastClause C) ⊎ (f .c ≡ suc (lastClause C)) → f .c ≤ g .lines + 1
-          go (inl q) = omega (arith, q, l, W .counted .clauses)
-          go (inr q) = omega (arith, q, l, W .counted .clauses)
+      few-clauses z l = omega (arith, fitting C (f .c) z .most, l, W .counted .clauses)
 
       pub disjunct-joined : takesDisjunct C (f .c) ≡ true → lastClause C ≡ g .clauses → ClausesHeld C′ words (f .c) → PrefixRows table C′ codes prefix 0
           → DisjunctDone table C codes g e f words prefix (LineResult.Passed (afterDisjunct g (f .c)) (unchangedFrom e))
@@ -106,7 +92,7 @@ module _ (table : Table) (C : Clauses) (g : Progress) (e : Extent) (f : LineFiel
                   closings = omega arith;
                   clauses = n;
                   closed = λ y. absurd (let x : _≡_ {A = ℕ} 0 1 = cc in omega arith);
-                  unclaused = λ y. absurd (let x : _≡_ {A = ℕ} 0 1 = cc in omega arith);
+                  noClauseYet = λ y. absurd (let x : _≡_ {A = ℕ} 0 1 = cc in omega arith);
                 };
                 fits = unchanged-fits e (W .limits);
                 noted = omega arith;

@@ -1,6 +1,7 @@
 -- The literal of an A or C line, as it is taken from the line and as the specification reads it.
 use mathlib.Core.Path.{_≡_, refl, sym, _∙_, ap}
-use mathlib.Core.Bool.{true, false}
+use mathlib.Core.Bool.{Bool, true, false}
+use mathlib.Core.List.{[], _∷_}
 use mathlib.Core.Option.{Option, none, some}
 use mathlib.Core.Logic.{_⊎_, inl, inr}
 use Prim.Native.Nat.{ℕ, _≤_}
@@ -10,13 +11,14 @@ use borrow.Author.Tests.{eqb-true}
 use Rattle.tableau.specs.declared.Letter.{Letter}
 use Rattle.tableau.specs.declared.Reason.{Reason}
 use Rattle.tableau.specs.declared.Relation.{Relation}
-use Rattle.tableau.specs.Basics.{Four, four, every}
-use Rattle.tableau.specs.Words.{relations}
-use Rattle.tableau.specs.Fields.{sides, clauseFields}
-use Rattle.tableau.specs.Terms.{Table, maxTerms}
+use Rattle.tableau.specs.Basics.{Four, four, every, lookup}
+use Rattle.tableau.specs.File.{letters, inOrder}
+use Rattle.tableau.specs.Words.{Command, relations, some-of}
+use Rattle.tableau.specs.Fields.{unused, sides, clauseFields}
+use Rattle.tableau.specs.Terms.{Table, Clauses, maxTerms}
 use Rattle.tableau.specs.Terms as terms
-use Rattle.tableau.specs.Tree.{Checked, refused, passed}
-use Rattle.tableau.specs.Reply.{zeroIfUnused, literalLine}
+use Rattle.tableau.specs.Tree.{Checked, refused, passed, _>>=_, Tree}
+use Rattle.tableau.specs.Reply.{State, zeroIfUnused, literalLine, requireOpen, runOpen}
 use Rattle.tableau.proofs.Bools.{dec, every-true}
 use Rattle.tableau.proofs.Checks.{literal-passed}
 use Rattle.tableau.proofs.ClauseLaws.{disjunct-as-assumption}
@@ -31,17 +33,27 @@ use Rattle.packing.proofs.PackingLaws.{literal-unpack-pack}
 use Rattle.terms.specs.declared.Assumption.{Assumption}
 use Rattle.terms.specs.Lines.{assumptionOf}
 use Rattle.terms.proofs.LineLaws.{sides-packable}
+use Rattle.growth.specs.declared.Progress.{Progress}
+use Rattle.growth.specs.Progress.{statusOf, stateAt}
+use Rattle.running.specs.Running.{packedCommand, runFields}
+use Rattle.running.proofs.Lines.{run-unknown, run-known}
 use Rattle.line_checks.specs.Checks.{literalRead}
 
 -- AN A LINE that passed check 6 has zeros behind its sides
-two-zeros : (R : Relation) (k : Four ℕ) → every zeroIfUnused (sides R) k ≡ true → k ≡ four (k .a) (k .b) 0 0
+behind-sides : (R : Relation) → (sides R .c ≡ unused) × (sides R .d ≡ unused)
 unfolding sides
-two-zeros Relation.In k h = let z = every-true zeroIfUnused (sides Relation.In) k h in λ i. four (k .a) (k .b) (eqb-true (k .c) 0 (z .2) i) (eqb-true (k .d) 0 (z .3) i)
-two-zeros Relation.Ni k h = let z = every-true zeroIfUnused (sides Relation.Ni) k h in λ i. four (k .a) (k .b) (eqb-true (k .c) 0 (z .2) i) (eqb-true (k .d) 0 (z .3) i)
-two-zeros Relation.Eq k h = let z = every-true zeroIfUnused (sides Relation.Eq) k h in λ i. four (k .a) (k .b) (eqb-true (k .c) 0 (z .2) i) (eqb-true (k .d) 0 (z .3) i)
-two-zeros Relation.Ne k h = let z = every-true zeroIfUnused (sides Relation.Ne) k h in λ i. four (k .a) (k .b) (eqb-true (k .c) 0 (z .2) i) (eqb-true (k .d) 0 (z .3) i)
-two-zeros Relation.Le k h = let z = every-true zeroIfUnused (sides Relation.Le) k h in λ i. four (k .a) (k .b) (eqb-true (k .c) 0 (z .2) i) (eqb-true (k .d) 0 (z .3) i)
-two-zeros Relation.Nl k h = let z = every-true zeroIfUnused (sides Relation.Nl) k h in λ i. four (k .a) (k .b) (eqb-true (k .c) 0 (z .2) i) (eqb-true (k .d) 0 (z .3) i)
+behind-sides Relation.In = (refl, refl)
+behind-sides Relation.Ni = (refl, refl)
+behind-sides Relation.Eq = (refl, refl)
+behind-sides Relation.Ne = (refl, refl)
+behind-sides Relation.Le = (refl, refl)
+behind-sides Relation.Nl = (refl, refl)
+
+two-zeros : (R : Relation) (k : Four ℕ) → every zeroIfUnused (sides R) k ≡ true → k ≡ four (k .a) (k .b) 0 0
+two-zeros R k h =
+    let z = every-true zeroIfUnused (sides R) k h in
+    let u = behind-sides R in
+    λ i. four (k .a) (k .b) (eqb-true (k .c) 0 (rw (u .0) at (z .2)) i) (eqb-true (k .d) 0 (rw (u .1) at (z .3)) i)
 
 -- so a line that passed it, of either letter, is read as its sides alone are
 module _ (table : Table) (R : Relation) (k : Four ℕ) where
@@ -77,6 +89,18 @@ module _ (table : Table) (l : Letter) (f : LineFields) where
         → literalLine table (sides (x .relation)) (x .relation) (sidesIn x) ≡ literalRead table l f
     unfolding literal-as
     read-taken z x e = ap (literal-as table) e ∙ sym (rw h (sides-alone table R (numbersOf f) l z))
+
+-- THE RUN of such a line, which checks 2, 3 and 5 let through: those of its literal, then what its command does with the literal
+module _ (table : Table) (C : Clauses) (g : Progress) (f : LineFields) {l : Letter} (k : lookup letters (f .letter ∷ []) ≡ some l) (o : inOrder (g .letter) l ≡ true) (opened : g .closed ≡ false)
+    (ask : Relation → Command) (asked : packedCommand l (f .word) ≡ some-of ask (lookupPacked relations (f .word))) (end : Tree → terms.Literal → Checked State)
+    (ends : (τ : Tree) (R : Relation) → runOpen (stateAt table C τ g) τ (ask R) (numbersOf f) ≡ (literalLine table (literalFields l R) R (numbersOf f) >>= end τ)) where
+  pub literal-runs : (τ : Tree) → runFields (stateAt table C τ g) f ≡ (literalRead table l f >>= end τ)
+  literal-runs τ = go (lookupPacked relations (f .word)) refl
+    where
+      go : (m : Option Relation) → lookupPacked relations (f .word) ≡ m → runFields (stateAt table C τ g) f ≡ (literalRead table l f >>= end τ)
+      go none h = run-unknown (stateAt table C τ g) f k o (asked ∙ ap (some-of ask) h) ∙ sym (rw h)
+      go (some R) h = run-known (stateAt table C τ g) f k (ask R) o (asked ∙ ap (some-of ask) h)
+          ∙ ap (λ (b : Bool). requireOpen (statusOf b τ) >>= λ τ′. runOpen (stateAt table C τ g) τ′ (ask R) (numbersOf f)) opened ∙ ends τ R ∙ sym (rw h)
 
 -- WHAT WAS READ is what the specification reads
 pub refused-so : (m : Checked terms.Literal) {r : Reason} → Assumption.Refused r ≡ assumptionOf m → m ≡ refused r

@@ -54,13 +54,13 @@ pub result-follows : (g₀ g : Progress) (e : Extent) → g .lines ≡ g₀ .lin
     → (x : Growth) → FitsIn e x → (x ≡ Growth.Closed → g .letter ≡ Letter.S) → Follows g₀ e (resultOf g e x)
 result-follows g₀ g e n w m l (Growth.To c) f s = record {
   lines = n;
-  counted = record { terms = w .terms; assumptions = w .assumptions; steps = w .steps; closings = w .closings; clauses = w .clauses; closed = w .closed; unclaused = w .unclaused };
+  counted = record { terms = w .terms; assumptions = w .assumptions; steps = w .steps; closings = w .closings; clauses = w .clauses; closed = w .closed; noClauseYet = w .noClauseYet };
   fits = f;
   noted = omega arith;
 }
 result-follows g₀ g e n w m l Growth.Closed f s = record {
   lines = n;
-  counted = record { terms = w .terms; assumptions = w .assumptions; steps = w .steps; closings = w .closings; clauses = w .clauses; closed = λ z. s refl; unclaused = w .unclaused };
+  counted = record { terms = w .terms; assumptions = w .assumptions; steps = w .steps; closings = w .closings; clauses = w .clauses; closed = λ z. s refl; noClauseYet = w .noClauseYet };
   fits = unchanged-fits e l;
   noted = m;
 }

@@ -117,7 +117,7 @@ module _ (table : Table) (C : Clauses) (g : Progress) (e : Extent) (W : Ready g 
           closings = omega arith;
           clauses = omega arith;
           closed = λ z. refl;
-          unclaused = λ z. absurd (let y : _≡_ {A = ℕ} 0 1 = cc in omega arith);
+          noClauseYet = λ z. absurd (let y : _≡_ {A = ℕ} 0 1 = cc in omega arith);
         }
 
     module _ (words : List ℕ) (t : Tree) (w : Within t) (q : extentOf t ≡ e) (b : t .branch ≡ codes) where

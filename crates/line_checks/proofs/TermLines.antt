@@ -112,7 +112,7 @@ module _ (table : Table) (C : Clauses) (g : Progress) (e : Extent) (f : LineFiel
                   closings = omega arith;
                   clauses = omega arith;
                   closed = λ z. absurd (let y : _≡_ {A = ℕ} 0 1 = cc in omega arith);
-                  unclaused = λ z. c .unclaused (before-assumption (g .letter) o);
+                  noClauseYet = λ z. c .noClauseYet (before-assumption (g .letter) o);
                 };
                 fits = unchanged-fits e (W .limits);
                 noted = omega arith;

@@ -40,22 +40,12 @@ module _ (f : Four Use) (used : ℕ) (e : used ≡ maskOf f) where
     λ z. eqb-true (k .d) 0 (rw (tests (k .d) .3, z) at (t .3)),
   )
 
--- every relation uses two fields
-pub two-sides : (R : Relation) → 3 ≡ maskOf (sides R)
+-- a literal uses two fields on an A line, three on a C line
+pub literal-masks : (R : Relation) → (3 ≡ maskOf (sides R)) × (7 ≡ maskOf (clauseFields R))
 unfolding sides
-two-sides Relation.In = refl
-two-sides Relation.Ni = refl
-two-sides Relation.Eq = refl
-two-sides Relation.Ne = refl
-two-sides Relation.Le = refl
-two-sides Relation.Nl = refl
-
--- a C line uses three
-pub three-fields : (R : Relation) → 7 ≡ maskOf (clauseFields R)
-unfolding sides
-three-fields Relation.In = refl
-three-fields Relation.Ni = refl
-three-fields Relation.Eq = refl
-three-fields Relation.Ne = refl
-three-fields Relation.Le = refl
-three-fields Relation.Nl = refl
+literal-masks Relation.In = (refl, refl)
+literal-masks Relation.Ni = (refl, refl)
+literal-masks Relation.Eq = (refl, refl)
+literal-masks Relation.Ne = (refl, refl)
+literal-masks Relation.Le = (refl, refl)
+literal-masks Relation.Nl = (refl, refl)

@@ -90,7 +90,9 @@ no-clauses = record { counted = refl; each = λ k a b. absurd (omega arith); non
 -- a literal that passed check 21
 pub record Fitting (C : Clauses) (k : ClauseNo) : Type 0 where
   pub positive : 1 ≤ k
-  pub lastOrNext′ : (k ≡ lastClause C) ⊎ (k ≡ suc (lastClause C))
+  pub is : (k ≡ lastClause C) ⊎ (k ≡ suc (lastClause C))
+  pub least : lastClause C ≤ k
+  pub most : k ≤ suc (lastClause C)
   pub short : length (clauseOf C k) < maxDisjuncts
   pub few : length C < maxClauseLines
 
@@ -99,11 +101,12 @@ fitting C k h =
     let a = both-true (lastOrNext C k) _ h in
     let b = both-true (leb 1 k) _ (a .0) in
     let c = both-true (ltb (length (clauseOf C k)) maxDisjuncts) _ (a .1) in
-    record { positive = leb-true 1 k (b .0); lastOrNext′ = go (one-true (eqb k (lastClause C)) _ (b .1)); short = ltb-true _ _ (c .0); few = ltb-true _ _ (c .1) }
+    let n = number (one-true (eqb k (lastClause C)) _ (b .1)) in
+    record { positive = leb-true 1 k (b .0); is = n .0; least = n .1; most = n .2; short = ltb-true _ _ (c .0); few = ltb-true _ _ (c .1) }
   where
-    go : (eqb k (lastClause C) ≡ true) ⊎ (eqb k (suc (lastClause C)) ≡ true) → (k ≡ lastClause C) ⊎ (k ≡ suc (lastClause C))
-    go (inl e) = inl (eqb-true k (lastClause C) e)
-    go (inr e) = inr (eqb-true k (suc (lastClause C)) e)
+    number : (eqb k (lastClause C) ≡ true) ⊎ (eqb k (suc (lastClause C)) ≡ true) → ((k ≡ lastClause C) ⊎ (k ≡ suc (lastClause C))) × (lastClause C ≤ k) × (k ≤ suc (lastClause C))
+    number (inl h) = let e = eqb-true k (lastClause C) h in (inl e, omega (arith, e), omega (arith, e))
+    number (inr h) = let e = eqb-true k (suc (lastClause C)) h in (inr e, omega (arith, e), omega (arith, e))
 
 module _ (C : Clauses) (d : Disjunct) (s : InSequence C) (h : takesDisjunct C (d .clause) ≡ true) where
   abbrev C′ : Clauses
@@ -126,15 +129,13 @@ module _ (C : Clauses) (d : Disjunct) (s : InSequence C) (h : takesDisjunct C (d
       go (inl e) = inl (eqb-true (d .clause) k e, after true e ∙ omega arith)
       go (inr e) = inr (eqb-false (d .clause) k e, after false e ∙ omega arith)
 
-  each-after : (k : ClauseNo) → 1 ≤ k → k ≤ d .clause → Longer k → (d .clause ≡ lastClause C) ⊎ (d .clause ≡ suc (lastClause C)) → 0 < length (clauseOf C′ k)
-  each-after k a b (inl e) q = omega (arith, e .1)
-  each-after k a b (inr e) (inl q) = omega (arith, s .each k a (omega (arith, q)), e .1)
-  each-after k a b (inr e) (inr q) = omega (arith, s .each k a (omega (arith, q, e .0)), e .1)
+  each-after : (k : ClauseNo) → 1 ≤ k → k ≤ d .clause → Longer k → 0 < length (clauseOf C′ k)
+  each-after k a b (inl e) = omega (arith, e .1)
+  each-after k a b (inr e) = omega (arith, s .each k a (omega (arith, e .0, ok .most)), e .1)
 
-  none-after : (k : ClauseNo) → 0 < length (clauseOf C′ k) → Longer k → (d .clause ≡ lastClause C) ⊎ (d .clause ≡ suc (lastClause C)) → (1 ≤ k) × (k ≤ d .clause)
-  none-after k n (inl e) q = (omega (arith, e .0, ok .positive), omega (arith, e .0))
-  none-after k n (inr e) (inl q) = let m = s .none k (omega (arith, e .1)) in (m .0, omega (arith, m .1, q))
-  none-after k n (inr e) (inr q) = let m = s .none k (omega (arith, e .1)) in (m .0, omega (arith, m .1, q))
+  none-after : (k : ClauseNo) → 0 < length (clauseOf C′ k) → Longer k → (1 ≤ k) × (k ≤ d .clause)
+  none-after k n (inl e) = (omega (arith, e .0, ok .positive), omega (arith, e .0))
+  none-after k n (inr e) = let m = s .none k (omega (arith, e .1)) in (m .0, omega (arith, m .1, ok .least))
 
   short-after : (k : ClauseNo) → Longer k → length (clauseOf C′ k) ≤ maxDisjuncts
   short-after k (inl e) = omega (arith, ok .short, ap (λ j. length (clauseOf C j)) (e .0), e .1)
@@ -143,8 +144,8 @@ module _ (C : Clauses) (d : Disjunct) (s : InSequence C) (h : takesDisjunct C (d
   pub in-sequence-after : InSequence C′
   in-sequence-after = record {
     counted = count-last-after C d (both-true (lastOrNext C (d .clause)) _ h .0) (s .counted);
-    each = λ k a b. each-after k a (rw (last-after C d) at b) (longer k) (ok .lastOrNext′);
-    none = λ k n. rw (last-after C d) (none-after k n (longer k) (ok .lastOrNext′));
+    each = λ k a b. each-after k a (rw (last-after C d) at b) (longer k);
+    none = λ k n. rw (last-after C d) (none-after k n (longer k));
     short = λ k. short-after k (longer k);
     few = omega (arith, length-append C (d ∷ []), ok .few);
   }

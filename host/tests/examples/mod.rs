@@ -97,6 +97,21 @@ pub const RDM: [&str; 14] = [
     "S,cls,3,2,0,0",
 ];
 
+/// A clause of two literals, each denied by an assumption. Terms: 1 u, 2 r, 3 s.
+/// Places: 1 u ni r, 2 u ni s, then 3 u in r, and 3 u in s.
+pub const OR: [&str; 10] = [
+    "T,rfv,1,0,0,0",
+    "T,rgv,1,0,0,0",
+    "T,rgv,2,0,0,0",
+    "A,ni,1,2,0,0",
+    "A,ni,1,3,0,0",
+    "C,in,1,2,1,0",
+    "C,in,1,3,1,0",
+    "S,cla,0,0,1,0",
+    "S,cls,3,1,0,0",
+    "S,cls,3,2,0,0",
+];
+
 /// An accepted file that wants an allocated object, so assumes all ne emp: no
 /// region r is empty and leaves nothing of all. Terms: 1 w, 2 all, 3 emp, 4 r,
 /// 5 dif(all,r). What the steps add, and where:
@@ -335,14 +350,11 @@ pub fn rule_files() -> Vec<Accepted> {
             lines: RDM.to_vec(),
             counts: [9, 2, 3, 2],
         },
-        accepted(
-            "cla",
-            "T,rfv,1,0,0,0 T,rgv,1,0,0,0 T,rgv,2,0,0,0
-             A,ni,1,2,0,0 A,ni,1,3,0,0
-             C,in,1,2,1,0 C,in,1,3,1,0
-             S,cla,0,0,1,0 S,cls,3,1,0,0 S,cls,3,2,0,0",
-            [3, 3, 3, 2],
-        ),
+        Accepted {
+            rule: "cla",
+            lines: OR.to_vec(),
+            counts: [3, 3, 3, 2],
+        },
         accepted(
             "cls",
             "T,clv,1,0,0,0 T,clv,2,0,0,0

@@ -79,7 +79,7 @@ returns-4 c table C H K P =
     let t = c .before .before .before .before in
     let o = t .before .before in
     let p = first (no-step o .before) .pre in
-    of-term table C _ _ _ _ _ _ K P (p .1 .0 .counted .unclaused (before-assumption _ (in-order o (t .enum-told3 .given .1) .1))) (c .check2 .ensures table C H)
+    of-term table C _ _ _ _ _ _ K P (p .1 .0 .counted .noClauseYet (before-assumption _ (in-order o (t .enum-told3 .given .1) .1))) (c .check2 .ensures table C H)
 
 returns-5 : tie.Need-returns-5
 returns-5 c table C H K P = of-assumption table C _ _ _ _ _ _ K P H (c .check3 .ensures table C (H .searchable .entries) (H .count))
