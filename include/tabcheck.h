@@ -19,18 +19,28 @@
 extern "C" {
 #endif
 
-/* The reply buffer: six numbers of four bytes each, low byte first. */
-#define TABCHECK_REPLY_BYTES 24
+/*
+ * The reply buffer: seven numbers of four bytes each, low byte first. It had 24 bytes before there was a place: a host that still
+ * passes 24 gets TABCHECK_BUFFER_LENGTH for every file, with nothing written.
+ */
+#define TABCHECK_REPLY_BYTES 28
 
-/* The six numbers, in the reply's order: number i is bytes 4 * i to 4 * i + 3 of the buffer. */
+/* The seven numbers, in the reply's order: number i is bytes 4 * i to 4 * i + 3 of the buffer. */
 enum tabcheck_field {
-    TABCHECK_REFUSAL = 0, /* refusal number; 0 after a yes */
-    TABCHECK_LINE = 1,    /* line of the first bad line, from 1; 0 after a yes */
-    TABCHECK_T_LINES = 2, /* T lines; 0 after a no */
-    TABCHECK_ASSUMED = 3, /* A lines plus clauses; 0 after a no */
-    TABCHECK_S_LINES = 4, /* S lines; 0 after a no */
-    TABCHECK_CLOSINGS = 5 /* closings (cls and emp lines); 0 after a no */
+    TABCHECK_REFUSAL = 0,  /* refusal number; 0 after a yes */
+    TABCHECK_LINE = 1,     /* line of the first bad line, from 1; 0 after a yes */
+    TABCHECK_T_LINES = 2,  /* T lines; 0 after a no */
+    TABCHECK_ASSUMED = 3,  /* A lines plus clauses; 0 after a no */
+    TABCHECK_S_LINES = 4,  /* S lines; 0 after a no */
+    TABCHECK_CLOSINGS = 5, /* closings (cls and emp lines); 0 after a no */
+    TABCHECK_PLACE = 6     /* place where w is already used, after TABCHECK_NOT_FRESH; 0 after any other number and after a yes */
 };
+
+/*
+ * The place is the first on the branch, from 1, whose literal mentions w: as one of its sides or inside a larger term. The branch
+ * is the one that the refused line meets, without what closed or waiting alternatives hold. With TABCHECK_NOT_FRESH the place is 0
+ * where w is no rfv, even if it stands on the branch, and where w is in a clause only.
+ */
 
 /* The name of number 3 before there were clauses. */
 #define TABCHECK_A_LINES TABCHECK_ASSUMED
@@ -55,15 +65,15 @@ enum tabcheck_refusal {
     TABCHECK_BRANCH_FULL = 15,   /* an A line or any alternative would pass 1,000 places */
     TABCHECK_WAITING_FULL = 16,  /* over 200 alternatives would wait */
     TABCHECK_BRANCH_OPEN = 17,   /* input ends with a branch open; line is last line plus 1 */
-    TABCHECK_BUFFER_LENGTH = 18, /* reply buffer not 24 bytes; returned by the call, nothing written, before 1 */
+    TABCHECK_BUFFER_LENGTH = 18, /* reply buffer not 28 bytes; returned by the call, nothing written, before 1 */
     TABCHECK_BAD_CLAUSE = 21     /* clause number 0, or neither the last nor the next; a ninth literal in a clause; a 401st C line */
 };
 
 /*
  * Checks the file_len bytes at file and writes the reply into the buffer at reply. Returns the refusal number, 0 after a yes,
- * which is also the first of the six numbers.
+ * which is also the first of the seven numbers.
  *
- * After any number but TABCHECK_BUFFER_LENGTH all 24 bytes are written, whatever they held. TABCHECK_BUFFER_LENGTH is returned
+ * After any number but TABCHECK_BUFFER_LENGTH all 28 bytes are written, whatever they held. TABCHECK_BUFFER_LENGTH is returned
  * where reply_len is not TABCHECK_REPLY_BYTES, whatever the file, and then the buffer stays as it was.
  *
  * The caller guarantees

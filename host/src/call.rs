@@ -1,8 +1,12 @@
 //! The proved checker and the proved evaluator, called from Rust.
 
-/// "a reply buffer of 24 bytes, six numbers of four bytes each, low byte
-/// first"
-pub const REPLY_BYTES: usize = 24;
+/// "The reply buffer becomes 28 bytes": seven numbers "of four bytes each, low
+/// byte first".
+pub const REPLY_BYTES: usize = 28;
+
+/// Refusal number, line, T lines, A lines plus clauses, S lines, closings,
+/// place. The answer is yes when the number is 0.
+pub type Numbers = [u32; REPLY_BYTES / 4];
 
 /// The evaluator's reply buffer: three numbers of four bytes each, low byte
 /// first.
@@ -27,7 +31,7 @@ mod library {
 }
 
 /// Checks the file and returns the refusal number, 0 after a yes. The reply
-/// buffer gets the six numbers; one that has not `REPLY_BYTES` bytes stays as
+/// buffer gets the `Numbers`; one that has not `REPLY_BYTES` bytes stays as
 /// it is, and the number is 18.
 pub fn tabcheck(file: &[u8], reply: &mut [u8]) -> u32 {
     // SAFETY: two slices are valid for their lengths, and do not overlap, since
@@ -35,15 +39,14 @@ pub fn tabcheck(file: &[u8], reply: &mut [u8]) -> u32 {
     unsafe { library::tabcheck(file.as_ptr(), file.len(), reply.as_mut_ptr(), reply.len()) }
 }
 
-/// The six numbers of the file's reply: refusal number, line, T lines, A lines
-/// plus clauses, S lines, closings.
-pub fn check(file: &[u8]) -> [u32; 6] {
+/// The numbers of the file's reply.
+pub fn check(file: &[u8]) -> Numbers {
     through_buffer(tabcheck, file)
 }
 
-/// The six numbers that a call writes into a reply buffer. The call must
-/// return the first of them.
-pub fn through_buffer(call: fn(&[u8], &mut [u8]) -> u32, file: &[u8]) -> [u32; 6] {
+/// The numbers that a call writes into a reply buffer. The call must return the
+/// first of them.
+pub fn through_buffer(call: fn(&[u8], &mut [u8]) -> u32, file: &[u8]) -> Numbers {
     let mut reply = [0; REPLY_BYTES];
     let number = call(file, &mut reply);
     let numbers = numbers(&reply);

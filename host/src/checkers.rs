@@ -1,10 +1,7 @@
 //! The checkers that are compared and timed.
 
-use crate::{call, independent, yardstick};
-
-/// Number, line, terms, assumptions, steps, closings. The answer is yes when
-/// the number is 0.
-pub type Numbers = [u32; 6];
+use crate::call::{self, Numbers};
+use crate::{independent, yardstick};
 
 /// A checker and its name.
 pub type Checker = (&'static str, fn(&[u8]) -> Numbers);

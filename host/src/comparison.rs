@@ -3,8 +3,10 @@
 
 use std::collections::BTreeMap;
 use std::fmt;
+use std::ops::RangeBounds;
 
-use crate::checkers::{Checker, Numbers};
+use crate::call::Numbers;
+use crate::checkers::Checker;
 use crate::generator::{batch, Expected, Sample, FORMER_RULE, RULES};
 
 /// The refusals that a file can get.
@@ -33,6 +35,8 @@ pub struct Summary {
     pub refusals: BTreeMap<u32, usize>,
     /// Files refused at a step of this rule, with this number.
     pub refused_steps: BTreeMap<(&'static str, u32), usize>,
+    /// Files refused with 13 and with each place.
+    pub places: BTreeMap<u32, usize>,
 }
 
 impl Summary {
@@ -54,11 +58,16 @@ impl Summary {
         rules.iter().filter(never).copied().collect()
     }
 
+    /// Files refused with 13 and with such a place.
+    pub fn with_places(&self, places: impl RangeBounds<u32>) -> usize {
+        self.places.range(places).map(|(_, count)| count).sum()
+    }
+
     fn count(&mut self, sample: &Sample, reply: Numbers) {
         self.files += 1;
         self.known += usize::from(matches!(sample.expected, Expected::Reply(_)));
         let mut lines = sample.bytes.split(|byte| *byte == b'\n');
-        let [number, line, ..] = reply;
+        let [number, line, .., place] = reply;
         if number == 0 {
             self.accepted += 1;
             for rule in lines.filter_map(rule_of) {
@@ -67,6 +76,9 @@ impl Summary {
             return;
         }
         *self.refusals.entry(number).or_default() += 1;
+        if number == 13 {
+            *self.places.entry(place).or_default() += 1;
+        }
         let refused = (line as usize).checked_sub(1);
         let text = refused.and_then(|index| lines.nth(index));
         if let Some(rule) = text.and_then(rule_of) {
@@ -106,7 +118,13 @@ impl fmt::Display for Summary {
                 }
             }
         }
-        writeln!(f)
+        writeln!(
+            f,
+            "\nfiles refused with 13: {} without a place, {} with place 1, {} with a later one",
+            self.with_places(..1),
+            self.with_places(1..2),
+            self.with_places(2..)
+        )
     }
 }
 

@@ -24,6 +24,7 @@ mod refutations;
 mod rules;
 mod tableau;
 
+use crate::call::Numbers;
 use crate::random::Random;
 
 use builder::Builder;
@@ -36,17 +37,23 @@ pub use tableau::Tableau;
 /// What is known of the reply to a file.
 #[derive(Debug, Clone, Copy, PartialEq, Eq)]
 pub enum Expected {
-    /// Number, line, terms, assumptions, steps, closings.
-    Reply([u32; 6]),
+    /// This reply, to the last number.
+    Reply(Numbers),
     /// Some refusal.
     Refused,
     /// Nothing; only that all checkers agree.
     Unknown,
 }
 
-/// The reply that refuses a file.
+/// The reply that refuses a file, with no place.
 pub fn refusal(number: u32, line: usize) -> Expected {
-    Expected::Reply([number, line as u32, 0, 0, 0, 0])
+    Expected::Reply([number, line as u32, 0, 0, 0, 0, 0])
+}
+
+/// The reply that refuses a file since w is not fresh. It stands on this place
+/// of the branch first, or on none: 0.
+pub fn not_fresh(line: usize, place: usize) -> Expected {
+    Expected::Reply([13, line as u32, 0, 0, 0, 0, place as u32])
 }
 
 /// A file and what is known of its reply.

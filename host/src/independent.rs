@@ -1,7 +1,8 @@
 //! A checker for closed tableaux, written from document 01 alone and for
 //! plainness only. Sentences in quotes are the document's. Its rule `fir` is
 //! struck; clauses and the rule `cla` come from the request "Assumptions with
-//! an or in them".
+//! an or in them", the reply's field `place` and the length of the buffer from
+//! "Where is that witness already used?".
 
 use LiteralWord::*;
 
@@ -16,14 +17,14 @@ const MOST_WAITING: usize = 200;
 /// "with at most 8 literals each and 400 C lines"
 const MOST_LITERALS: usize = 8;
 const MOST_C_LINES: usize = 400;
-/// "a reply buffer of 24 bytes"
-const BUFFER_BYTES: usize = 24;
+/// "The reply buffer becomes 28 bytes."
+const BUFFER_BYTES: usize = 28;
 
 // ---------------------------------------------------------------------------
 // The reply
 // ---------------------------------------------------------------------------
 
-/// The reply of document 01.
+/// The reply of document 01. "the reply gains a last field `place`"
 #[derive(Debug, Clone, Copy, PartialEq, Eq)]
 pub struct Reply {
     pub yes: bool,
@@ -33,23 +34,25 @@ pub struct Reply {
     pub assumptions: u32,
     pub steps: u32,
     pub closings: u32,
+    pub place: u32,
 }
 
 /// "after a no the four counts are 0"
-fn no(number: u32, line: u32) -> Reply {
+fn no(refusal: LineRefusal, line: u32) -> Reply {
     Reply {
         yes: false,
-        number,
+        number: refusal.number,
         line,
         terms: 0,
         assumptions: 0,
         steps: 0,
         closings: 0,
+        place: refusal.place,
     }
 }
 
 /// "After a yes the number and line are 0". "The assumed count takes A lines
-/// plus clauses".
+/// plus clauses". The place "is 0 for every other reply" than one with 13.
 fn yes(state: &State) -> Reply {
     Reply {
         yes: true,
@@ -59,31 +62,34 @@ fn yes(state: &State) -> Reply {
         assumptions: (state.assumptions.len() + state.clauses.len()) as u32,
         steps: state.steps,
         closings: state.closings,
+        place: 0,
     }
 }
 
 /// "One line ended by LF, fields in order: `yes` or `no`, refusal number,
-/// line, T lines, A lines, S lines, closings"
+/// line, T lines, A lines, S lines, closings", and the place last.
 pub fn reply_line(reply: &Reply) -> String {
     let answer = if reply.yes { "yes" } else { "no" };
     format!(
-        "{},{},{},{},{},{},{}\n",
+        "{},{},{},{},{},{},{},{}\n",
         answer,
         reply.number,
         reply.line,
         reply.terms,
         reply.assumptions,
         reply.steps,
-        reply.closings
+        reply.closings,
+        reply.place
     )
 }
 
 /// "A build host gets the six numbers through an ordinary C call into a reply
 /// buffer of 24 bytes, six numbers of four bytes each, low byte first, in the
-/// reply's order; the call returns the refusal number, 0 after a yes."
+/// reply's order; the call returns the refusal number, 0 after a yes." With the
+/// place there are seven numbers in 28 bytes.
 pub fn call(file: &[u8], buffer: &mut [u8]) -> u32 {
-    // 18: "reply buffer not 24 bytes; returned by the call, nothing written,
-    // before 1"
+    // 18: "returned by the call, nothing written, before 1". "18 is now given
+    // for any length but 28."
     if buffer.len() != BUFFER_BYTES {
         return 18;
     }
@@ -95,6 +101,7 @@ pub fn call(file: &[u8], buffer: &mut [u8]) -> u32 {
         reply.assumptions,
         reply.steps,
         reply.closings,
+        reply.place,
     ];
     let mut bytes: Vec<u8> = Vec::new();
     for number in numbers {
@@ -111,22 +118,35 @@ pub fn call(file: &[u8], buffer: &mut [u8]) -> u32 {
 /// A refusal's number and its line.
 pub type Refusal = (u32, u32);
 
+/// What a line is refused with: a number, and a place on the branch or 0.
+struct LineRefusal {
+    number: u32,
+    place: u32,
+}
+
+/// A number by itself has no place.
+impl From<u32> for LineRefusal {
+    fn from(number: u32) -> LineRefusal {
+        LineRefusal { number, place: 0 }
+    }
+}
+
 /// Checks a whole file: any bytes get one reply.
 pub fn check(file: &[u8]) -> Reply {
     match closed_tree(file) {
         Ok(state) => yes(&state),
-        Err((number, line)) => no(number, line),
+        Err((refusal, line)) => no(refusal, line),
     }
 }
 
-/// The state after all lines of an accepted file.
-fn closed_tree(file: &[u8]) -> Result<State, Refusal> {
-    check_length(file)?;
+/// The state after all lines of an accepted file, or a refusal and its line.
+fn closed_tree(file: &[u8]) -> Result<State, (LineRefusal, u32)> {
+    check_length(file).map_err(|(number, line)| (number.into(), line))?;
     let mut state = State::new();
     let lines = each_line(file, |text| check_line(&mut state, text))?;
     // 17: "input ends with a branch open; line is last line plus 1"
     if !state.closed {
-        return Err((17, lines + 1));
+        return Err((17.into(), lines + 1));
     }
     Ok(state)
 }
@@ -147,7 +167,8 @@ pub fn read_before_steps(file: &[u8]) -> Result<Assumed, Refusal> {
     // "1 by its whole length, 17 never"
     check_length(file)?;
     let mut state = State::new();
-    each_line(before_steps(file), |text| check_line(&mut state, text))?;
+    each_line(before_steps(file), |text| check_line(&mut state, text))
+        .map_err(|(refusal, line)| (refusal.number, line))?;
     Ok(state.assumed())
 }
 
@@ -172,21 +193,22 @@ pub fn check_length(file: &[u8]) -> Result<(), Refusal> {
 }
 
 /// Checks the lines in order, each without its LF, and counts them. "The line
-/// is that of the first bad line, from 1."
-pub fn each_line(
+/// is that of the first bad line, from 1." It comes with what the line is
+/// refused with, a number or more than that.
+pub fn each_line<R: From<u32>>(
     file: &[u8],
-    mut check: impl FnMut(&[u8]) -> Result<(), u32>,
-) -> Result<u32, Refusal> {
+    mut check: impl FnMut(&[u8]) -> Result<(), R>,
+) -> Result<u32, (R, u32)> {
     let mut rest = file;
     let mut line = 0;
     while !rest.is_empty() {
         line += 1;
         // 2: "or no LF"
         let Some((text, after)) = take_line(rest) else {
-            return Err((2, line));
+            return Err((2.into(), line));
         };
-        if let Err(number) = check(text) {
-            return Err((number, line));
+        if let Err(refusal) = check(text) {
+            return Err((refusal, line));
         }
         rest = after;
     }
@@ -228,21 +250,22 @@ fn take_line(rest: &[u8]) -> Option<(&[u8], &[u8])> {
     Some((&rest[..end], &rest[end + 1..]))
 }
 
-/// "Checks on a line run in the order of the numbers below." An `Err` holds
-/// the refusal number.
-fn check_line(state: &mut State, text: &[u8]) -> Result<(), u32> {
+/// "Checks on a line run in the order of the numbers below." Where an `Err`
+/// holds a number only, it is the refusal number.
+fn check_line(state: &mut State, text: &[u8]) -> Result<(), LineRefusal> {
     // 2: "line not shaped as above"
     let Some(line) = shape(text) else {
-        return Err(2);
+        return Err(2.into());
     };
     // 3
     check_order(state, line.letter)?;
     match line.letter {
-        Letter::T => check_t(state, &line),
-        Letter::A => check_a(state, &line),
-        Letter::C => check_c(state, &line),
-        Letter::S => check_s(state, &line),
+        Letter::T => check_t(state, &line)?,
+        Letter::A => check_a(state, &line)?,
+        Letter::C => check_c(state, &line)?,
+        Letter::S => check_s(state, &line)?,
     }
+    Ok(())
 }
 
 /// 3: "T after A or S; A after S". "Admit C lines between A and S", "letters out
@@ -790,21 +813,28 @@ impl State {
         Some((*a, *b, *c, *d))
     }
 
-    /// "Fresh" means an `rfv` term that occurs in no literal now on the
-    /// branch, not even inside a larger term. "A fresh w must also be absent
-    /// from every clause, split or not."
-    fn fresh(&self, number: u32) -> bool {
-        if self.arguments(number, TermWord::Rfv).is_none() {
-            return false;
+    /// 13: "w not fresh". "Fresh" means an `rfv` term that occurs in no literal
+    /// now on the branch, not even inside a larger term. "The freshness test
+    /// shall give the first branch place that mentions w".
+    fn check_fresh(&self, w: u32) -> Result<(), LineRefusal> {
+        // The place is 0 "for a w that isn't an `rfv`".
+        if self.arguments(w, TermWord::Rfv).is_none() {
+            return Err(13.into());
         }
-        let holding = self.terms_holding(number);
-        let in_clauses = self.clauses.iter().flatten();
-        for literal in self.branch.iter().chain(in_clauses) {
-            if holding.contains(&literal.left) || holding.contains(&literal.right) {
-                return false;
+        let holding = self.terms_holding(w);
+        for (place, literal) in (1..).zip(&self.branch) {
+            if mentions(literal, &holding) {
+                return Err(LineRefusal { number: 13, place });
             }
         }
-        true
+        // "A fresh w must also be absent from every clause, split or not." The
+        // place is 0 "for a w found only in a clause".
+        for literal in self.clauses.iter().flatten() {
+            if mentions(literal, &holding) {
+                return Err(13.into());
+            }
+        }
+        Ok(())
     }
 
     /// The numbers of the terms in which the given term occurs, itself too.
@@ -826,6 +856,11 @@ impl State {
         }
         holding
     }
+}
+
+/// Whether a literal mentions a term, given the terms in which that occurs.
+fn mentions(literal: &Literal, holding: &[u32]) -> bool {
+    holding.contains(&literal.left) || holding.contains(&literal.right)
 }
 
 // ---------------------------------------------------------------------------
@@ -981,14 +1016,14 @@ enum Conclusion {
     Closes,
 }
 
-fn check_s(state: &mut State, line: &Line) -> Result<(), u32> {
+fn check_s(state: &mut State, line: &Line) -> Result<(), LineRefusal> {
     // 4: "word not known for this letter"
     let Some(rule) = rule_of_word(line.word) else {
-        return Err(4);
+        return Err(4.into());
     };
     // 5: "S line when the tree is closed"
     if state.closed {
-        return Err(5);
+        return Err(5.into());
     }
     let [p, q, t, w] = line.numbers;
     let step = Step { rule, p, q, t, w };
@@ -1002,11 +1037,11 @@ fn check_s(state: &mut State, line: &Line) -> Result<(), u32> {
     check_places(state, &step)?;
     // 12: "what the rule needs isn't so, freshness apart"
     let Some(conclusion) = conclude(state, &step) else {
-        return Err(12);
+        return Err(12.into());
     };
-    // 13: "w not fresh"
-    if wants_fresh(rule) && !state.fresh(w) {
-        return Err(13);
+    // 13
+    if wants_fresh(rule) {
+        state.check_fresh(w)?;
     }
     match conclusion {
         Conclusion::Adds(alternatives) => {

@@ -16,14 +16,14 @@ mod terms;
 mod tree;
 mod words;
 
-use crate::call::REPLY_BYTES;
+use crate::call::{Numbers, REPLY_BYTES};
 use reader::{refused, Reader};
 use refusal::{ensure, Refusal};
 use steps::Checker;
 
 const MOST_BYTES: usize = 60_000;
 
-/// Writes the six numbers into the reply buffer and returns the first.
+/// Writes the numbers into the reply buffer and returns the first.
 pub fn call(file: &[u8], reply: &mut [u8]) -> u32 {
     if reply.len() != REPLY_BYTES {
         return Refusal::Buffer as u32;
@@ -35,15 +35,16 @@ pub fn call(file: &[u8], reply: &mut [u8]) -> u32 {
     numbers[0]
 }
 
-/// Number, line, T lines, assumptions, S lines, closings.
-pub fn check(file: &[u8]) -> [u32; 6] {
+/// The numbers of the file's reply.
+pub fn check(file: &[u8]) -> Numbers {
     if file.len() > MOST_BYTES {
-        return [Refusal::TooLong as u32, 0, 0, 0, 0, 0];
+        return [Refusal::TooLong as u32, 0, 0, 0, 0, 0, 0];
     }
     let mut reader = Reader::new(file);
-    match run(&mut reader) {
-        Ok([terms, assumptions, steps, closings]) => [0, 0, terms, assumptions, steps, closings],
-        Err(refusal) => [refusal as u32, reader.number, 0, 0, 0, 0],
+    let mut checker = Checker::new();
+    match run(&mut reader, &mut checker) {
+        Ok([terms, assumptions, steps, closings]) => [0, 0, terms, assumptions, steps, closings, 0],
+        Err(refusal) => [refusal as u32, reader.number, 0, 0, 0, 0, checker.place],
     }
 }
 
@@ -51,8 +52,7 @@ pub fn check(file: &[u8]) -> [u32; 6] {
 /// each letter needs no test of the order. Gives the counts of terms, of what
 /// is assumed, of steps and of closings.
 #[inline(always)]
-fn run(reader: &mut Reader) -> Result<[u32; 4], Refusal> {
-    let mut checker = Checker::new();
+fn run(reader: &mut Reader, checker: &mut Checker) -> Result<[u32; 4], Refusal> {
     reader.read()?;
     while reader.line.letter == Some(b'T') {
         checker.terms.add(reader.line)?;

@@ -16,8 +16,8 @@ fn refusals() -> impl Iterator<Item = usize> {
     (1..=17).chain([21])
 }
 
-/// Whether the reply says yes, and its six numbers.
-fn parts(case: &Case) -> (bool, [usize; 6]) {
+/// Whether the reply says yes, and its seven numbers.
+fn parts(case: &Case) -> (bool, [usize; 7]) {
     let (word, numbers) = case.reply.split_once(',').expect(case.name);
     let yes = match word {
         "yes" => true,
@@ -36,7 +36,7 @@ fn parts(case: &Case) -> (bool, [usize; 6]) {
 }
 
 /// The cases that say yes, or those that say no, with their numbers.
-fn saying(yes: bool) -> Vec<(Case, [usize; 6])> {
+fn saying(yes: bool) -> Vec<(Case, [usize; 7])> {
     let mut cases = Vec::new();
     for case in all() {
         let (word, numbers) = parts(&case);
@@ -56,8 +56,8 @@ fn count(file: &[u8], start: &str) -> usize {
 
 /// The count that the documents give.
 #[test]
-fn there_are_2_541_files() {
-    assert_eq!(all().len(), 2_541);
+fn there_are_2_780_files() {
+    assert_eq!(all().len(), 2_780);
 }
 
 #[test]
@@ -76,9 +76,38 @@ fn replies_have_the_right_form() {
             assert_eq!(numbers[..2], [0, 0], "{}", case.name);
         } else {
             assert!(refusals().any(|one| one == numbers[0]), "{}", case.name);
-            assert_eq!(numbers[2..], [0, 0, 0, 0], "{}", case.name);
+            assert_eq!(numbers[2..6], [0, 0, 0, 0], "{}", case.name);
+        }
+        let most = if numbers[0] == 13 { 1_000 } else { 0 };
+        assert!(numbers[6] <= most, "{}", case.name);
+    }
+}
+
+/// Whether the w of this S line is an `rfv`, by its T line.
+fn w_is_rfv(case: &Case, line: usize) -> bool {
+    let text = String::from_utf8_lossy(&case.file);
+    let lines: Vec<&str> = text.lines().collect();
+    let (_, w) = lines[line - 1].rsplit_once(',').expect(case.name);
+    let term: usize = w.parse().expect(case.name);
+    lines[term - 1].starts_with("T,rfv,")
+}
+
+/// With number 13, a w that has a place is an `rfv`; an `rfv` that has none is
+/// in a clause. All kinds are there, places after the first too.
+#[test]
+fn places_of_number_13() {
+    let mut kinds = HashSet::new();
+    for (case, [number, line, .., place]) in saying(false) {
+        if number == 13 {
+            let rfv = w_is_rfv(&case, line);
+            let clauses = count(&case.file, "C,") > 0;
+            assert!(rfv || place == 0, "{}", case.name);
+            assert!(!rfv || place > 0 || clauses, "{}", case.name);
+            kinds.insert((rfv, place.min(2)));
         }
     }
+    let all = [(false, 0), (true, 0), (true, 1), (true, 2)];
+    assert_eq!(kinds, HashSet::from(all));
 }
 
 /// How many literals each clause has, by the clause numbers on the C lines.
@@ -239,7 +268,7 @@ fn clauses_reach_200_waiting_and_pass_it_by_one() {
         let pushed = most_literals(file).saturating_sub(1);
         (splits.count() * pushed, open_cuts(file))
     };
-    let by_clauses = |row: &(Case, [usize; 6]), most: usize| {
+    let by_clauses = |row: &(Case, [usize; 7]), most: usize| {
         let (clauses, cuts) = waiting(&row.0.file);
         clauses > 0 && clauses + cuts == most
     };

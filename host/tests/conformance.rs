@@ -18,7 +18,7 @@ fn the_yardstick_gives_each_reply() {
 /// 18 comes before any other number, and nothing is written.
 #[test]
 fn the_yardstick_takes_no_other_buffer() {
-    for length in [0, REPLY_BYTES - 1, REPLY_BYTES + 1] {
+    for length in [0, 24, REPLY_BYTES - 1, REPLY_BYTES + 1] {
         let mut reply = vec![7; length];
         assert_eq!(yardstick::call(&[0; 60_001], &mut reply), 18);
         assert_eq!(reply, vec![7; length]);

@@ -13,6 +13,7 @@ use host::{call, independent};
 use page::edited;
 
 const PAGE: &str = include_str!("../../examples/README.md");
+const README: &str = include_str!("../../README.md");
 
 fn folder() -> PathBuf {
     Path::new(env!("CARGO_MANIFEST_DIR")).join("../examples")
@@ -39,6 +40,11 @@ fn false_claims() -> impl Iterator<Item = [String; 4]> {
 /// File, edit, why it is refused, reply.
 fn edits() -> Vec<[String; 4]> {
     page::rows(PAGE, ["File", "Edit", "Why it is refused", "Reply"])
+}
+
+/// File, edit, what it mends, reply.
+fn mends() -> Vec<[String; 4]> {
+    page::rows(PAGE, ["File", "Edit", "What it mends", "Reply"])
 }
 
 /// The reply lines of the proved checker and of the independent one.
@@ -98,6 +104,43 @@ fn every_accepted_file_has_a_refused_neighbour() {
         assert!(reply.starts_with("no,"), "{name} {edit}");
         expect(&edited(&example(&name), &edit), &reply, &edit);
     }
+}
+
+/// The edit of a refused file is accepted.
+#[test]
+fn every_mended_file_gets_its_reply() {
+    let refused: Vec<String> = files()
+        .into_iter()
+        .filter(|[_, _, reply]| reply.starts_with("no,"))
+        .map(|[name, ..]| name)
+        .collect();
+    for [name, edit, _, reply] in mends() {
+        assert!(refused.contains(&name), "{name}");
+        assert!(reply.starts_with("yes,"), "{name} {edit}");
+        expect(&edited(&example(&name), &edit), &reply, &edit);
+    }
+}
+
+/// The commands of the page that check an example, each with the reply on the
+/// next line.
+#[test]
+fn the_commands_of_the_readme() {
+    let mut commands = 0;
+    let mut lines = README.lines();
+    while let Some(line) = lines.next() {
+        let file = if let Some(name) = line.strip_prefix("    $ ./tabcheck < examples/") {
+            example(name)
+        } else if let Some(rest) = line.strip_prefix("    $ sed '") {
+            let (edit, name) = rest.split_once("' examples/").expect(line);
+            let name = name.strip_suffix(" | ./tabcheck").expect(line);
+            edited(&example(name), edit)
+        } else {
+            continue;
+        };
+        expect(&file, lines.next().unwrap().trim_start(), line);
+        commands += 1;
+    }
+    assert_eq!(commands, 2);
 }
 
 /// No accepted file is left out but that of the acknowledgement routine, whose

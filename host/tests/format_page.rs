@@ -336,6 +336,27 @@ fn edits_that_tabcheck_refuses() {
     }
 }
 
+/// The file of the page that shows a place; its last line has the reply.
+#[test]
+fn the_place_of_the_page() {
+    let is_shown = |line: &&str| {
+        ["    T,", "    A,", "    S,"]
+            .iter()
+            .any(|start| line.starts_with(start))
+    };
+    let shown: Vec<&str> = PAGE.lines().filter(is_shown).collect();
+    let lines = shown
+        .iter()
+        .map(|line| line.split_whitespace().next().unwrap());
+    let file: String = lines.map(|line| format!("{line}\n")).collect();
+    let said = shown.last().unwrap().split_whitespace().nth(1);
+    let reply = said.and_then(|said| said.strip_suffix(':')).unwrap();
+    for (checker, check) in CHECKERS {
+        let said = checkers::reply_line(check(file.as_bytes()));
+        assert_eq!(said, format!("{reply}\n"), "{checker}");
+    }
+}
+
 #[test]
 fn edits_that_tabeval_reads() {
     let heap = file("examples/acknowledgement_hits_last_jog.heap");

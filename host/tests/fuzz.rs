@@ -3,7 +3,8 @@
 
 use std::collections::BTreeSet;
 
-use host::checkers::{plain_rust, Checker, Numbers, CHECKERS};
+use host::call::Numbers;
+use host::checkers::{plain_rust, Checker, CHECKERS};
 use host::comparison::compare;
 use host::generator::{batch, FORMER_RULE, RULES};
 use host::soundness::try_meaning;
@@ -43,6 +44,10 @@ fn checkers_agree() {
     assert_eq!(summary.never_refused(&WITH_LOOKUP, 14), Vec::<&str>::new());
     assert!(summary.refused_steps[&(FORMER_RULE, 4)] >= FILES / 200);
     assert!(summary.refused_steps[&("cla", 11)] >= FILES / 400);
+    for places in [0..1, 1..2, 2..10, 10..1_001] {
+        let count = summary.with_places(places.clone());
+        assert!(count >= FILES / 400, "{count} with places {places:?}");
+    }
 }
 
 /// Otherwise files with a variable at random would test no freshness.
@@ -125,16 +130,16 @@ fn yes_to_all(file: &[u8]) -> Numbers {
     };
     let closings = count("S,cls,") + count("S,emp,");
     let assumed = count("A") + clauses(file);
-    [0, 0, count("T"), assumed, count("S"), closings]
+    [0, 0, count("T"), assumed, count("S"), closings, 0]
 }
 
 fn no_to_all(_: &[u8]) -> Numbers {
-    [17, 1, 0, 0, 0, 0]
+    [17, 1, 0, 0, 0, 0, 0]
 }
 
 fn too_long_early(file: &[u8]) -> Numbers {
     if file.len() > 59_999 {
-        return [1, 0, 0, 0, 0, 0];
+        return [1, 0, 0, 0, 0, 0, 0];
     }
     plain_rust(file)
 }
@@ -168,7 +173,7 @@ fn one_less_waits(file: &[u8]) -> Numbers {
     let lines: Vec<&[u8]> = lines(file).collect();
     let run = lines.chunk_by(|a, b| cuts(a) && cuts(b));
     if reply[0] == 0 && run.into_iter().any(|run| run.len() >= 200) {
-        return [16, 1, 0, 0, 0, 0];
+        return [16, 1, 0, 0, 0, 0, 0];
     }
     reply
 }
@@ -184,7 +189,9 @@ fn clauses_not_counted(file: &[u8]) -> Numbers {
 /// What a file with other C lines gets, where that is a yes.
 fn with_other_clauses(file: &[u8], other: &[u8]) -> Numbers {
     match plain_rust(other) {
-        [0, _, terms, _, steps, closings] => [0, 0, terms, yes_to_all(file)[3], steps, closings],
+        [0, _, terms, _, steps, closings, _] => {
+            [0, 0, terms, yes_to_all(file)[3], steps, closings, 0]
+        }
         _ => plain_rust(file),
     }
 }
@@ -238,7 +245,46 @@ fn any_numbering(file: &[u8]) -> Numbers {
     with_other_clauses(file, &text.concat())
 }
 
-const WRONG: [Checker; 11] = [
+const PLACE: usize = 6;
+
+fn place_missing(file: &[u8]) -> Numbers {
+    let mut reply = plain_rust(file);
+    reply[PLACE] = 0;
+    reply
+}
+
+fn place_from_0(file: &[u8]) -> Numbers {
+    let mut reply = plain_rust(file);
+    reply[PLACE] = reply[PLACE].saturating_sub(1);
+    reply
+}
+
+/// The A lines take no place.
+fn place_among_derived(file: &[u8]) -> Numbers {
+    let mut reply = plain_rust(file);
+    let assumptions = lines(file).filter(|line| line.starts_with(b"A,")).count();
+    reply[PLACE] = reply[PLACE].saturating_sub(assumptions as u32);
+    reply
+}
+
+/// A w in a clause only, or one that is no variable, gets a place.
+fn place_never_0(file: &[u8]) -> Numbers {
+    let mut reply = plain_rust(file);
+    if reply[0] == 13 {
+        reply[PLACE] = reply[PLACE].max(1);
+    }
+    reply
+}
+
+fn place_beside_another_number(file: &[u8]) -> Numbers {
+    let mut reply = plain_rust(file);
+    if reply[0] == 12 {
+        reply[PLACE] = 1;
+    }
+    reply
+}
+
+const WRONG: [Checker; 16] = [
     ("yes to all", yes_to_all),
     ("no to all", no_to_all),
     ("60,000 bytes are too many", too_long_early),
@@ -250,6 +296,11 @@ const WRONG: [Checker; 11] = [
     ("a clause without its last literal", last_literal_dropped),
     ("w in a clause that is not split", last_clause_passed_over),
     ("clauses with any numbers", any_numbering),
+    ("no place", place_missing),
+    ("places from 0", place_from_0),
+    ("places of derived literals", place_among_derived),
+    ("always a place", place_never_0),
+    ("a place beside 12", place_beside_another_number),
 ];
 
 /// Alone against what is known beforehand, and beside the plain checker.

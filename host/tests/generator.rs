@@ -3,7 +3,7 @@
 
 use std::collections::{BTreeMap, BTreeSet, HashSet};
 
-use host::generator::{batch, refusal, Expected, FORMER_RULE};
+use host::generator::{batch, not_fresh, refusal, Expected, Sample, FORMER_RULE};
 
 const BATCHES: u64 = 300;
 const SEED: u64 = 7;
@@ -183,6 +183,8 @@ fn every_kind_is_made() {
         "a fresh variable taken twice",
         "a step by fir",
         "w in a clause only",
+        "w in a clause too",
+        "w in assumptions",
         "a clause numbered 0",
         "a gap in the clauses",
         "clauses going back",
@@ -251,6 +253,98 @@ fn the_former_rule_stands_anywhere() {
     let accepted = accepted_files();
     let mut words = accepted.iter().flatten().map(|line| line.1.as_str());
     assert!(words.all(|word| word != FORMER_RULE));
+}
+
+/// The samples of one kind, each with its lines.
+fn samples_of(kind: &str) -> Vec<(Sample, Vec<Line>)> {
+    let samples = (0..BATCHES).flat_map(|number| batch(SEED, number));
+    samples
+        .filter(|sample| sample.kind == kind)
+        .map(|sample| (sample.clone(), lines(&sample.bytes)))
+        .collect()
+}
+
+/// The line, from 1, where w is not fresh.
+fn refused_line(sample: &Sample) -> usize {
+    match sample.expected {
+        Expected::Reply([13, line, ..]) => line as usize,
+        expected => panic!("{}: {expected:?}", sample.kind),
+    }
+}
+
+/// The lines of this letter, of which one side is a term with w in it, counted
+/// from 1 among the lines of their letter.
+fn lines_with(file: &[Line], letter: &str, w: usize) -> Vec<usize> {
+    let mut with_w = HashSet::from([w]);
+    let terms = file.iter().filter(|line| line.0 == "T");
+    for (index, (_, word, numbers)) in terms.enumerate() {
+        let named = matches!(word.as_str(), "rfv" | "rgv" | "arv" | "fnv" | "clv");
+        if !named && numbers.iter().any(|number| with_w.contains(number)) {
+            with_w.insert(index + 1);
+        }
+    }
+    let literals = file.iter().filter(|line| line.0 == letter);
+    let sides = literals.map(|(_, _, numbers)| &numbers[..2]);
+    let mentions = |sides: &[usize]| sides.iter().any(|side| with_w.contains(side));
+    sides
+        .enumerate()
+        .filter(|(_, sides)| mentions(sides))
+        .map(|(index, _)| index + 1)
+        .collect()
+}
+
+/// The reply has the first of several places, and 1 now and then.
+#[test]
+fn w_stands_in_several_assumptions() {
+    let (mut several, mut first, mut later) = (0, 0, 0);
+    for (sample, file) in samples_of("w in assumptions") {
+        let line = refused_line(&sample);
+        let places = lines_with(&file, "A", file[line - 1].2[3]);
+        assert_eq!(sample.expected, not_fresh(line, places[0]));
+        several += usize::from(places.len() > 1);
+        first += usize::from(places[0] == 1);
+        later += usize::from(places[0] > 1);
+    }
+    for count in [several, first, later] {
+        assert!(count >= 5, "{several} {first} {later}");
+    }
+}
+
+/// What a clause says of w changes no place; where nothing else does, there is
+/// none.
+#[test]
+fn w_stands_in_a_clause_only_or_too() {
+    for (kind, only) in [("w in a clause only", true), ("w in a clause too", false)] {
+        let samples = samples_of(kind);
+        assert!(samples.len() >= 5, "{kind}: {}", samples.len());
+        for (sample, file) in samples {
+            let line = refused_line(&sample);
+            let w = file[line - 1].2[3];
+            assert_ne!(lines_with(&file, "C", w), [], "{kind}");
+            assert_eq!(lines_with(&file, "A", w), [], "{kind}");
+            assert_eq!(sample.expected == not_fresh(line, 0), only, "{kind}");
+        }
+    }
+}
+
+/// A variable is taken again at once, or after other steps, some of which have
+/// cut the branch back.
+#[test]
+fn a_variable_is_taken_again_at_any_time() {
+    let (mut at_once, mut later, mut after_closing) = (0, 0, 0);
+    for (sample, file) in samples_of("a fresh variable taken twice") {
+        let again = refused_line(&sample) - 1;
+        let before = &file[..again];
+        let taken = before.iter().rposition(|line| *line == file[again]);
+        let between = &before[taken.expect("the first taking") + 1..];
+        at_once += usize::from(between.is_empty());
+        later += usize::from(!between.is_empty());
+        let closes = |line: &Line| line.1 == "cls" || line.1 == "emp";
+        after_closing += usize::from(between.iter().any(closes));
+    }
+    for count in [at_once, later, after_closing] {
+        assert!(count >= 5, "{at_once} {later} {after_closing}");
+    }
 }
 
 /// A seed makes the same files again, another seed others.

@@ -40,7 +40,7 @@ const WHEN: [&str; 18] = [
     "an A line or any alternative would pass 1,000 places",
     "over 200 alternatives would wait",
     "input ends with a branch open; line is last line plus 1",
-    "reply buffer not 24 bytes; returned by the call, nothing written, before 1",
+    "reply buffer not 28 bytes; returned by the call, nothing written, before 1",
 ];
 /// That of 21.
 const WHEN_21: &str =
@@ -64,7 +64,7 @@ fn two_refusal_numbers_are_the_evaluators() {
 }
 
 #[test]
-fn the_six_numbers_are_in_the_replys_order() {
+fn the_seven_numbers_are_in_the_replys_order() {
     let starts = [
         "refusal number",
         "line",
@@ -72,8 +72,10 @@ fn the_six_numbers_are_in_the_replys_order() {
         "A lines plus clauses",
         "S lines",
         "closings (cls and emp lines)",
+        "place",
     ];
     expect_fields(HEADER, "tabcheck_field", &starts);
+    assert_eq!(bytes(HEADER, "TABCHECK_REPLY_BYTES"), 4 * starts.len());
 }
 
 #[test]
@@ -84,6 +86,14 @@ fn the_three_numbers_are_in_the_replys_order() {
         "line",
     ];
     expect_fields(EVALUATOR_HEADER, "tabeval_field", &starts);
+    assert_eq!(bytes(EVALUATOR_HEADER, "TABEVAL_REPLY_BYTES"), 12);
+}
+
+/// The number that a header defines by this name.
+fn bytes(header: &str, name: &str) -> usize {
+    let define = format!("#define {name} ");
+    let mut values = header.lines().filter_map(|line| line.strip_prefix(&define));
+    values.next().expect(name).parse().expect(name)
 }
 
 fn expect_fields(header: &'static str, name: &str, starts: &[&str]) {
@@ -134,10 +144,17 @@ fn the_c_program_of_the_readme() {
     fs::write(&source, text).unwrap();
     let program = linked(&source, "checker", "accept");
 
-    let f = named::file("marked: F");
-    let runs = [(&f[..], "accepted\n", 0), (b"", "refused: number 17\n", 1)];
-    for (file, said, status) in runs {
-        let output = run_on(&mut Command::new(&program), "accept.in", file);
+    let not_fresh = "refused: number 13\nfirst place that mentions w: ";
+    let runs = [
+        ("marked: F", String::from("accepted\n"), 0),
+        ("marked: no bytes", String::from("refused: number 17\n"), 1),
+        ("numbers: 13", format!("{not_fresh}2\n"), 1),
+        ("places: of 1,000, 1,000", format!("{not_fresh}1000\n"), 1),
+        ("places: clause, not split", format!("{not_fresh}0\n"), 1),
+    ];
+    for (name, said, status) in runs {
+        let file = named::file(name);
+        let output = run_on(&mut Command::new(&program), "accept.in", &file);
         assert_eq!(String::from_utf8_lossy(&output.stdout), said);
         assert_eq!(output.status.code(), Some(status), "{said}");
     }
@@ -145,7 +162,7 @@ fn the_c_program_of_the_readme() {
 }
 
 #[test]
-fn a_short_buffer_of_a_c_host_is_left_alone() {
+fn other_buffers_of_a_c_host_are_left_alone() {
     let output = Command::new(compiled("buffer", "buffer")).output();
     assert_eq!(succeeded(output.unwrap()), "left alone\n");
 }

@@ -1,6 +1,7 @@
 //! The cases of document 01 with a stated reply, and their neighbours. Expected
 //! replies are worked out by hand from the document, its rule `fir` struck, and
-//! from the request "Assumptions with an or in them".
+//! from the requests "Assumptions with an or in them" and "Where is that witness
+//! already used?".
 
 mod examples;
 
@@ -22,6 +23,7 @@ fn yes(terms: u32, assumptions: u32, steps: u32, closings: u32) -> Reply {
         assumptions,
         steps,
         closings,
+        place: 0,
     }
 }
 
@@ -34,6 +36,15 @@ fn no(number: u32, line: u32) -> Reply {
         assumptions: 0,
         steps: 0,
         closings: 0,
+        place: 0,
+    }
+}
+
+/// 13, with the first place that mentions w.
+fn not_fresh(line: u32, place: u32) -> Reply {
+    Reply {
+        place,
+        ..no(13, line)
     }
 }
 
@@ -75,16 +86,16 @@ fn with_more<'a>(lines: &[&'a str], more: &[&'a str]) -> Vec<&'a str> {
 #[test]
 fn f_and_g() {
     assert_eq!(check_lines(&F), yes(4, 2, 2, 1));
-    assert_eq!(reply_line(&check_lines(&F)), "yes,0,0,4,2,2,1\n");
+    assert_eq!(reply_line(&check_lines(&F)), "yes,0,0,4,2,2,1,0\n");
     assert_eq!(check_lines(&G), yes(4, 3, 3, 2));
-    assert_eq!(reply_line(&check_lines(&G)), "yes,0,0,4,3,3,2\n");
+    assert_eq!(reply_line(&check_lines(&G)), "yes,0,0,4,3,3,2,0\n");
     assert_eq!(check_lines(&without_line(&G, 10)), no(17, 10));
 }
 
 #[test]
 fn f_changed() {
     assert_eq!(check(b""), no(17, 1));
-    assert_eq!(reply_line(&check(b"")), "no,17,1,0,0,0,0\n");
+    assert_eq!(reply_line(&check(b"")), "no,17,1,0,0,0,0,0\n");
     assert_eq!(check_lines(&without_line(&F, 8)), no(17, 8));
     assert_eq!(check_lines(&with_more(&F, &["S,cls,3,2,0,0"])), no(5, 9));
     assert_eq!(check_lines(&with_line(&F, 8, "S,cls,2,3,0,0")), no(12, 8));
@@ -170,11 +181,13 @@ fn example_13() {
     // A reused w in `ext`: F's u, which stands in place 1.
     let lines = with_line(&F, 6, "A,ne,2,3,0,0");
     let lines = with_line(&lines, 7, "S,ext,2,0,0,1");
-    assert_eq!(check_lines(&lines), no(13, 7));
-    // The same w in two `ext` lines.
+    assert_eq!(check_lines(&lines), not_fresh(7, 1));
+    assert_eq!(reply_line(&check_lines(&lines)), "no,13,7,0,0,0,0,1\n");
+    // The same w in two `ext` lines: the first adds places 2 and 3.
     let text = "T,rfv,1,0,0,0 T,rgv,1,0,0,0 T,rgv,2,0,0,0 A,ne,2,3,0,0 S,ext,1,0,0,1";
     assert_eq!(check_text(text), no(17, 6));
-    assert_eq!(check_text(&format!("{text} S,ext,1,0,0,1")), no(13, 6));
+    let again = format!("{text} S,ext,1,0,0,1");
+    assert_eq!(check_text(&again), not_fresh(6, 2));
 }
 
 #[test]
@@ -203,9 +216,9 @@ fn example_17() {
 
 #[test]
 fn example_18() {
-    let mut buffer = [7; 23];
+    let mut buffer = [7; 27];
     assert_eq!(call(&file(&F), &mut buffer), 18);
-    assert_eq!(buffer, [7; 23]);
+    assert_eq!(buffer, [7; 27]);
 }
 
 #[test]
@@ -233,33 +246,46 @@ fn side_of_rep() {
 // ---------------------------------------------------------------------------
 
 #[test]
-fn call_writes_six_numbers() {
-    let mut buffer = [7; 24];
-    assert_eq!(call(&file(&F), &mut buffer), 0);
+fn call_writes_seven_numbers() {
+    let bytes = |file: &[u8], number: u32| {
+        let mut buffer = [7; 28];
+        assert_eq!(call(file, &mut buffer), number);
+        buffer
+    };
     assert_eq!(
-        buffer,
-        [0, 0, 0, 0, 0, 0, 0, 0, 4, 0, 0, 0, 2, 0, 0, 0, 2, 0, 0, 0, 1, 0, 0, 0]
+        bytes(&file(&F), 0),
+        [0, 0, 0, 0, 0, 0, 0, 0, 4, 0, 0, 0, 2, 0, 0, 0, 2, 0, 0, 0, 1, 0, 0, 0, 0, 0, 0, 0]
     );
-    let mut buffer = [7; 24];
-    assert_eq!(call(b"", &mut buffer), 17);
     assert_eq!(
-        buffer,
-        [17, 0, 0, 0, 1, 0, 0, 0, 0, 0, 0, 0, 0, 0, 0, 0, 0, 0, 0, 0, 0, 0, 0, 0]
+        bytes(b"", 17),
+        [17, 0, 0, 0, 1, 0, 0, 0, 0, 0, 0, 0, 0, 0, 0, 0, 0, 0, 0, 0, 0, 0, 0, 0, 0, 0, 0, 0]
     );
     // Line 1,002 is 3 times 256 and 234.
     let mut text = file(&["T,rfv,1,0,0,0"]);
     text.extend(b"A,eq,1,1,0,0\n".repeat(1_001));
-    let mut buffer = [7; 24];
-    assert_eq!(call(&text, &mut buffer), 15);
     assert_eq!(
-        buffer,
-        [15, 0, 0, 0, 234, 3, 0, 0, 0, 0, 0, 0, 0, 0, 0, 0, 0, 0, 0, 0, 0, 0, 0, 0]
+        bytes(&text, 15),
+        [15, 0, 0, 0, 234, 3, 0, 0, 0, 0, 0, 0, 0, 0, 0, 0, 0, 0, 0, 0, 0, 0, 0, 0, 0, 0, 0, 0]
     );
+    // Line 1,003 is 3 times 256 and 235, place 1,000 is 3 times 256 and 232.
+    assert_eq!(
+        bytes(&w_on_the_last_place(), 13),
+        [13, 0, 0, 0, 235, 3, 0, 0, 0, 0, 0, 0, 0, 0, 0, 0, 0, 0, 0, 0, 0, 0, 0, 0, 232, 3, 0, 0]
+    );
+}
+
+/// 999 A lines all ne all, then w eq w on place 1,000, then `ext` with w.
+fn w_on_the_last_place() -> Vec<u8> {
+    let mut text = file(&["T,rfv,1,0,0,0", "T,all,0,0,0,0"]);
+    text.extend(b"A,ne,2,2,0,0\n".repeat(999));
+    text.extend(b"A,eq,1,1,0,0\n");
+    text.extend(b"S,ext,1,0,0,1\n");
+    text
 }
 
 #[test]
 fn call_refuses_other_buffers() {
-    for length in [0, 1, 23, 25, 48] {
+    for length in [0, 1, 12, 23, 24, 25, 27, 29, 56] {
         let mut buffer = vec![7; length];
         assert_eq!(call(&file(&F), &mut buffer), 18);
         assert_eq!(buffer, vec![7; length]);
@@ -483,15 +509,15 @@ fn old_w_inside_a_larger_term() {
     assert_eq!(check_text(fresh), no(17, 7));
     let spoilt = "T,rfv,1,0,0,0 T,typ,1,0,0,0 T,all,0,0,0,0 T,emp,0,0,0,0
                   A,ne,3,4,0,0 A,eq,2,2,0,0 S,ext,1,0,0,1";
-    assert_eq!(check_text(spoilt), no(13, 7));
+    assert_eq!(check_text(spoilt), not_fresh(7, 2));
     // Two deep, on the right side.
     let deep = "T,rfv,1,0,0,0 T,sin,1,0,0,0 T,all,0,0,0,0 T,emp,0,0,0,0 T,cup,3,2,0,0
                 A,ne,3,4,0,0 A,eq,3,5,0,0 S,ext,1,0,0,1";
-    assert_eq!(check_text(deep), no(13, 8));
+    assert_eq!(check_text(deep), not_fresh(8, 2));
     // In what the step needs: all ne cup(all,sin(w)).
     let needed = "T,rfv,1,0,0,0 T,sin,1,0,0,0 T,all,0,0,0,0 T,cup,3,2,0,0
                   A,ne,3,4,0,0 S,ext,1,0,0,1";
-    assert_eq!(check_text(needed), no(13, 6));
+    assert_eq!(check_text(needed), not_fresh(6, 1));
     // A name that equals the term number does not spoil it.
     let name = "T,rfv,7,0,0,0 T,rgv,1,0,0,0 T,all,0,0,0,0
                 A,ne,2,3,0,0 S,ext,1,0,0,1";
@@ -955,35 +981,49 @@ fn freshness() {
     // rea(h,w,f) in the table. Terms: 1 h, 2 r, 3 f, 4 img(h,r,f), 5 u, 6 w.
     let base = "T,arv,1,0,0,0 T,rgv,1,0,0,0 T,fnv,1,0,0,0 T,img,1,2,3,0
                 T,rfv,1,0,0,0 T,rfv,2,0,0,0 A,in,5,4,0,0";
-    for (w, number) in [(0, 8), (1, 13), (2, 13), (3, 13), (4, 13), (5, 13), (6, 14)] {
+    for (w, expected) in [
+        (0, no(8, 8)),
+        (1, not_fresh(8, 0)),
+        (2, not_fresh(8, 0)),
+        (3, not_fresh(8, 0)),
+        (4, not_fresh(8, 0)),
+        (5, not_fresh(8, 1)),
+        (6, no(14, 8)),
+    ] {
         let line = format!("S,wit,1,0,0,{w}");
-        let reply = check_text(&format!("{base} {line}"));
-        assert_eq!(reply, no(number, 8), "{line}");
+        assert_eq!(check_text(&format!("{base} {line}")), expected, "{line}");
     }
     // w not an `rfv` is not fresh: 2 a region, 3 a class on no branch.
     let base = "T,rfv,1,0,0,0 T,rgv,1,0,0,0 T,clv,1,0,0,0 A,ne,2,2,0,0";
     assert_eq!(check_text(&format!("{base} S,ext,1,0,0,1")), no(17, 6));
-    assert_eq!(check_text(&format!("{base} S,ext,1,0,0,2")), no(13, 5));
-    assert_eq!(check_text(&format!("{base} S,ext,1,0,0,3")), no(13, 5));
+    for w in [2, 3] {
+        let text = format!("{base} S,ext,1,0,0,{w}");
+        assert_eq!(check_text(&text), not_fresh(5, 0), "{w}");
+    }
     // `nul` is on no branch and yet not fresh: only an `rfv` is.
     let text = "T,nul,0,0,0,0 T,all,0,0,0,0 T,emp,0,0,0,0 A,ne,2,3,0,0 S,ext,1,0,0,1";
-    assert_eq!(check_text(text), no(13, 5));
-    // 13 before 15 and 16: 800 A lines and 200 cuts fill both. Terms: 1 u,
-    // 2 w, 3 all, 4 emp.
-    for (step, number) in [("S,ext,1,0,0,1", 13), ("S,ext,1,0,0,2", 15)] {
+    assert_eq!(check_text(text), not_fresh(5, 0));
+    // 13 before 15 and 16: 800 A lines and 200 cuts fill both, and the first
+    // cut puts u on place 801. Terms: 1 u, 2 w, 3 all, 4 emp.
+    let line = 4 + 800 + 200 + 1;
+    for (step, expected) in [
+        ("S,ext,1,0,0,1", not_fresh(line, 801)),
+        ("S,ext,1,0,0,2", no(15, line)),
+    ] {
         let mut text = file(&["T,rfv,1,0,0,0", "T,rfv,2,0,0,0"]);
         text.extend(file(&["T,all,0,0,0,0", "T,emp,0,0,0,0"]));
         text.extend(b"A,ne,3,4,0,0\n".repeat(800));
         text.extend(b"S,cut,0,0,1,3\n".repeat(200));
         text.extend(file(&[step]));
-        assert_eq!(check(&text), no(number, 4 + 800 + 200 + 1), "{step}");
+        assert_eq!(check(&text), expected, "{step}");
     }
-    // Not on the branch now: fresh again once both its alternatives are
-    // closed. Terms: 1 u, 2 w, 3 all, 4 emp.
+    // Not on the branch now: fresh again once both its alternatives, of which
+    // each takes places 4 and 5, are closed. Terms: 1 u, 2 w, 3 all, 4 emp.
     let base = "T,rfv,1,0,0,0 T,rfv,2,0,0,0 T,all,0,0,0,0 T,emp,0,0,0,0
                 A,in,1,4,0,0 A,ne,3,4,0,0 S,cut,0,0,1,3
                 S,ext,2,0,0,2 S,emp,1,0,0,0";
-    assert_eq!(check_text(&format!("{base} S,ext,2,0,0,2")), no(13, 10));
+    let early = format!("{base} S,ext,2,0,0,2");
+    assert_eq!(check_text(&early), not_fresh(10, 4));
     let again = format!("{base} S,emp,1,0,0,0 S,ext,2,0,0,2 S,emp,1,0,0,0");
     assert_eq!(check_text(&again), no(17, 13));
     assert_eq!(
@@ -991,15 +1031,19 @@ fn freshness() {
         yes(4, 2, 7, 4)
     );
     // Only waiting, not on the branch: still fresh. Of the alternatives of
-    // `rdm` only the second holds v, term 4; the first holds u and y.
+    // `rdm` only the second holds v, term 4; the first holds u and y, on
+    // place 2.
     let mut lines = RDM[..9].to_vec();
     lines.extend(["T,all,0,0,0,0", "T,emp,0,0,0,0", "A,ne,10,11,0,0"]);
     lines.extend(["S,rdm,0,0,8,0", "S,ext,1,0,0,4"]);
     assert_eq!(check_lines(&lines), no(17, 15));
-    lines[13] = "S,ext,1,0,0,2";
-    assert_eq!(check_lines(&lines), no(13, 14));
-    lines[13] = "S,ext,1,0,0,6";
-    assert_eq!(check_lines(&lines), no(13, 14));
+    for step in ["S,ext,1,0,0,2", "S,ext,1,0,0,6"] {
+        assert_eq!(
+            check_lines(&with_line(&lines, 14, step)),
+            not_fresh(14, 2),
+            "{step}"
+        );
+    }
 }
 
 #[test]
@@ -1213,11 +1257,166 @@ fn freshness_beside_clauses() {
         let before = base.split_whitespace().chain(clause.split_whitespace());
         let line = before.count() as u32 + 1;
         let text = format!("{base} {clause} {steps}");
-        assert_eq!(check_text(&text), no(13, line), "{clause}");
+        assert_eq!(check_text(&text), not_fresh(line, 0), "{clause}");
     }
     // Split: v in r is on the branch, and w only waits.
     let split = "C,in,2,3,1,0 C,in,1,3,1,0 S,cla,0,0,1,0";
-    assert_eq!(check_text(&format!("{base} {split} {steps}")), no(13, 10));
+    let waiting = format!("{base} {split} {steps}");
+    assert_eq!(check_text(&waiting), not_fresh(10, 0));
+}
+
+// ---------------------------------------------------------------------------
+// The place that mentions w
+// ---------------------------------------------------------------------------
+
+/// Lines 1 to 10. Terms: 1 w, 2 v, 3 r, 4 all, 5 typ(w), 6 sin(w), 7 cup(r,6),
+/// 8 typ(v). Places 1 and 2 without w: r ne all, v in all.
+const NO_W: &str = "T,rfv,1,0,0,0 T,rfv,2,0,0,0 T,rgv,1,0,0,0 T,all,0,0,0,0
+                    T,typ,1,0,0,0 T,sin,1,0,0,0 T,cup,3,6,0,0 T,typ,2,0,0,0
+                    A,ne,3,4,0,0 A,in,2,4,0,0";
+
+/// The reply to lines after those, and then `ext` with w, which comes on the
+/// line given.
+fn ext_after(more: &str) -> (Reply, u32) {
+    let text = format!("{NO_W} {more} S,ext,1,0,0,1");
+    let line = text.split_whitespace().count() as u32;
+    (check_text(&text), line)
+}
+
+#[test]
+fn place_on_either_side_and_inside() {
+    for literal in [
+        "A,in,1,4,0,0",
+        "A,ni,1,3,0,0",
+        "A,eq,1,2,0,0",
+        "A,ne,2,1,0,0",
+        "A,le,5,8,0,0",
+        "A,nl,8,5,0,0",
+        "A,in,2,6,0,0",
+        "A,ni,2,7,0,0",
+        "A,eq,7,3,0,0",
+        "A,ne,4,7,0,0",
+    ] {
+        let (reply, line) = ext_after(literal);
+        assert_eq!(reply, not_fresh(line, 3), "{literal}");
+        // The first of several, and one place further on for each before it.
+        let (reply, line) = ext_after(&format!("{literal} A,eq,1,1,0,0 {literal}"));
+        assert_eq!(reply, not_fresh(line, 3), "{literal}");
+        let (reply, line) = ext_after(&format!("A,le,8,8,0,0 A,eq,2,2,0,0 {literal}"));
+        assert_eq!(reply, not_fresh(line, 5), "{literal}");
+    }
+}
+
+#[test]
+fn place_of_a_derived_literal() {
+    for (steps, place) in [
+        // w in all on place 3, w ni all waits.
+        ("S,cut,0,0,1,4", 3),
+        ("S,ref,0,0,2,0 S,ref,0,0,7,0 S,ref,0,0,1,0", 4),
+        ("S,ler,0,0,8,0 S,ler,0,0,8,0 S,ler,0,0,5,0", 5),
+        // v in all again on place 3.
+        ("S,all,2,0,0,0 S,cut,0,0,2,6", 4),
+    ] {
+        let (reply, line) = ext_after(steps);
+        assert_eq!(reply, not_fresh(line, place), "{steps}");
+    }
+    // `wit` too. Terms 6 w, 7 typ(w); place 1: u in img, place 2: r eq emp.
+    for (step, place) in [("S,ref,0,0,6,0", 3), ("S,ref,0,0,7,0", 3)] {
+        let lines = with_more(&WIT[..12], &[step, WIT[12]]);
+        assert_eq!(check_lines(&lines), not_fresh(14, place), "{step}");
+    }
+    // It adds places 3 to 5, all with w.
+    let lines = with_more(&WIT[..13], &[WIT[12]]);
+    assert_eq!(check_lines(&lines), not_fresh(14, 3));
+}
+
+#[test]
+fn place_and_clauses() {
+    for (lines, place) in [
+        // In a clause only, split or not; w waits.
+        ("C,in,1,4,1,0", 0),
+        ("C,in,2,3,1,0 C,in,2,7,1,0", 0),
+        ("C,in,2,3,1,0 C,in,1,3,1,0 S,cla,0,0,1,0", 0),
+        // On the branch too: before the clause, and by splitting it.
+        ("A,eq,5,5,0,0 C,in,1,4,1,0", 3),
+        ("C,in,1,4,1,0 S,ref,0,0,2,0 S,cut,0,0,2,6", 4),
+        ("C,in,1,3,1,0 C,in,2,3,1,0 S,cla,0,0,1,0", 3),
+        ("C,in,2,3,1,0 C,in,2,7,2,0 S,cla,0,0,1,0 S,cla,0,0,2,0", 4),
+    ] {
+        let (reply, line) = ext_after(lines);
+        assert_eq!(reply, not_fresh(line, place), "{lines}");
+    }
+}
+
+#[test]
+fn place_of_no_rfv() {
+    // 3 to 8 are no `rfv`, and all of them stand on the branch.
+    let base = format!("{NO_W} A,le,5,8,0,0 A,in,1,7,0,0 A,in,2,6,0,0");
+    for w in 3..=8 {
+        let text = format!("{base} S,ext,1,0,0,{w}");
+        assert_eq!(check_text(&text), not_fresh(14, 0), "{w}");
+    }
+    // v, on place 2, and w, inside 5 on place 3.
+    for (w, place) in [(1, 3), (2, 2)] {
+        let text = format!("{base} S,ext,1,0,0,{w}");
+        assert_eq!(check_text(&text), not_fresh(14, place), "{w}");
+    }
+}
+
+#[test]
+fn place_after_the_branch_is_cut_back() {
+    // Terms: 1 w, 2 v, 3 r, 4 emp. Places 3 v in r, 4 w eq w, 5 w in emp; their
+    // denials v ni r and w ni emp wait.
+    let base = "T,rfv,1,0,0,0 T,rfv,2,0,0,0 T,rgv,1,0,0,0 T,emp,0,0,0,0
+                A,ne,3,4,0,0 A,in,2,4,0,0 S,cut,0,0,2,3 S,ref,0,0,1,0 S,cut,0,0,1,4";
+    let ext = "S,ext,1,0,0,1";
+    assert_eq!(check_text(&format!("{base} {ext}")), not_fresh(10, 4));
+    // w ni emp on place 5: w eq w still stands first.
+    let once = format!("{base} S,emp,2,0,0,0");
+    assert_eq!(check_text(&format!("{once} {ext}")), not_fresh(11, 4));
+    // v ni r on place 3 and no more: w is fresh, or comes again further on.
+    let twice = format!("{once} S,emp,2,0,0,0");
+    assert_eq!(check_text(&format!("{twice} {ext}")), no(17, 13));
+    let later = format!("{twice} S,ref,0,0,2,0 S,ref,0,0,2,0 S,ref,0,0,1,0");
+    assert_eq!(check_text(&format!("{later} {ext}")), not_fresh(15, 6));
+    // The second alternative of `ext` has w on places 4 and 5 like the first.
+    let taken = format!("{twice} {ext}");
+    assert_eq!(check_text(&format!("{taken} {ext}")), not_fresh(13, 4));
+    let other = format!("{taken} S,emp,2,0,0,0");
+    assert_eq!(check_text(&format!("{other} {ext}")), not_fresh(14, 4));
+}
+
+#[test]
+fn place_on_the_last_place() {
+    assert_eq!(check(&w_on_the_last_place()), not_fresh(1_003, 1_000));
+}
+
+#[test]
+fn no_place_beside_other_numbers() {
+    // w is on place 3, and a fault that comes before 13 is found.
+    let base = format!("{NO_W} A,in,1,4,0,0");
+    for (step, number) in [
+        ("S,ext,1,0,0", 2),
+        ("A,in,1,9,0,0", 8),
+        ("S,exx,1,0,0,1", 4),
+        ("S,ext,1,1,0,1", 6),
+        ("S,ext,1,0,0,9", 8),
+        ("S,ext,4,0,0,1", 11),
+        ("S,ext,2,0,0,1", 12),
+        ("S,wit,2,0,0,1", 12),
+        ("S,nul,3,0,0,0", 14),
+        // A w that need not be fresh.
+        ("S,sub,1,0,5,1", 12),
+    ] {
+        assert_eq!(
+            check_text(&format!("{base} {step}")),
+            no(number, 12),
+            "{step}"
+        );
+    }
+    assert_eq!(check_text(&base), no(17, 12));
+    let later = format!("{base} S,cut,0,0,1,3");
+    assert_eq!(check_text(&later), no(17, 13));
 }
 
 // ---------------------------------------------------------------------------
@@ -1248,7 +1447,7 @@ fn any_bytes_get_a_reply() {
         let reply = check(&text);
         let lines = text.iter().filter(|byte| **byte == b'\n').count() as u32;
         if reply.yes {
-            assert_eq!((reply.number, reply.line), (0, 0));
+            assert_eq!((reply.number, reply.line, reply.place), (0, 0, 0));
             // A clause has one C line or more, and is counted once.
             let texts = text.split(|byte| *byte == b'\n');
             let c_lines = texts.filter(|line| line.starts_with(b"C,")).count() as u32;
@@ -1257,7 +1456,13 @@ fn any_bytes_get_a_reply() {
             assert!(reply.closings >= 1 && reply.closings <= reply.steps);
         } else {
             assert!(reply.number >= 1 && reply.number <= 17 || reply.number == 21);
-            assert_eq!(reply, no(reply.number, reply.line));
+            let place = reply.place;
+            let same = Reply {
+                place,
+                ..no(reply.number, reply.line)
+            };
+            assert_eq!(reply, same);
+            assert!(place == 0 || reply.number == 13 && place <= lines);
             assert!(reply.line >= 1 && reply.line <= lines + 1);
         }
     }
@@ -1271,5 +1476,5 @@ fn doubling_terms_finish() {
         text.extend_from_slice(format!("T,cup,{term},{term},0,0\n").as_bytes());
     }
     text.extend_from_slice(b"T,all,0,0,0,0\nA,ne,600,599,0,0\nS,ext,1,0,0,1\n");
-    assert_eq!(check(&text), no(13, 602));
+    assert_eq!(check(&text), not_fresh(602, 1));
 }

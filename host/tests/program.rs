@@ -16,8 +16,8 @@ use std::sync::mpsc;
 use std::thread;
 use std::time::Duration;
 
-const F_REPLY: &str = "yes,0,0,4,2,2,1\n";
-const TOO_LONG: &str = "no,1,0,0,0,0,0\n";
+const F_REPLY: &str = "yes,0,0,4,2,2,1,0\n";
+const TOO_LONG: &str = "no,1,0,0,0,0,0,0\n";
 
 fn program() -> PathBuf {
     let program = repository().join("target/bin/tabcheck");
@@ -72,7 +72,7 @@ fn a_long_file_in_odd_pieces() {
     }
     drop(input);
     let said = reply(child.wait_with_output().unwrap());
-    assert_eq!(said, "yes,0,0,4,2,4279,10\n");
+    assert_eq!(said, "yes,0,0,4,2,4279,10,0\n");
 }
 
 #[test]
@@ -80,7 +80,7 @@ fn an_empty_pipe() {
     let (child, input) = piped();
     drop(input);
     let said = reply(child.wait_with_output().unwrap());
-    assert_eq!(said, "no,17,1,0,0,0,0\n");
+    assert_eq!(said, "no,17,1,0,0,0,0,0\n");
 }
 
 /// The program answers after 60,001 bytes, so that the pipe breaks long before

@@ -13,7 +13,7 @@ use Rattle.tableau.specs.Basics.{bytes}
 use Rattle.tableau.specs.Claims.{BeginsWithYes, NoHeap, Demand3}
 use Rattle.tableau.specs.File.{maxBytes}
 use Rattle.tableau.specs.Tree.{passed}
-use Rattle.tableau.specs.Reply.{start, stopped, accept, refuse, atEnd, verdictOn, Verdict, verdict, Reply, replyOf, reply, reasonNumber, sixNumbers, replyBytes}
+use Rattle.tableau.specs.Reply.{start, stopped, accept, refuse, atEnd, verdictOn, Verdict, verdict, Reply, replyOf, reply, reasonNumber, replyNumbers, replyBytes}
 use Rattle.tableau.specs.Reply.{commaNumbers, yesOrNo, replyLine, call, bufferLength}
 use Rattle.tableau.proofs.Counts.{number-in-range}
 use Rattle.tableau.proofs.Soundness.{demand3}
@@ -80,7 +80,7 @@ pub line-no-heap : (file : List ℕ) → BeginsWithYes (replyLine (reply file)) 
 unfolding Demand3 replyLine yesOrNo bytes
 line-no-heap file = go (reply file .isYes) refl
   where
-    go : (b : Bool) → reply file .isYes ≡ b → BeginsWithYes (yesOrNo b ++ commaNumbers (sixNumbers (reply file))) → NoHeap file
+    go : (b : Bool) → reply file .isYes ≡ b → BeginsWithYes (yesOrNo b ++ commaNumbers (replyNumbers (reply file))) → NoHeap file
     go true e h = demand3 file e
     go false e h = absurd (omega (arith, ap (λ (t : List ℕ). getD t 0 0) h))
 

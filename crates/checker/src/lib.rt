@@ -47,7 +47,7 @@ fn check(file: &[u8]) -> Verdict
     }
 }
 
-// The call of a build host: the refusal number, 0 after a yes; the six numbers in the buffer, or the buffer untouched where its
+// The call of a build host: the refusal number, 0 after a yes; the seven numbers in the buffer, or the buffer untouched where its
 // length is wrong.
 #[no_mangle]
 pub extern "C" fn tabcheck(file: &[u8], reply: &mut [u8]) -> u32

@@ -7,6 +7,7 @@ use Prim.Native.Nat.{ℕ}
 use native.Mathlib.Omega.{arith}
 use lib.Dec.{eqb}
 use borrow.Author.Tests.{eq-eqb}
+use Rattle.tableau.specs.declared.Freshness.{Freshness}
 use Rattle.tableau.specs.declared.Rule.{Rule}
 use Rattle.tableau.specs.Words.{ruleNames}
 use Rattle.tableau.specs.Fields.{ThirdField, TermField, unused, side, clause, term, of, ruleFields}
@@ -50,12 +51,12 @@ pub given-as : {x y : Rule} {t w : ℕ} → x ≡ y → Given x t w → Given y 
 given-as {t = t} {w = w} e g = subst (λ (z : Rule). Given z t w) e g
 
 -- WHAT A STEP INFERS is what the function of its rule concludes
-same-answer : (table : Table) (fresh : Bool) (P Q : Option Literal) (t w : ℕ) (x : Rule) → Given x t w
+same-answer : (table : Table) (fresh : Freshness) (P Q : Option Literal) (t w : ℕ) (x : Rule) → Given x t w
     → answer table fresh P Q [] t w x ≡ answer table fresh P Q [] (thirdOf (ruleFields x .t) t) (fourthOf (ruleFields x .w) w) x
 same-answer table fresh P Q t w x g =
     ap₂ (λ (k l : ℕ). answer table fresh P Q [] k l x) (third-of (ruleFields x .t) t (g .third)) (fourth-of (ruleFields x .w) w (g .fourth))
 
-module _ {x y : Rule} {P Q : LiteralView} {t w : ℕ} {fresh : Bool} {terms chains : List ℕ} {r : Outcome} {A : Table → Type 0} (e : x ≡ y)
+module _ {x y : Rule} {P Q : LiteralView} {t w : ℕ} {fresh : Freshness} {terms chains : List ℕ} {r : Outcome} {A : Table → Type 0} (e : x ≡ y)
     (g : Given x t w) (f : (table : Table) → Searchable table terms chains → A table) where
   as-rule : Infers y P Q t w fresh terms chains r → Infers x P Q t w fresh terms chains r
   as-rule i = subst (λ (z : Rule). Infers z P Q t w fresh terms chains r) (sym e) i

@@ -1,9 +1,9 @@
 -- What a rule is given, and what it answers: checks 12 to 14.
 use mathlib.Core.Path.{_≡_}
-use mathlib.Core.Bool.{Bool}
 use mathlib.Core.List.{List, []}
 use mathlib.Core.Option.{Option, none, some}
 use Prim.Native.Nat.{ℕ}
+use Rattle.tableau.specs.declared.Freshness.{Freshness}
 use Rattle.tableau.specs.declared.Rule.{Rule}
 use Rattle.tableau.specs.Fields.{PlaceField, ThirdField, TermField, unused, place, side, clause, term, of, ruleFields}
 use Rattle.tableau.specs.Terms.{Table, Literal}
@@ -37,7 +37,7 @@ pub record Given (x : Rule) (t w : ℕ) : Type 0 where
   pub fourth : TermGiven (ruleFields x .w) w
 
 -- the outcome is the answer of rule x, which looks at no clause
-pub record Infers (x : Rule) (P Q : LiteralView) (t w : ℕ) (fresh : Bool) (terms chains : List ℕ) (r : Outcome) : Type 0 where
+pub record Infers (x : Rule) (P Q : LiteralView) (t w : ℕ) (fresh : Freshness) (terms chains : List ℕ) (r : Outcome) : Type 0 where
   pub room : Room r
   pub answers : (table : Table) → Searchable table terms chains
       → answer table fresh (atPlace (ruleFields x .p) P) (atPlace (ruleFields x .q) Q) [] t w x ≡ answerOf r

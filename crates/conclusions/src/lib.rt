@@ -7,6 +7,7 @@ use heap_rules::reads;
 use packing::LiteralView;
 use rules::outcome::Outcome;
 use syntax::ThirdField;
+use tableau::Freshness;
 use tableau::Reason;
 use tableau::Rule;
 use tableau::TermNumber;
@@ -25,7 +26,7 @@ fn by_rule(
     q: LiteralView,
     t: TermNumber,
     w: TermNumber,
-    fresh: bool,
+    fresh: Freshness,
     terms: &[u64; table::NUMBERS],
     chains: &[u16; table::LINKS],
 ) -> Outcome
@@ -74,7 +75,7 @@ pub fn conclude(
     q: LiteralView,
     third: ThirdField,
     w: TermNumber,
-    fresh: bool,
+    fresh: Freshness,
     terms: &[u64; table::NUMBERS],
     chains: &[u16; table::LINKS],
 ) -> Outcome

@@ -4,24 +4,18 @@ use mathlib.Core.Bool.{true}
 use mathlib.Core.List.{List}
 use Prim.Native.Nat.{ℕ, _≤_}
 use native.Mathlib.Omega.{arith}
-use lib.Dec.{leb}
 use lib.ListN.{length}
-use borrow.Author.Tests.{eq-eqb, ne-eqb, leb-true}
+use borrow.Author.Tests.{eq-eqb, ne-eqb}
 use Rattle.tableau.specs.declared.Reason.{Reason}
 use Rattle.tableau.specs.Reply.{reasonNumber, reply}
-use Rattle.tableau.proofs.Reason as reason-type
-use Rattle.tableau.proofs.Places.{every-value}
+use Rattle.tableau.proofs.Refusals.{reason-fits}
 use Rattle.evaluation.specs.Evaluation.{Evaluation, noRefusal, evaluation, evaluationBytes, evaluationLength, evaluationCall}
 use Rattle.evaluation.specs.Claims.{Means, EqualsMeaning, NeverAllTrue}
 use Rattle.evaluation.proofs.Evaluated.{evaluation-cases, equals-meaning, never-all-true}
 
 -- NUMBERS fit four bytes
-reason-small : (r : Reason) → reasonNumber r ≤ 21
-unfolding reasonNumber
-reason-small r = leb-true _ 21 (every-value reason-type.enum refl (λ x. leb (reasonNumber x) 21) refl r)
-
 pub number-small : (file heap : List ℕ) → evaluation file heap .number ≤ 21
-number-small file heap = evaluation-cases file heap (λ e. e .number ≤ 21) (λ r k i. reason-small r) (λ σ facts p o. omega arith)
+number-small file heap = evaluation-cases file heap (λ e. e .number ≤ 21) (λ r k i. reason-fits r .1) (λ σ facts p o. omega arith)
 
 -- THE CALL
 pub buffer-right : (file heap b : List ℕ) → length b ≡ evaluationLength

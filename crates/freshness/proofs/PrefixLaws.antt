@@ -10,7 +10,7 @@ use native.Mathlib.Omega.{arith}
 use lib.Bits.{bitOr}
 use lib.ListN.{length, take, getD, set, replicate, length-append, length-replicate, getD-replicate}
 use lib.Seq.{take-take, getD-set-other}
-use Rattle.tableau.specs.Terms.{TermNo, ClauseNo, Table, Literal, Clauses, disjuncts, at, mentions, mentionedIn, mentioned, maxTerms}
+use Rattle.tableau.specs.Terms.{TermNo, ClauseNo, Table, Literal, Clauses, disjuncts, at, mentions, mentionedIn, placeFrom, mentioned, maxTerms}
 use Rattle.packing.specs.Packing.{unpackLiteral, leftIn, rightIn}
 use Rattle.mentions.specs.Mentions.{row, bitAt, rowBit, MentionRows, Filled}
 use Rattle.mentions.proofs.BitLaws.{bit-or, bit-zero}
@@ -20,7 +20,7 @@ use Rattle.freshness.proofs.Laws.{in-sides, mentioned-one-more, mention
 -- WITH NO CLAUSES no literal mentions any term, whatever the table
 pub prefix-none : {table : Table} {codes prefix : List ℕ} → length prefix ≡ prefixLength → ((k : ℕ) → k < row → getD prefix k 0 ≡ 0)
     → PrefixRows table [] codes prefix 0
-unfolding mentioned
+unfolding placeFrom
 prefix-none {table} {codes} {prefix} size none = record {
   size = size;
   none = λ e. none;
@@ -83,10 +83,15 @@ module _ (table : Table) (rows : List ℕ) (l : Literal) (left right : TermNo) (
       || (R .told right w (M .made) first (omega arith) ∙ M .same table w refl first made) p)
       ∙ sym (in-sides (at table) w l)
 
+  -- and so does the bit of both rows together
+  pub sides-bit : (w : TermNo) → 0 < w → w ≤ length table → w ≤ maxTerms
+      → bitAt (bitOr (getD rows (left * row + w / 64) 0) (getD rows (right * row + w / 64) 0)) (w % 64) ≡ mentionedIn (at table) w l
+  sides-bit w first made few = bit-or (getD rows (left * row + w / 64) 0) (getD rows (right * row + w / 64) 0) (w % 64) ∙ sides-told w first made few
+
   -- one more in the clauses
   pub prefix-clause : (C : Clauses) (codes : List ℕ) (k : ClauseNo) (old new : List ℕ) → PrefixRows table C codes old 0 → Filled old new 0 (nextBits old rows 0 left right) row
       → PrefixRows table (C ++ (record { clause = k; is = l } ∷ [])) codes new 0
-  unfolding mentioned
+  unfolding placeFrom
   prefix-clause C codes k old new P F = record {
     size = F .size ∙ P .size;
     none = λ e. absurd (not-empty C e);

@@ -2,9 +2,10 @@
 use mathlib.Core.Path.{_≡_}
 use mathlib.Core.Bool.{Bool, _||_}
 use mathlib.Core.List.{List, [], map}
+use mathlib.Core.Option.{Option, none, some}
 use Prim.Native.Nat.{ℕ, _/_, _%_, _<_, _≤_}
 use lib.ListN.{length, take, getD}
-use Rattle.tableau.specs.Terms.{TermNo, Table, Clauses, disjuncts, at, mentions, mentioned, maxTerms}
+use Rattle.tableau.specs.Terms.{Place, TermNo, Table, Clauses, disjuncts, at, mentions, mentioned, maxTerms}
 use Rattle.packing.specs.Packing.{unpackLiteral}
 use Rattle.mentions.specs.Mentions.{row, rowBit}
 
@@ -27,3 +28,8 @@ pub record SideRow (n : ℕ) (t s : TermNo) : Type 0 where
 -- the bits of row i, and of the rows of a literal's two sides
 abbrev pub nextBits : List ℕ → List ℕ → ℕ → TermNo → TermNo → ℕ → ℕ → Bool
 nextBits prefix rows i left right k q = rowBit prefix i k q || (rowBit rows left k q || rowBit rows right k q)
+
+-- a place as a reply gives it
+abbrev pub placeOrZero : Option Place → ℕ
+placeOrZero none = 0
+placeOrZero (some p) = p

@@ -4,20 +4,23 @@ use mentions::ROW;
 use packing::TermView;
 use packing::literals::packed_left;
 use packing::literals::packed_right;
+use tableau::Freshness;
+use tableau::Place;
 use tableau::Sort;
 use tableau::TermNumber;
 use tree::Tree;
 ghost use mathlib.Core.Path.{_≡_};
+ghost use mathlib.Core.Bool.{true};
 ghost use mathlib.Core.List.{List, [], _∷_, _++_, map};
-ghost use Prim.Native.Nat.{ℕ, _+_, _<_, _≤_};
+ghost use Prim.Native.Nat.{ℕ, _+_, _%_, _<_, _≤_};
 ghost use lib.ListN.{length, take};
-ghost use Rattle.tableau.specs.Terms.{Table, Clauses, maxTerms};
+ghost use Rattle.tableau.specs.Terms.{Table, Clauses, at, mentionedIn, firstPlace, maxTerms};
 ghost use Rattle.tableau.specs.Tree.{maxPlaces};
-ghost use Rattle.tableau.specs.Steps.{isFresh};
+ghost use Rattle.tableau.specs.Steps.{isRfv, freshness};
 ghost use Rattle.packing.specs.Packing.{unpackLiteral};
 ghost use Rattle.table.specs.Held.{Entries};
-ghost use Rattle.mentions.specs.Mentions.{row, MentionRows, Filled};
-ghost use Rattle.freshness.specs.Prefixes.{prefixLength, PrefixRows, SideRow, nextBits};
+ghost use Rattle.mentions.specs.Mentions.{row, bitAt, MentionRows, Filled};
+ghost use Rattle.freshness.specs.Prefixes.{prefixLength, PrefixRows, SideRow, nextBits, placeOrZero};
 
 // A row for each length of the branch, 0 to 1000; row 0 has what the clauses mention.
 pub const PREFIX_WORDS: usize = 10010;
@@ -95,18 +98,12 @@ pub fn note(
     }
 }
 
-// Is the term w fresh: an `rfv` that no clause and none of the first len literals mentions? A number that no term has is not.
-pub fn is_fresh(
-    terms: &[u64; table::NUMBERS],
-    prefix: &[u64; PREFIX_WORDS],
-    n: usize,
-    len: usize,
-    w: TermNumber,
-) -> bool
+// Is w the number of an `rfv`?
+fn is_rfv(terms: &[u64; table::NUMBERS], n: usize, w: TermNumber) -> bool
     requires { ⌜ ((table : Table) × Entries table (now terms)) ⌝ }
-    requires { ⌜ (n ≤ maxTerms) × (len ≤ maxPlaces) ⌝ }
-    ensures { λ r. ⌜ ((table : Table) (C : Clauses) (codes : List ℕ) → Entries table (now (terms .entry)) → length table ≡ n
-        → PrefixRows table C codes (now (prefix .entry)) len → r ≡ isFresh table C (map unpackLiteral (take len codes)) (w .0)) ⌝ }
+    requires { ⌜ n ≤ maxTerms ⌝ }
+    ensures { λ r. ⌜ (r ≡ true → w .0 ≤ n) ⌝ }
+    ensures { λ r. ⌜ ((table : Table) → Entries table (now (terms .entry)) → length table ≡ n → r ≡ isRfv (at table (w .0))) ⌝ }
 {
     let v = w.0;
     if n < v {
@@ -118,5 +115,71 @@ pub fn is_fresh(
     let Sort::Reference = sort else {
         return false;
     };
-    (prefix[len * ROW + v / 64] >> (v % 64)) % 2 != 1
+    true
+}
+
+// The bit of w, in the word of a row that has it.
+fn has_bit(word: u64, w: TermNumber) -> bool
+    ensures { λ r. ⌜ r ≡ bitAt word (w .0 % 64) ⌝ }
+{
+    (word >> (w.0 % 64)) % 2 == 1
+}
+
+fn mentions(rows: &[u64; mentions::WORDS], n: usize, literal: u32, w: TermNumber) -> bool
+    requires { ⌜ (n ≤ maxTerms) × (w .0 ≤ n) ⌝ }
+    ensures { λ r. ⌜ ((table : Table) → MentionRows table (now (rows .entry)) → length table ≡ n → 0 < w .0 → r ≡ mentionedIn (at table) (w .0) (unpackLiteral literal)) ⌝ }
+{
+    let k = w.0 / 64;
+    let left = side_row(n, packed_left(literal));
+    let right = side_row(n, packed_right(literal));
+    has_bit(rows[left * ROW + k] | rows[right * ROW + k], w)
+}
+
+// The first of the len places whose literal mentions w, 0 where none does.
+fn first_place(
+    rows: &[u64; mentions::WORDS],
+    n: usize,
+    branch: &[u32; Tree::PLACES],
+    len: usize,
+    w: TermNumber,
+) -> Place
+    requires { ⌜ (n ≤ maxTerms) × (w .0 ≤ n) ⌝ }
+    requires { ⌜ (len ≤ maxPlaces) × (length (now branch) ≡ maxPlaces) ⌝ }
+    ensures { λ r. ⌜ ((table : Table) → MentionRows table (now (rows .entry)) → length table ≡ n → 0 < w .0
+        → r .0 ≡ placeOrZero (firstPlace (at table) (w .0) (map unpackLiteral (take len (now (branch .entry)))))) ⌝ }
+{
+    let mut i = 0;
+    while i < len {
+        if mentions(rows, n, branch[i], w) {
+            return Place(i + 1);
+        }
+        i += 1;
+    }
+    Place(0)
+}
+
+// Is the term w fresh: an `rfv` that no clause and none of the first len literals mentions? Their rows are filled. A number that no term has is not fresh. The place is
+// searched only where it is to be told.
+pub fn test(
+    terms: &[u64; table::NUMBERS],
+    rows: &[u64; mentions::WORDS],
+    prefix: &[u64; PREFIX_WORDS],
+    n: usize,
+    branch: &[u32; Tree::PLACES],
+    len: usize,
+    w: TermNumber,
+) -> Freshness
+    requires { ⌜ ((table : Table) × Entries table (now terms)) ⌝ }
+    requires { ⌜ n ≤ maxTerms ⌝ }
+    requires { ⌜ (len ≤ maxPlaces) × (length (now branch) ≡ maxPlaces) ⌝ }
+    ensures { λ r. ⌜ ((table : Table) (C : Clauses) → Entries table (now (terms .entry)) → MentionRows table (now (rows .entry)) → length table ≡ n
+        → PrefixRows table C (now (branch .entry)) (now (prefix .entry)) len → r ≡ freshness table C (map unpackLiteral (take len (now (branch .entry)))) (w .0)) ⌝ }
+{
+    if !is_rfv(terms, n, w) {
+        return Freshness::NotFresh(Place(0));
+    }
+    if !has_bit(prefix[len * ROW + w.0 / 64], w) {
+        return Freshness::Fresh;
+    }
+    Freshness::NotFresh(first_place(rows, n, branch, len, w))
 }

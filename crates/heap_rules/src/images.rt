@@ -6,6 +6,7 @@ use rules::outcome::Outcome;
 use rules::outcome::literal;
 use rules::searches;
 use table::Found;
+use tableau::Freshness;
 use tableau::Operator;
 use tableau::Reason;
 use tableau::Relation;
@@ -83,7 +84,7 @@ pub fn img(
 pub fn wit(
     p: LiteralView,
     w: TermNumber,
-    fresh: bool,
+    fresh: Freshness,
     terms: &[u64; table::NUMBERS],
     chains: &[u16; table::LINKS],
 ) -> Outcome
@@ -98,8 +99,8 @@ pub fn wit(
     let TermView::Img(h, r, f) = table::view(terms, s) else {
         return Outcome::Refused(Reason::NeedNotMet);
     };
-    if !fresh {
-        return Outcome::Refused(Reason::NotFresh);
+    if let Freshness::NotFresh(place) = fresh {
+        return Outcome::Refused(Reason::NotFresh(place));
     }
     let Access::At(c, d, v) = find_access(terms, chains, h, w, f) else {
         return Outcome::Refused(Reason::TermNotMade);

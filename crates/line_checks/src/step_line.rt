@@ -52,7 +52,8 @@ fn take(
     let noted = progress.noted;
     let last = progress.clauses;
     let asked = ask_fresh(step, branch, len, noted, terms, rows, prefix, n);
-    let inference = infer(step, asked.fresh, branch, len, last, terms, chains, n);
+    let fresh = asked.fresh;
+    let inference = infer(step, fresh, branch, len, last, terms, chains, n);
     let next = progress.after_step(rule, asked.noted);
     match inference {
         Inference::ByRule(outcome) => next.result(extent, grow(extent, outcome)),

@@ -4,9 +4,9 @@ use mathlib.Core.Path.{_≡_}
 use mathlib.Core.List.{List, _++_}
 use lib.ListN.{length, take}
 
--- "One line ended by LF": room for it, of which 130 bytes at most are written (`yes`, six commas with a number each, LF)
+-- "One line ended by LF": room for it, of which 151 bytes at most are written (`yes`, seven commas with a number each, LF)
 abbrev pub lineBytes : ℕ
-lineBytes = 136
+lineBytes = 160
 
 -- a 64-bit number has no more
 abbrev pub numberDigits : ℕ

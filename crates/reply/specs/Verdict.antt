@@ -20,4 +20,5 @@ replyRecord r = record {
   assumptions = r .assumptions;
   steps = r .steps;
   closings = r .closings;
+  place = r .place;
 }

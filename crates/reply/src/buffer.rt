@@ -1,6 +1,6 @@
 // Numbers as a build host reads them: four bytes each, low byte first.
 use crate::Reply;
-use crate::six_numbers;
+use crate::numbers;
 ghost use mathlib.Core.Path.{_≡_};
 ghost use mathlib.Core.List.{_++_};
 ghost use Prim.Native.Nat.{_+_, _*_, _≤_};
@@ -34,5 +34,5 @@ pub fn write_numbers(reply: Reply, buffer: &mut [u8])
     requires { ⌜ length (now buffer) ≡ bufferLength ⌝ }
     ensures { λ _. ⌜ now (buffer .exit) ≡ replyBytes (replyRecord reply) ⌝ }
 {
-    put_numbers(buffer, &six_numbers(reply));
+    put_numbers(buffer, &numbers(reply));
 }

@@ -1,4 +1,4 @@
-// The reply: six numbers in the build host's buffer, or one line of text. Both forms are made of parts for any numbers.
+// The reply: seven numbers in the build host's buffer, or one line of text. Both forms are made of parts for any numbers.
 mod buffer;
 mod line;
 
@@ -9,7 +9,7 @@ pub use line::put_fields;
 pub use line::write_line;
 use tableau::Reason;
 ghost use mathlib.Core.Path.{_≡_};
-ghost use Rattle.tableau.specs.Reply.{reasonNumber, sixNumbers, replyOf};
+ghost use Rattle.tableau.specs.Reply.{refusalOf, reasonNumber, replyNumbers, replyOf};
 ghost use Rattle.reply.specs.Verdict.{verdictOf, replyRecord};
 
 // The counts after a yes.
@@ -26,7 +26,7 @@ pub enum Verdict {
     Refused(Reason, usize),
 }
 
-// The six numbers of a reply, and whether it is a yes.
+// The numbers of a reply, and whether it is a yes.
 pub struct Reply {
     pub is_yes: bool,
     pub number: usize,
@@ -35,14 +35,15 @@ pub struct Reply {
     pub assumptions: usize,
     pub steps: usize,
     pub closings: usize,
+    pub place: usize,
 }
 
 impl Reply {
-    // The reply buffer of a build host: six numbers of four bytes.
-    pub const BUFFER_BYTES: usize = 24;
+    // The reply buffer of a build host: seven numbers of four bytes.
+    pub const BUFFER_BYTES: usize = 28;
 
-    // Room for the reply line, with some to spare: `yes`, six commas with a number of up to 20 digits each, LF.
-    pub const LINE_BYTES: usize = 136;
+    // Room for the reply line, with some to spare: `yes`, seven commas with a number of up to 20 digits each, LF.
+    pub const LINE_BYTES: usize = 160;
 }
 
 // A line of text: the first `len` of its bytes.
@@ -68,7 +69,7 @@ pub fn reason_number(reason: Reason) -> usize
         Reason::TermRepeated => 10,
         Reason::NoSuchPlace => 11,
         Reason::NeedNotMet => 12,
-        Reason::NotFresh => 13,
+        Reason::NotFresh(_) => 13,
         Reason::TermNotMade => 14,
         Reason::BranchFull => 15,
         Reason::WaitingFull => 16,
@@ -80,7 +81,17 @@ pub fn reason_number(reason: Reason) -> usize
     }
 }
 
-// After a yes the number and the line are 0, after a no the four counts.
+// The place of a reply with this reason: only where w is not fresh there is one.
+fn reason_place(reason: Reason) -> usize
+    ensures { λ r. ⌜ r ≡ refusalOf reason .place ⌝ }
+{
+    let Reason::NotFresh(place) = reason else {
+        return 0;
+    };
+    place.0
+}
+
+// After a yes the number, the line and the place are 0, after a no the four counts.
 pub fn reply_of(verdict: Verdict) -> Reply
     ensures { λ r. ⌜ replyRecord r ≡ replyOf (verdictOf verdict) ⌝ }
 {
@@ -98,6 +109,7 @@ pub fn reply_of(verdict: Verdict) -> Reply
                 assumptions: assumptions,
                 steps: steps,
                 closings: closings,
+                place: 0,
             }
         }
         Verdict::Refused(reason, line) => Reply {
@@ -108,13 +120,14 @@ pub fn reply_of(verdict: Verdict) -> Reply
             assumptions: 0,
             steps: 0,
             closings: 0,
+            place: reason_place(reason),
         },
     }
 }
 
 // The numbers in the order in which both forms give them.
-fn six_numbers(reply: Reply) -> [usize; 6]
-    ensures { λ r. ⌜ r ≡ sixNumbers (replyRecord reply) ⌝ }
+fn numbers(reply: Reply) -> [usize; 7]
+    ensures { λ r. ⌜ r ≡ replyNumbers (replyRecord reply) ⌝ }
 {
     let number = reply.number;
     let line = reply.line;
@@ -122,5 +135,6 @@ fn six_numbers(reply: Reply) -> [usize; 6]
     let assumptions = reply.assumptions;
     let steps = reply.steps;
     let closings = reply.closings;
-    [number, line, terms, assumptions, steps, closings]
+    let place = reply.place;
+    [number, line, terms, assumptions, steps, closings, place]
 }

@@ -1,6 +1,6 @@
 // The reply as one line of text. Each function writes behind the first `len` bytes and returns how many there are then.
 use crate::Reply;
-use crate::six_numbers;
+use crate::numbers;
 ghost use mathlib.Core.Path.{_≡_};
 ghost use mathlib.Core.List.{_∷_};
 ghost use Prim.Native.Nat.{_+_, _*_, _≤_, _<_};
@@ -89,5 +89,5 @@ pub fn write_line(reply: Reply, line: &mut [u8; Reply::LINE_BYTES]) -> usize
 {
     let is_yes = reply.is_yes;
     let len = put_answer(line, is_yes);
-    put_fields(line, len, &six_numbers(reply))
+    put_fields(line, len, &numbers(reply))
 }

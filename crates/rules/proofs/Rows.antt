@@ -5,6 +5,7 @@ use mathlib.Core.List.{List, [], _∷_}
 use mathlib.Core.Option.{Option, none, some}
 use Prim.Native.Nat.{ℕ}
 use lib.Dec.{eqb}
+use Rattle.tableau.specs.declared.Freshness.{Freshness}
 use Rattle.tableau.specs.declared.Operator.{Operator}
 use Rattle.tableau.specs.declared.Reason.{Reason}
 use Rattle.tableau.specs.declared.Relation.{Relation}
@@ -26,7 +27,7 @@ use Rattle.rules.specs.Answer.{IsNot, Builds, Concludes, ConcludesFresh}
 use Rattle.rules.proofs.Laws.{Arguments2, Others, by-sides, by-test, computing, found-at, found-nothing, no-arguments, same}
 
 -- a rule that asks for a fresh w answers so too, where the answer does not hang on it
-pub fresh-or-not : {A : Table → Type 0} {fresh : Bool} {x : Rule} {P Q : Option Literal} {t w : ℕ} {r : Outcome} → Concludes A x P Q t w r
+pub fresh-or-not : {A : Table → Type 0} {fresh : Freshness} {x : Rule} {P Q : Option Literal} {t w : ℕ} {r : Outcome} → Concludes A x P Q t w r
     → ConcludesFresh A fresh x P Q t w r
 fresh-or-not {fresh = fresh} k = record { room = k .room; answers = λ table h. k .answers table h fresh }
 

@@ -1,10 +1,11 @@
 -- What an outcome of the code says, and the contract of a rule's function: the outcome is the answer of the specification (checks 12, 13
 -- and 14 of a step).
 use mathlib.Core.Path.{_≡_}
-use mathlib.Core.Bool.{Bool, false}
+use mathlib.Core.Bool.{false}
 use mathlib.Core.List.{List, [], _∷_, map}
 use mathlib.Core.Option.{Option}
 use Prim.Native.Nat.{ℕ}
+use Rattle.tableau.specs.declared.Freshness.{Freshness}
 use Rattle.tableau.specs.declared.Relation.{Relation}
 use Rattle.tableau.specs.declared.Rule.{Rule}
 use Rattle.tableau.specs.declared.TermNumber.{TermNumber}
@@ -75,10 +76,10 @@ pub record Finds (terms chains : List ℕ) (e : Term) (f : Found) : Type 0 where
 -- THE CONTRACT OF A RULE other than `cla`, which looks at no clause: in every table of which the premise holds, the outcome is the rule's answer, whether w is fresh or not.
 pub record Concludes (premise : Table → Type 0) (x : Rule) (P Q : Option specification.Literal) (t w : ℕ) (r : Outcome) : Type 0 where
   pub room : Room r
-  pub answers : (table : Table) → premise table → (fresh : Bool) → answer table fresh P Q [] t w x ≡ answerOf r
+  pub answers : (table : Table) → premise table → (fresh : Freshness) → answer table fresh P Q [] t w x ≡ answerOf r
 
 -- the same for a rule that asks for a fresh w
-pub record ConcludesFresh (premise : Table → Type 0) (fresh : Bool) (x : Rule) (P Q : Option specification.Literal) (t w : ℕ) (r : Outcome)
+pub record ConcludesFresh (premise : Table → Type 0) (fresh : Freshness) (x : Rule) (P Q : Option specification.Literal) (t w : ℕ) (r : Outcome)
     : Type 0 where
   pub room : Room r
   pub answers : (table : Table) → premise table → answer table fresh P Q [] t w x ≡ answerOf r

@@ -6,6 +6,7 @@ use mathlib.Core.List.{[], _∷_}
 use mathlib.Core.Option.{Option, none, some}
 use Prim.Native.Nat.{ℕ}
 use lib.Dec.{eqb}
+use Rattle.tableau.specs.declared.Freshness.{Freshness}
 use Rattle.tableau.specs.declared.Operator.{Operator}
 use Rattle.tableau.specs.declared.Reason.{Reason}
 use Rattle.tableau.specs.declared.Relation.{Relation}
@@ -15,7 +16,7 @@ use Rattle.tableau.specs.Basics.{guard}
 use Rattle.tableau.specs.Fields.{arguments}
 use Rattle.tableau.specs.Terms.{TermNo, Table, Term, Literal, literal, at, sameRelation}
 use Rattle.tableau.specs.Rules.{rows, rule}
-use Rattle.tableau.specs.Tree.{refused, passed}
+use Rattle.tableau.specs.Tree.{refused, passed, _>>_, requireFresh}
 use Rattle.packing.specs.declared.LiteralView.{LiteralView}
 use Rattle.packing.specs.declared.TermView.{TermView}
 use Rattle.packing.specs.Packing.{literalOf, viewOf, number, relationOf, leftOf, rightOf}
@@ -50,19 +51,19 @@ module _ {A : Table → Type 0} {x : Rule} {k l : ℕ} {p : LiteralView} {m n : 
   }
 
 -- p is m ne n, and b whether they are regions
-pub unequal : {A : Table → Type 0} {p : LiteralView} {m n : TermNumber} {b fresh : Bool} {w : ℕ} {r : Outcome} → p ≡ LiteralView.Ne m n
+pub unequal : {A : Table → Type 0} {p : LiteralView} {m n : TermNumber} {b : Bool} {fresh : Freshness} {w : ℕ} {r : Outcome} → p ≡ LiteralView.Ne m n
     → ((table : Table) → A table → b ≡ areRegions table (m .0) (n .0)) → Room r
-    → answerOf r ≡ cond (not b) (refused Reason.NeedNotMet) (cond (not fresh) (refused Reason.NotFresh) (passed (
+    → answerOf r ≡ cond (not b) (refused Reason.NeedNotMet) (requireFresh true fresh >> passed (
     (literal Relation.In w (m .0) ∷ literal Relation.Ni w (n .0) ∷ []) ∷
     (literal Relation.Ni w (m .0) ∷ literal Relation.In w (n .0) ∷ []) ∷
     []
-    )))
+    ))
     → ConcludesFresh A fresh Rule.Ext (some (literalOf p)) none 0 w r
 unfolding computing
 unequal {b = b} {fresh} e f room a = record {
   room = room;
   answers = λ table h.
-      rw (e, two-guards _ _ _, ← f table h, a) (by-test b (λ i. by-test fresh (λ j. rw (i, j)) (λ j. rw (i, j))) (λ i. rw i));
+      rw (e, two-guards _ _ _, ← f table h, a) (by-test b (λ i. rw i) (λ i. rw i));
 }
 
 -- v is what the code computes for a test b and a test w

@@ -6,6 +6,7 @@ use rules::outcome;
 use rules::outcome::Outcome;
 use rules::outcome::literal;
 use syntax::Literal;
+use tableau::Freshness;
 use tableau::Reason;
 use tableau::Relation;
 use tableau::Sort;
@@ -81,7 +82,12 @@ pub fn eql(p: LiteralView, q: LiteralView, terms: &[u64; table::NUMBERS]) -> Out
 }
 
 // r ne s; w fresh gives w in r, w ni s ∥ w ni r, w in s.
-pub fn ext(p: LiteralView, w: TermNumber, fresh: bool, terms: &[u64; table::NUMBERS]) -> Outcome
+pub fn ext(
+    p: LiteralView,
+    w: TermNumber,
+    fresh: Freshness,
+    terms: &[u64; table::NUMBERS],
+) -> Outcome
     requires { ⌜ ((table : Table) × HeldBy (now terms) table) ⌝ }
     requires { ⌜ SmallLiteral p × Small (w .0) ⌝ }
     ensures { λ r. ⌜ ConcludesFresh (HeldBy (now (terms .entry))) fresh Rule.Ext (some (literalOf p)) none 0 (w .0) r ⌝ }
@@ -92,8 +98,8 @@ pub fn ext(p: LiteralView, w: TermNumber, fresh: bool, terms: &[u64; table::NUMB
     if !are_regions(terms, r, s) {
         return Outcome::Refused(Reason::NeedNotMet);
     }
-    if !fresh {
-        return Outcome::Refused(Reason::NotFresh);
+    if let Freshness::NotFresh(place) = fresh {
+        return Outcome::Refused(Reason::NotFresh(place));
     }
     outcome::splits_two_two(
         literal(Relation::In, w, r),

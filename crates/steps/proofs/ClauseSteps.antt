@@ -7,6 +7,7 @@ use Prim.Native.Nat.{ℕ, _<_}
 use native.Mathlib.Omega.{arith}
 use lib.Dec.{eqb, leb}
 use borrow.Author.Tests.{leb-true, ne-eqb, not-true}
+use Rattle.tableau.specs.declared.Freshness.{Freshness}
 use Rattle.tableau.specs.declared.ClauseNumber.{ClauseNumber}
 use Rattle.tableau.specs.declared.Reason.{Reason}
 use Rattle.tableau.specs.declared.Rule.{Rule}
@@ -44,7 +45,7 @@ module _ (table : Table) (P Q : Option Literal) (t w : ℕ) (D : List Literal) w
   same-conclusion replacement h = refl
   same-conclusion disjunction h = clash refl h
 
-pub no-clause-asked : (table : Table) (fresh : Bool) (P Q : Option Literal) (D : List Literal) (t w : ℕ) (x : Rule) → kindOf (ruleFields x .t) < 2
+pub no-clause-asked : (table : Table) (fresh : Freshness) (P Q : Option Literal) (D : List Literal) (t w : ℕ) (x : Rule) → kindOf (ruleFields x .t) < 2
     → answer table fresh P Q D t w x ≡ answer table fresh P Q [] t w x
 unfolding answer rules ruleNames ruleFields rule
 no-clause-asked table fresh P Q D t w x h =
@@ -53,7 +54,7 @@ no-clause-asked table fresh P Q D t w x h =
     rw (same-conclusion table P Q t w D (rule x) n)
 
 -- `cla` adds the literals of its clause
-pub cla-answer : (table : Table) (C : Clauses) (s : Step) {k : ClauseNumber} (fresh : Bool) (P Q : Option Literal) (w : ℕ) → s .rule ≡ Rule.Cla → s .t ≡ declared.ThirdField.Clause k
+pub cla-answer : (table : Table) (C : Clauses) (s : Step) {k : ClauseNumber} (fresh : Freshness) (P Q : Option Literal) (w : ℕ) → s .rule ≡ Rule.Cla → s .t ≡ declared.ThirdField.Clause k
     → answer table fresh P Q (clauseOf C (thirdIn (s .t))) (thirdIn (s .t)) w (s .rule) ≡ passed (map (λ l. l ∷ []) (clauseOf C (k .0)))
 unfolding answer conclude rule
 cla-answer table C s fresh P Q w e q = rw (e, q)

@@ -7,6 +7,7 @@ use Prim.Native.Nat.{ℕ}
 use lib.Dec.{eqb}
 use types.Run.{OneOf}
 use borrow.Author.Tests.{not-true}
+use Rattle.tableau.specs.declared.Freshness.{Freshness}
 use Rattle.tableau.specs.declared.Reason.{Reason}
 use Rattle.tableau.specs.declared.Relation.{Relation}
 use Rattle.tableau.specs.declared.Rule.{Rule}
@@ -15,7 +16,7 @@ use Rattle.tableau.specs.Words.{ruleNames}
 use Rattle.tableau.specs.Terms.{Table, Literal, literal, at, sameRelation}
 use Rattle.tableau.specs.Rules.{Row, Kind, rows, congruence, replacement, disjunction, rule}
 use Rattle.tableau.specs.Steps.{Letters, Conclusion, addsOne, congruent, given, met, orElse, concludeRows, concludeSub, concludeRep, conclude}
-use Rattle.tableau.specs.Tree.{Checked, _>>=_, _>>_, require, requireSome, answer}
+use Rattle.tableau.specs.Tree.{Checked, _>>=_, _>>_, requireSome, requireFresh, answer}
 use Rattle.tableau.proofs.Bools.{both-false}
 use Rattle.tableau.proofs.Places.{rules, placeOf, placesBut, other-rule}
 use Rattle.steps.specs.Freshness.{anyFresh, freshKind, asksFresh}
@@ -66,17 +67,17 @@ module _ (table : Table) (P Q : Option Literal) (t w : ℕ) where
   unasked D disjunction h = refl
 
 -- checks 12 to 14, from the conclusion
-ending : Bool → Option Conclusion → Checked (List (List Literal))
-ending f o = requireSome o Reason.NeedNotMet >>= λ c. require (not (c .fresh) || f) Reason.NotFresh >> requireSome (c .adds) Reason.TermNotMade
+ending : Freshness → Option Conclusion → Checked (List (List Literal))
+ending f o = requireSome o Reason.NeedNotMet >>= λ c. requireFresh (c .fresh) f >> requireSome (c .adds) Reason.TermNotMade
 
--- the flag is not looked at, where the conclusion does not ask
-same-ending : (o : Option Conclusion) → Unasked o → (f g : Bool) → ending f o ≡ ending g o
+-- freshness is not looked at, where the conclusion does not ask
+same-ending : (o : Option Conclusion) → Unasked o → (f g : Freshness) → ending f o ≡ ending g o
 unfolding ending
 same-ending none h f g = refl
 same-ending (some c) h f g = rw h
 
--- the answer of a rule that asks for no fresh w does not depend on the flag
-pub unasked-answer : (table : Table) (P Q : Option Literal) (D : List Literal) (t w : ℕ) (x : Rule) → asksFresh x ≡ false → (f g : Bool) → answer table f P Q D t w x ≡ answer table g P Q D t w x
+-- the answer of a rule that asks for no fresh w does not depend on it
+pub unasked-answer : (table : Table) (P Q : Option Literal) (D : List Literal) (t w : ℕ) (x : Rule) → asksFresh x ≡ false → (f g : Freshness) → answer table f P Q D t w x ≡ answer table g P Q D t w x
 unfolding answer ending
 unasked-answer table P Q D t w x h f g = same-ending (conclude table P Q t w D (rule x)) (unasked table P Q t w D (rule x) h) f g
 

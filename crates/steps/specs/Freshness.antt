@@ -4,11 +4,12 @@ use mathlib.Core.Bool.{Bool, true, false, _||_}
 use mathlib.Core.List.{List, [], _∷_}
 use mathlib.Core.Option.{Option}
 use Prim.Native.Nat.{ℕ}
+use Rattle.tableau.specs.declared.Freshness.{Freshness}
 use Rattle.tableau.specs.declared.Rule.{Rule}
 use Rattle.tableau.specs.Fields.{ruleUses}
 use Rattle.tableau.specs.Terms.{Table, Literal, Clauses}
 use Rattle.tableau.specs.Rules.{Row, Kind, rows, congruence, replacement, disjunction, rule}
-use Rattle.tableau.specs.Steps.{isFresh}
+use Rattle.tableau.specs.Steps.{freshness}
 use Rattle.tableau.specs.Tree.{answer}
 use Rattle.tableau.specs.Reply.{termOrName}
 use Rattle.tableau.specs.Basics.{every}
@@ -36,11 +37,11 @@ freshKind disjunction = false
 abbrev pub asksFresh : Rule → Bool
 asksFresh x = freshKind (rule x)
 
--- the flag says of the step's rule what the freshness of its w would
-abbrev pub Freshness : Table → Clauses → List Literal → Step → Bool → Type 0
-Freshness table C B s r = (P Q : Option Literal) (D : List Literal) (t : ℕ) → answer table r P Q D t (s .w .0) (s .rule) ≡ answer table (isFresh table C B (s .w .0)) P Q D t (s .w .0) (s .rule)
+-- the answer of the test says of the step's rule what the freshness of its w would
+abbrev pub TellsFreshness : Table → Clauses → List Literal → Step → Freshness → Type 0
+TellsFreshness table C B s r = (P Q : Option Literal) (D : List Literal) (t : ℕ) → answer table r P Q D t (s .w .0) (s .rule) ≡ answer table (freshness table C B (s .w .0)) P Q D t (s .w .0) (s .rule)
 
 -- what a test of w says, and the rows after it
 pub record Told (table : Table) (C : Clauses) (codes : List ℕ) (len : ℕ) (s : Step) (prefix : List ℕ) (r : Asked) : Type 0 where
-  pub fresh : Freshness table C (branchOf codes len) s (r .fresh)
+  pub fresh : TellsFreshness table C (branchOf codes len) s (r .fresh)
   pub rows : PrefixRows table C codes prefix (r .noted)

@@ -1,5 +1,7 @@
 // Is w fresh? Asked only where the rule asks it.
 use syntax::Step;
+use tableau::Freshness;
+use tableau::Place;
 use tableau::Rule;
 use tree::Tree;
 ghost use mathlib.Core.Path.{_≡_};
@@ -14,7 +16,7 @@ ghost use Rattle.steps.specs.Freshness.{asksFresh, Told};
 
 // Whether w is fresh, and how many literals have their rows after the test.
 pub struct Asked {
-    pub fresh: bool,
+    pub fresh: Freshness,
     pub noted: usize,
 }
 
@@ -50,13 +52,13 @@ pub fn ask_fresh(
     let w = step.w;
     if !asks_fresh(rule) {
         return Asked {
-            fresh: false,
+            fresh: Freshness::NotFresh(Place(0)),
             noted,
         };
     }
     freshness::note(prefix, rows, n, branch, noted, len);
     Asked {
-        fresh: freshness::is_fresh(terms, &*prefix, n, len, w),
+        fresh: freshness::test(terms, rows, &*prefix, n, branch, len, w),
         noted: len,
     }
 }

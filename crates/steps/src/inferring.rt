@@ -6,6 +6,7 @@ use rules::outcome::Outcome;
 use syntax::Step;
 use syntax::ThirdField;
 use tableau::ClauseNumber;
+use tableau::Freshness;
 use tableau::Reason;
 use tree::Tree;
 ghost use mathlib.Core.Path.{_≡_};
@@ -20,7 +21,7 @@ ghost use Rattle.tree.specs.State.{IsBranch};
 ghost use Rattle.rules.specs.declared.outcome.Outcome.{Outcome as Outcomes};
 ghost use Rattle.steps.specs.declared.inferring.Inference.{Inference as Inferred};
 ghost use Rattle.steps.specs.Reading.{branchOf};
-ghost use Rattle.steps.specs.Freshness.{Freshness, TermsNamed};
+ghost use Rattle.steps.specs.Freshness.{TellsFreshness, TermsNamed};
 ghost use Rattle.steps.specs.Inference.{RoomFor, inferredIn, namedUpTo};
 
 // What a step adds: the outcome of its rule, or, of `cla`, the literals of a clause, which is named.
@@ -48,7 +49,7 @@ fn by_clause(last: usize, k: ClauseNumber) -> Inference
 // Checks 11 to 14 of a line that passed those before; `last` is the number of the last clause.
 fn added(
     step: Step,
-    fresh: bool,
+    fresh: Freshness,
     branch: &[u32; Tree::PLACES],
     len: usize,
     last: usize,
@@ -59,7 +60,7 @@ fn added(
     requires { ⌜ IsBranch (now branch) len × WellTaken step ⌝ }
     ensures { λ r. ⌜ RoomFor last r ⌝ }
     ensures { λ r. ⌜ ((table : Table) (C : Clauses) → Searchable table (now (terms .entry)) (now (chains .entry)) → InSequence C → lastClause C ≡ last
-        → Freshness table C (branchOf (now (branch .entry)) len) step fresh
+        → TellsFreshness table C (branchOf (now (branch .entry)) len) step fresh
         → inferredIn C r ≡ alternatives table C (branchOf (now (branch .entry)) len) (step .rule) (stepFields step)) ⌝ }
 {
     let third = step.t;
@@ -81,7 +82,7 @@ fn added(
 // Checks 8, 9 and 11 to 14, where n terms are made. `fresh` says whether w is fresh, if the rule asks for that.
 pub fn infer(
     step: Step,
-    fresh: bool,
+    fresh: Freshness,
     branch: &[u32; Tree::PLACES],
     len: usize,
     last: usize,
@@ -93,7 +94,7 @@ pub fn infer(
     requires { ⌜ IsBranch (now branch) len × WellTaken step ⌝ }
     ensures { λ r. ⌜ RoomFor last r ⌝ }
     ensures { λ r. ⌜ ((table : Table) (C : Clauses) → Searchable table (now (terms .entry)) (now (chains .entry)) → length table ≡ n → InSequence C → lastClause C ≡ last
-        → Freshness table C (branchOf (now (branch .entry)) len) step fresh
+        → TellsFreshness table C (branchOf (now (branch .entry)) len) step fresh
         → inferredIn C r ≡ stepLine table C (branchOf (now (branch .entry)) len) (step .rule) (stepFields step)) ⌝ }
 {
     if !checks::terms_made(n, step) {

@@ -34,6 +34,10 @@ pub bind-passed : {A B : Type 0} {y : B} (m : Checked A) (k : A → Checked B) �
 bind-passed (refused r) k e = refused≢passed e
 bind-passed (passed x) k e = (x, refl, e)
 
+pub next-passed : {B : Type 0} {y : B} (l : Checked (Unit {0})) (m : Checked B) → (l >> m) ≡ passed y → (l ≡ passed tt) × (m ≡ passed y)
+next-passed (refused r) m e = refused≢passed e
+next-passed (passed x) m e = (refl, e)
+
 pub require-passed : {B : Type 0} {y : B} (b : Bool) (r : Reason) (m : Checked B) → (require b r >> m) ≡ passed y → (b ≡ true) × (m ≡ passed y)
 require-passed true r m e = (refl, e)
 require-passed false r m e = refused≢passed e

@@ -1,10 +1,11 @@
--- The replies that document 01 marks, those to the files of the old checker's failings, to those about start-up and to those with clauses, by computation.
+-- The replies that document 01 marks, those to the files of the old checker's failings, to those about start-up, with clauses and with a used w, by computation.
 use mathlib.Core.Path.{refl}
 use mathlib.Core.List.{[], _∷_}
 use Rattle.tableau.specs.Cases.{cases, AllReplies, _⊢_}
 use Rattle.tableau.specs.Failings.{incident, incidentMended, staleWitness, namesCompared, literalsKept, outsideAll, failings}
 use Rattle.tableau.specs.StartUp.{startUpCases}
 use Rattle.tableau.specs.Disjunctions.{clauseCases}
+use Rattle.tableau.specs.UsedWitnesses.{placeCases}
 use Rattle.tableau.proofs.Evaluate.{evaluate}
 
 -- THE CASES MARKED ◆
@@ -17,7 +18,7 @@ pub failings-refused : AllReplies failings
 unfolding AllReplies failings incident staleWitness namesCompared literalsKept outsideAll evaluate
 failings-refused = refl
 
-pub mended-accepted : AllReplies ((incidentMended ⊢ "yes,0,0,9,4,4,3") ∷ [])
+pub mended-accepted : AllReplies ((incidentMended ⊢ "yes,0,0,9,4,4,3,0") ∷ [])
 unfolding AllReplies incidentMended evaluate
 mended-accepted = refl
 
@@ -30,3 +31,8 @@ start-up-replies = refl
 pub clause-replies : AllReplies clauseCases
 unfolding AllReplies clauseCases evaluate
 clause-replies = refl
+
+-- the place of a w that is not fresh: the first that mentions it, inside a larger term too; 0 where only a clause does, and for a term that is no `rfv`
+pub place-replies : AllReplies placeCases
+unfolding AllReplies placeCases evaluate
+place-replies = refl

@@ -8,6 +8,7 @@ use Prim.Native.Nat.{ℕ, suc, _+_, _≤_}
 use native.Mathlib.Omega.{arith}
 use lib.Dec.{eqb, leb}
 use borrow.Author.Tests.{eqb-true, leb-true}
+use Rattle.tableau.specs.declared.Freshness.{Freshness}
 use Rattle.tableau.specs.declared.Letter.{Letter}
 use Rattle.tableau.specs.declared.Rule.{Rule}
 use Rattle.tableau.specs.declared.Reason.{Reason}
@@ -16,14 +17,13 @@ use Rattle.tableau.specs.File.{Line, rank, shape, letters, split, LF}
 use Rattle.tableau.specs.Words.{words, relations, ruleNames, Command, make, assume, disjoin, infer, commandOf}
 use Rattle.tableau.specs.Terms.{lastClause}
 use Rattle.tableau.specs.Rules.{rule}
-use Rattle.tableau.specs.Tree.{Checked, refused, passed, _>>=_, _>>_, require, requireSome, Tree, Status, isOpen, isClosed, answer, alternatives, grown}
-use Rattle.tableau.specs.Reply.{reasonNumber, Counts, State, start, requireOpen, termLine, literalLine, assumed, disjoined, stepLine, isClosing, counted}
+use Rattle.tableau.specs.Tree.{Checked, refused, passed, _>>=_, _>>_, require, requireSome, Tree, Status, isOpen, isClosed, requireFresh, answer, alternatives, grown}
+use Rattle.tableau.specs.Reply.{refusalOf, reasonNumber, Counts, State, start, termLine, literalLine, assumed, disjoined, stepLine, isClosing, counted}
 use Rattle.tableau.specs.Reply.{runOpen, runRead, runLine, runLines, Verdict, accept, refuse, atEnd, verdictOn, verdict, replyOf, reply}
 use Rattle.tableau.specs.Claims.{hasLetter, closesBranch, countIf, countClauses, CountsOf, RightCounts}
-use Rattle.tableau.proofs.Reason as reason-type
 use Rattle.tableau.proofs.Bools.{both-true, one-true}
-use Rattle.tableau.proofs.Places.{every-value}
 use Rattle.tableau.proofs.Checks.{lookup-agree, some-of-some, LinePassed, Run, done, next, Accepted, verdict-cases, file-accepted}
+use Rattle.tableau.proofs.Refusals.{OfReason, reasons, reason-fits}
 use Rattle.tableau.proofs.ClauseLaws.{no-clauses, run-in-sequence, run-clauses}
 
 -- THE COUNTS
@@ -86,6 +86,7 @@ right-counts file = go (verdict file) refl
               rw (← a .counts, ← run-clauses (a .run), run-in-sequence (a .run) no-clauses .counted) (ap (λ x. x + lastClause (a .last .clauses)) n);
           steps = rw (← a .counts) (file-count _ _ (λ k l c e. adds-each k l c e .2) a refl);
           closings = rw (← a .counts) (file-count _ _ (λ k l c e. adds-each k l c e .3) a refl);
+          place = refl;
         }
     go (refuse r i) e = record { terms = refl; assumptions = refl; steps = refl; closings = refl }
 
@@ -93,56 +94,34 @@ right-counts file = go (verdict file) refl
 abbrev InRange : Reason → Type 0
 InRange r = (eqb (reasonNumber r) 21 || (leb 1 (reasonNumber r) && leb (reasonNumber r) 17)) ≡ true
 
-abbrev CheckInRange : {A : Type 0} → Checked A → Type 0
-CheckInRange (refused r) = InRange r
-CheckInRange (passed x) = Unit {0}
-
 abbrev VerdictInRange : Verdict → Type 0
 VerdictInRange (accept c) = Unit {0}
 VerdictInRange (refuse r i) = InRange r
 
-bind-range : {A B : Type 0} (m : Checked A) (k : A → Checked B) → CheckInRange m → ((x : A) → CheckInRange (k x)) → CheckInRange (m >>= k)
-bind-range (refused r) k h t = h
-bind-range (passed x) k h t = t x
+fresh-range : (b : Bool) (f : Freshness) → OfReason InRange (requireFresh b f)
+unfolding refusalOf
+fresh-range false f = tt
+fresh-range true Freshness.Fresh = tt
+fresh-range true (Freshness.NotFresh p) = refl
 
-require-range : {B : Type 0} (b : Bool) (r : Reason) (m : Checked B) → InRange r → CheckInRange m → CheckInRange (require b r >> m)
-require-range true r m h t = t
-require-range false r m h t = h
+step-range : (σ : State) (τ : Tree) (c : Command) (n : Four ℕ) → OfReason InRange (runOpen σ τ c n)
+unfolding runOpen termLine literalLine assumed disjoined stepLine answer alternatives grown refusalOf
+step-range σ τ (make w) n = search reasons depth 12
+step-range σ τ (assume R) n = search reasons depth 12
+step-range σ τ (disjoin R) n = search reasons depth 12
+step-range σ τ (infer x) n = search (reasons, fresh-range) depth 12
 
-requireSome-range : {A B : Type 0} (o : Option A) (r : Reason) (k : A → Checked B) → InRange r → ((x : A) → CheckInRange (k x))
-    → CheckInRange (requireSome o r >>= k)
-requireSome-range none r k h t = h
-requireSome-range (some x) r k h t = t x
-
-requireSome-last : {A : Type 0} (o : Option A) (r : Reason) → InRange r → CheckInRange (requireSome o r)
-requireSome-last none r h = h
-requireSome-last (some x) r h = tt
-
-requireOpen-range : (s : Status) → CheckInRange (requireOpen s)
-unfolding reasonNumber
-requireOpen-range (isOpen τ) = tt
-requireOpen-range isClosed = refl
-
-ruleset range = (bind-range, require-range, requireSome-range, requireSome-last, requireOpen-range)
-
-step-range : (σ : State) (τ : Tree) (c : Command) (n : Four ℕ) → CheckInRange (runOpen σ τ c n)
-unfolding runOpen termLine literalLine assumed disjoined stepLine answer alternatives grown reasonNumber
-step-range σ τ (make w) n = search range depth 12
-step-range σ τ (assume R) n = search range depth 12
-step-range σ τ (disjoin R) n = search range depth 12
-step-range σ τ (infer x) n = search range depth 12
-
-line-range : (σ : State) (bs : List ℕ) → CheckInRange (runLine σ bs)
-unfolding runRead reasonNumber
-line-range σ bs = search (range, step-range) depth 12
+line-range : (σ : State) (bs : List ℕ) → OfReason InRange (runLine σ bs)
+unfolding runRead refusalOf
+line-range σ bs = search (reasons, step-range) depth 12
 
 end-range : (σ : State) (s : Status) (i : ℕ) → VerdictInRange (atEnd σ s i)
-unfolding reasonNumber
+unfolding refusalOf
 end-range σ (isOpen τ) i = refl
 end-range σ isClosed i = tt
 
-lines-range : (ls : List (List ℕ)) (i : ℕ) (m : Checked State) → CheckInRange m → VerdictInRange (verdictOn (runLines runLine ls i m))
-unfolding runLines reasonNumber
+lines-range : (ls : List (List ℕ)) (i : ℕ) (m : Checked State) → OfReason InRange m → VerdictInRange (verdictOn (runLines runLine ls i m))
+unfolding runLines refusalOf
 lines-range [] i (refused r) h = h
 lines-range [] i (passed σ) h = end-range σ (σ .status) i
 lines-range (l ∷ ls) i (refused r) h = h
@@ -152,7 +131,7 @@ lines-range (l ∷ m ∷ ls) i (passed σ) h = lines-range (m ∷ ls) (suc i) (r
 
 pub number-in-range : (file : List ℕ) → (reply file .isYes ≡ true → reply file .number ≡ 0)
     × (reply file .isYes ≡ false → (reply file .number ≡ 21) ⊎ ((1 ≤ reply file .number) × (reply file .number ≤ 17)))
-unfolding reply replyOf reasonNumber
+unfolding reply replyOf refusalOf
 number-in-range file = go (verdict file) (verdict-cases VerdictInRange file refl (lines-range (split LF file) 0 (passed start) tt))
   where
     go : (v : Verdict) → VerdictInRange v → (replyOf v .isYes ≡ true → replyOf v .number ≡ 0)
@@ -166,5 +145,4 @@ number-in-range file = go (verdict file) (verdict-cases VerdictInRange file refl
 
 -- no reason has the number of a yes
 pub reason-not-0 : (r : Reason) → reasonNumber r ≡ 0 → ⊥
-unfolding reasonNumber
-reason-not-0 r e = omega (arith, leb-true 1 (reasonNumber r) (every-value reason-type.enum refl (λ x. leb 1 (reasonNumber x)) refl r))
+reason-not-0 r e = omega (arith, reason-fits r .0)

@@ -15,6 +15,7 @@ use Rattle.tableau.specs.Terms.{TermNo, Name, Term, variable, apply, Lit
 use Rattle.tableau.specs.Meaning.{FiniteHeap, Ref, Value, reference, operation, Values, valueOf, value, Holds, True, AllTrue, AnyTrue, EveryClauseTrue}
 use Rattle.tableau.specs.Rules.{Pattern, letter, operator, –, LiteralPattern, pattern, Need, p∶, q∶, t≐, isRegion, letterT, letterW}
 use Rattle.tableau.specs.Steps.{Letters, fitsLetter, fits, fitsLiteral, termOf, met}
+use Rattle.tableau.proofs.FirstPlace.{mentioned-none, mentioned-more, not-mentioned}
 use Rattle.tableau.proofs.Bools.{both-false, dec, clash, eqb-same, none≢some, some-inj, then-inv, guard-inv}
 use Rattle.tableau.proofs.WellFormed.{WellFormed}
 use Rattle.tableau.proofs.Fold.{fold-eq}
@@ -119,23 +120,21 @@ module _ (table : TermNo → Term) (wf : WellFormed table) (w : TermNo) (n : Nam
 
     -- so do a branch and every clause
     pub same-branch : (B : List Literal) → mentioned table w B ≡ false → AllTrue ρ table B → AllTrue ρ′ table B
-    unfolding mentioned
     same-branch [] h k = tt
-    same-branch (l ∷ ls) h k = let c = both-false (mentionedIn table w l) _ h in (same-literal l (c .0) (k .0), same-branch ls (c .1) (k .1))
+    same-branch (l ∷ ls) h k = let c = not-mentioned table w l ls h in (same-literal l (c .0) (k .0), same-branch ls (c .1) (k .1))
 
     same-any : (ls : List Literal) → mentioned table w ls ≡ false → AnyTrue ρ table ls → AnyTrue ρ′ table ls
-    unfolding mentioned
     same-any [] h k = k
-    same-any (l ∷ ls) h (inl k) = inl (same-literal l (both-false (mentionedIn table w l) _ h .0) k)
-    same-any (l ∷ ls) h (inr k) = inr (same-any ls (both-false (mentionedIn table w l) _ h .1) k)
+    same-any (l ∷ ls) h (inl k) = inl (same-literal l (not-mentioned table w l ls h .0) k)
+    same-any (l ∷ ls) h (inr k) = inr (same-any ls (not-mentioned table w l ls h .1) k)
 
     not-in-clause : (C : Clauses) (k : ClauseNo) → mentioned table w (disjuncts C) ≡ false → mentioned table w (clauseOf C k) ≡ false
-    unfolding mentioned clauseOf
-    not-in-clause [] k h = refl
-    not-in-clause (d ∷ C) k h = go (eqb (d .clause) k) (both-false (mentionedIn table w (d .is)) _ h .0) (not-in-clause C k (both-false (mentionedIn table w (d .is)) _ h .1))
+    unfolding clauseOf
+    not-in-clause [] k h = mentioned-none table w
+    not-in-clause (d ∷ C) k h = let c = not-mentioned table w (d .is) (disjuncts C) h in go (eqb (d .clause) k) (c .0) (not-in-clause C k (c .1))
       where
         go : (b : Bool) → mentionedIn table w (d .is) ≡ false → mentioned table w (clauseOf C k) ≡ false → mentioned table w (cond b (d .is ∷ clauseOf C k) (clauseOf C k)) ≡ false
-        go true i r = rw (i, r)
+        go true i r = mentioned-more table w (d .is) (clauseOf C k) ∙ rw (i, r)
         go false i r = r
 
     pub same-clauses : (C : Clauses) → mentioned table w (disjuncts C) ≡ false → EveryClauseTrue ρ table C → EveryClauseTrue ρ′ table C

@@ -8,6 +8,7 @@ pub mod Values
 pub mod RowMeaning
 pub mod Match
 pub mod RuleSound
+pub mod FirstPlace
 pub mod Fresh
 pub mod StepSound
 pub mod SixFields
@@ -17,5 +18,7 @@ pub mod TreeSound
 pub mod TableGrowth
 pub mod Soundness
 pub mod ClauseLaws
+pub mod Refusals
 pub mod Counts
+pub mod UsedPlaces
 pub mod Shams

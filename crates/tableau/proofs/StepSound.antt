@@ -14,17 +14,19 @@ use Rattle.tableau.specs.declared.Sort.{Sort}
 use Rattle.tableau.specs.declared.Operator.{Operator}
 use Rattle.tableau.specs.declared.Relation.{Relation}
 use Rattle.tableau.specs.declared.Rule.{Rule}
-use Rattle.tableau.specs.Basics.{Four, four}
+use Rattle.tableau.specs.Basics.{isSome, Four, four}
 use Rattle.tableau.specs.Fields.{Use, Argument, unused, clause, of, arguments, ifArgument, ruleUses}
-use Rattle.tableau.specs.Terms.{TermNo, Table, Term, variable, apply, Literal, literal, at, numberFrom, numberOf, sameTerm, sameSort, sameOperator, sameRelation, mentions, mentionedIn, mentioned, Clauses, disjuncts, clauseOf}
+use Rattle.tableau.specs.Terms.{TermNo, Table, Term, variable, apply, Literal, literal, at, numberFrom, numberOf, sameTerm, sameSort, sameOperator, sameRelation, mentions, firstPlace, mentioned, Clauses, disjuncts, clauseOf}
 use Rattle.tableau.specs.Meaning.{FiniteHeap, Ref, Value, reference, operation, Values, value, Holds, True, AllTrue, AnyTrue, EveryClauseTrue}
 use Rattle.tableau.specs.Rules.{Pattern, letter, operator, –, LiteralPattern, pattern, Need, Row, Kind, rows, congruence, replacement, disjunction, rule, letterT, letterW}
-use Rattle.tableau.specs.Steps.{Letters, met, made, madeLiterals, madeAlternatives, isRfv, isFresh, Conclusion, addsOne, splitsInto, agree, takesTerms, congruent, concludeSub, concludeRep, given, orElse, concludeRows, conclude}
-use Rattle.tableau.specs.Tree.{literalAt, isThere}
+use Rattle.tableau.specs.Steps.{Letters, met, made, madeLiterals, madeAlternatives, isRfv, freshIf, freshness, Conclusion, addsOne, splitsInto, agree, takesTerms, congruent, concludeSub, concludeRep, given, orElse, concludeRows, conclude}
+use Rattle.tableau.specs.Tree.{passed, literalAt, isThere, requireFresh}
 use Rattle.tableau.proofs.Bools.{every-true, both-true, both-false, one-true, dec, none≢some, some-inj, then-inv, guard-inv}
 use Rattle.tableau.proofs.WellFormed.{WellFormed}
 use Rattle.tableau.proofs.RowMeaning.{⟦_⟧, Asked, CannotHold, SomeHolds, RowSound, RowsSound, KindSound}
 use Rattle.tableau.proofs.Match.{same-operator, same-relation, same-sort, value-apply, Under, Extends, IfAny, met-extends, met-value}
+use Rattle.tableau.proofs.Checks.{refused≢passed}
+use Rattle.tableau.proofs.FirstPlace.{not-mentioned}
 use Rattle.tableau.proofs.Fresh.{withRfv, WithoutAny, Clean, met-clean, same-value, same-branch, same-clauses, w-value}
 use Rattle.tableau.proofs.RuleSound.{rules-sound}
 
@@ -152,13 +154,19 @@ is-rfv (variable s n) h = (n, ap (λ k. variable k n) (sym (same-sort Sort.Refer
 is-rfv (apply o k) h = absurd (false≢true h)
 
 -- a fresh w is an `rfv` that neither the clauses nor the branch mention
-fresh-inv : (table : Table) (C : Clauses) (B : List Literal) (w : TermNo) → isFresh table C B w ≡ true
+fresh-inv : (table : Table) (C : Clauses) (B : List Literal) (w : TermNo) → requireFresh true (freshness table C B w) ≡ passed tt
     → (n : ℕ) × (at table w ≡ variable Sort.Reference n) × (mentioned (at table) w (disjuncts C) ≡ false) × (mentioned (at table) w B ≡ false)
-unfolding isFresh
+unfolding freshness
 fresh-inv table C B w h =
-    let k = is-rfv (at table w) (both-true _ _ h .0) in
-    let m = both-false (mentioned (at table) w (disjuncts C)) _ (not-true _ (both-true (isRfv (at table w)) _ h .1)) in
-    (k .0, k .1, m .0, m .1)
+    let f = go (isRfv (at table w)) (firstPlace (at table) w B) (mentioned (at table) w (disjuncts C)) h in
+    let k = is-rfv (at table w) (f .0) in
+    (k .0, k .1, f .1, f .2)
+  where
+    go : (b : Bool) (p : Option ℕ) (c : Bool) → requireFresh true (freshIf b p c) ≡ passed tt → (b ≡ true) × (c ≡ false) × (isSome p ≡ false)
+    go false p c h = refused≢passed h
+    go true (some p) c h = refused≢passed h
+    go true none true h = refused≢passed h
+    go true none false h = (refl, refl, refl)
 
 module _ (table : Table) (C : Clauses) (wf : WellFormed (at table)) (H : FiniteHeap) (ρ : Values H) where
   -- a literal on a true branch is true
@@ -174,12 +182,11 @@ module _ (table : Table) (C : Clauses) (wf : WellFormed (at table)) (H : FiniteH
   -- a literal on a branch without w is without w
   literal-without : (w : TermNo) (n : ℕ) (is-w : at table w ≡ variable Sort.Reference n) (B : List Literal) (k : ℕ) → mentioned (at table) w B ≡ false
       → WithoutAny (at table) wf w n is-w (getElem? B k)
-  unfolding mentioned
   literal-without w n is-w [] k h = tt
   literal-without w n is-w (literal R a b ∷ B) zero h =
-      let c = both-false (mentionedIn (at table) w (literal R a b)) _ h .0 in
+      let c = not-mentioned (at table) w (literal R a b) B h .0 in
       (both-false (mentions (at table) w a) _ c .0, both-false (mentions (at table) w a) _ c .1)
-  literal-without w n is-w (l ∷ B) (suc k) h = literal-without w n is-w B k (both-false (mentionedIn (at table) w l) _ h .1)
+  literal-without w n is-w (l ∷ B) (suc k) h = literal-without w n is-w B k (not-mentioned (at table) w l B h .1)
 
   place-without : (w : TermNo) (n : ℕ) (is-w : at table w ≡ variable Sort.Reference n) (B : List Literal) (k : ℕ) → mentioned (at table) w B ≡ false
       → WithoutAny (at table) wf w n is-w (literalAt B k)
@@ -200,7 +207,7 @@ module _ (table : Table) (C : Clauses) (wf : WellFormed (at table)) (H : FiniteH
     row-sound : (k : Four Use) (fresh : Bool) (ns : List Need) (ads : List (List LiteralPattern)) → RowSound H k (record { needs = ns; fresh = fresh; adds = ads })
         → Asked H (k .c) (value ρ (at table) T) → Asked H (k .d) (value ρ (at table) w)
         → (σ : Letters) → met (at table) ns P Q (given fresh T w) ≡ some σ
-        → not fresh || isFresh table C B w ≡ true
+        → requireFresh fresh (freshness table C B w) ≡ passed tt
         → (ls : List (List Literal)) → madeAlternatives table ads σ ≡ some ls → Refuted table C H B ls → ⊥
     row-sound k false ns ads s aT aw σ e f ls m r =
         let x : Extends (given false T w) σ = met-extends (at table) wf H ρ P Q ns (given false T w) σ e in
@@ -220,7 +227,7 @@ module _ (table : Table) (C : Clauses) (wf : WellFormed (at table)) (H : FiniteH
 
     -- what a rule concludes: where its refuted-alternatives are refuted, the branch is not true
     abbrev Sound : Option Conclusion → Type 0
-    Sound m = (c : Conclusion) → m ≡ some c → not (c .fresh) || isFresh table C B w ≡ true
+    Sound m = (c : Conclusion) → m ≡ some c → requireFresh (c .fresh) (freshness table C B w) ≡ passed tt
         → (ls : List (List Literal)) → c .adds ≡ some ls → Refuted table C H B ls → ⊥
 
     rows-sound : (k : Four Use) → Asked H (k .c) (value ρ (at table) T) → Asked H (k .d) (value ρ (at table) w) → (Rs : List Row) → RowsSound H k Rs
@@ -230,7 +237,7 @@ module _ (table : Table) (C : Clauses) (wf : WellFormed (at table)) (H : FiniteH
     rows-sound k aT aw (R ∷ Rs) s c e f ls m r =
         go (rows-sound k aT aw Rs (s .1) c) (met (at table) (R .needs) P Q (given (R .fresh) T w)) refl e
       where
-        go : (concludeRows table P Q T w Rs ≡ some c → not (c .fresh) || isFresh table C B w ≡ true
+        go : (concludeRows table P Q T w Rs ≡ some c → requireFresh (c .fresh) (freshness table C B w) ≡ passed tt
             → (ls : List (List Literal)) → c .adds ≡ some ls → Refuted table C H B ls → ⊥)
             → (o : Option Letters) → met (at table) (R .needs) P Q (given (R .fresh) T w) ≡ o
             → orElse table P Q T w o R (concludeRows table P Q T w Rs) ≡ some c → ⊥
@@ -238,7 +245,7 @@ module _ (table : Table) (C : Clauses) (wf : WellFormed (at table)) (H : FiniteH
         go ih (some σ) h e =
             let c′ = some-inj e in
             row-sound k (R .fresh) (R .needs) (R .adds) (s .0) aT aw σ h
-            (ap (λ (d : Conclusion). not (d .fresh) || isFresh table C B w) c′ ∙ f) ls (ap (λ (d : Conclusion). d .adds) c′ ∙ m) r
+            (ap (λ (d : Conclusion). requireFresh (d .fresh) (freshness table C B w)) c′ ∙ f) ls (ap (λ (d : Conclusion). d .adds) c′ ∙ m) r
 
     -- one literal, true
     one-sound : (l : Literal) → True ρ (at table) l → Sound (some (addsOne l))

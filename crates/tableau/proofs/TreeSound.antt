@@ -14,11 +14,11 @@ use Rattle.tableau.specs.Fields.{Use, unused, place, name, side, clause,
 use Rattle.tableau.specs.Terms.{TermNo, Table, Term, Literal, Clauses, clauseOf, at, sortOf, result}
 use Rattle.tableau.specs.Meaning.{FiniteHeap, Values, value, AllTrue, EveryClauseTrue}
 use Rattle.tableau.specs.Rules.{rule}
-use Rattle.tableau.specs.Steps.{conclude, isFresh}
-use Rattle.tableau.specs.Tree.{passed, Waiting, Tree, Status, isOpen, isClosed, literalAt, isThere, roomOnBranch, roomToWait, close, grow, answer, alternatives, grown}
+use Rattle.tableau.specs.Steps.{freshness, conclude}
+use Rattle.tableau.specs.Tree.{passed, Waiting, Tree, Status, isOpen, isClosed, literalAt, isThere, roomOnBranch, roomToWait, close, grow, requireFresh, answer, alternatives, grown}
 use Rattle.tableau.specs.Reply.{ofSort}
 use Rattle.tableau.proofs.Bools.{every-true}
-use Rattle.tableau.proofs.Checks.{require-passed, requireSome-passed, requireSome-is, passed-injective}
+use Rattle.tableau.proofs.Checks.{next-passed, require-passed, requireSome-passed, requireSome-is, passed-injective}
 use Rattle.tableau.proofs.WellFormed.{WellFormed}
 use Rattle.tableau.proofs.Match.{same-sort, kind-value}
 use Rattle.tableau.proofs.RowMeaning.{Asked}
@@ -126,7 +126,7 @@ module _ (table : Table) (C : Clauses) (wf : WellFormed (at table)) (H : FiniteH
       let e₁₁ = require-passed (every (isThere C B) (ruleUses x) n) _ _ e in
       let there = every-true (isThere C B) (ruleUses x) n (e₁₁ .0) in
       let e₁₂ = requireSome-passed (conclude table (literalAt B (n .a)) (literalAt B (n .b)) (n .c) (n .d) (clauseOf C (n .c)) (rule x)) _ _ (e₁₁ .1) in
-      let e₁₃ = require-passed (not (e₁₂ .0 .fresh) || isFresh table C B (n .d)) _ _ (e₁₂ .2) in
+      let e₁₃ = next-passed (requireFresh (e₁₂ .0 .fresh) (freshness table C B (n .d))) _ (e₁₂ .2) in
       let e₁₄ = requireSome-is (e₁₂ .0 .adds) _ (e₁₃ .1) in
       let e₁₅ = require-passed (roomOnBranch (length B) ks) _ _ g in
       let e₁₆ = require-passed (roomToWait (length (τ .waiting)) ks) _ _ (e₁₅ .1) in

@@ -55,19 +55,19 @@ f ⊢ r = record { file = f; says = r }
 unfoldable pub cases : List Case
 unfolding F G
 cases =
-    (F ⊢ "yes,0,0,4,2,2,1") ∷
-    (G ⊢ "yes,0,0,4,3,3,2") ∷
-    (take 9 G ⊢ "no,17,10,0,0,0,0") ∷
-    ([] ⊢ "no,17,1,0,0,0,0") ∷
-    (take 7 F ⊢ "no,17,8,0,0,0,0") ∷
-    (F ++ ("S,cls,3,2,0,0" ∷ []) ⊢ "no,5,9,0,0,0,0") ∷
-    (withLine 8 "S,cls,2,3,0,0" F ⊢ "no,12,8,0,0,0,0") ∷
-    (withLine 7 "S,cpe,3,0,0,0" F ⊢ "no,11,7,0,0,0,0") ∷
-    (withLine 7 "S,cpe,2,0,0,0" F ⊢ "no,12,7,0,0,0,0") ∷
-    (withLine 4 "T,cap,2,4,0,0" F ⊢ "no,8,4,0,0,0,0") ∷
-    (withLine 4 "T,cap,2,1,0,0" F ⊢ "no,9,4,0,0,0,0") ∷
-    (withLine 3 "T,rgv,1,0,0,0" F ⊢ "no,10,3,0,0,0,0") ∷
-    (withLine 1 "T,rfv,01,0,0,0" F ⊢ "no,2,1,0,0,0,0") ∷
+    (F ⊢ "yes,0,0,4,2,2,1,0") ∷
+    (G ⊢ "yes,0,0,4,3,3,2,0") ∷
+    (take 9 G ⊢ "no,17,10,0,0,0,0,0") ∷
+    ([] ⊢ "no,17,1,0,0,0,0,0") ∷
+    (take 7 F ⊢ "no,17,8,0,0,0,0,0") ∷
+    (F ++ ("S,cls,3,2,0,0" ∷ []) ⊢ "no,5,9,0,0,0,0,0") ∷
+    (withLine 8 "S,cls,2,3,0,0" F ⊢ "no,12,8,0,0,0,0,0") ∷
+    (withLine 7 "S,cpe,3,0,0,0" F ⊢ "no,11,7,0,0,0,0,0") ∷
+    (withLine 7 "S,cpe,2,0,0,0" F ⊢ "no,12,7,0,0,0,0,0") ∷
+    (withLine 4 "T,cap,2,4,0,0" F ⊢ "no,8,4,0,0,0,0,0") ∷
+    (withLine 4 "T,cap,2,1,0,0" F ⊢ "no,9,4,0,0,0,0,0") ∷
+    (withLine 3 "T,rgv,1,0,0,0" F ⊢ "no,10,3,0,0,0,0,0") ∷
+    (withLine 1 "T,rfv,01,0,0,0" F ⊢ "no,2,1,0,0,0,0,0") ∷
     []
 
 -- each file gets the reply line beside it

@@ -1,18 +1,19 @@
--- What is claimed of a checker: a file's assumed literals and clauses, the demands, the counts.
+-- What is claimed of a checker: a file's assumed literals and clauses, the demands, the counts, the place.
 use mathlib.Core.Path.{_≡_}
 use mathlib.Core.Bool.{Bool, true, false, _&&_, _||_, cond}
 use mathlib.Core.List.{List, [], _∷_, _++_}
 use mathlib.Core.Option.{Option, none, some}
-use Prim.Native.Nat.{ℕ, suc, _+_}
+use Prim.Native.Nat.{ℕ, suc, _+_, _<_}
 use lib.Dec.{eqb}
-use lib.ListN.{take}
+use lib.ListN.{length, take}
 use Rattle.tableau.specs.declared.Letter.{Letter}
 use Rattle.tableau.specs.Basics.{Four, bytes, sameBytes}
 use Rattle.tableau.specs.File.{Line, sameLetter, shape, letters, split, LF}
 use Rattle.tableau.specs.Words.{Command, make, assume, disjoin, infer, commandOf}
-use Rattle.tableau.specs.Terms.{ClauseNo, Table, Literal, literal, Clauses, at, written}
+use Rattle.tableau.specs.Terms.{Place, TermNo, ClauseNo, Table, Literal, literal, Clauses, at, mentionedIn, written}
 use Rattle.tableau.specs.Meaning.{FiniteHeap, Values, AllTrue, EveryClauseTrue}
-use Rattle.tableau.specs.Reply.{Reply, reply}
+use Rattle.tableau.specs.Tree.{Checked, passed, _>>=_, Tree, isOpen, literalAt}
+use Rattle.tableau.specs.Reply.{State, start, runLine, Reply, reply}
 
 -- THE LINES of a file: what each LF ends.
 abbrev pub allButLast : List (List ℕ) → List (List ℕ)
@@ -121,7 +122,7 @@ unfoldable pub countClauses : ClauseNo → Clauses → ℕ
 countClauses last [] = 0
 countClauses last (d ∷ C) = cond (eqb (d .clause) last) (countClauses (d .clause) C) (suc (countClauses (d .clause) C))
 
--- "After a yes the number and line are 0", and the counts are the file's
+-- "After a yes the number and line are 0", as is the place, and the counts are the file's
 pub record FileCounts (file : List ℕ) (r : Reply) : Type 0 where
   pub number : r .number ≡ 0
   pub line : r .line ≡ 0
@@ -129,6 +130,7 @@ pub record FileCounts (file : List ℕ) (r : Reply) : Type 0 where
   pub assumptions : r .assumptions ≡ countIf (hasLetter Letter.A) (linesOf file) + countClauses 0 (clausesOf file)
   pub steps : r .steps ≡ countIf (hasLetter Letter.S) (linesOf file)
   pub closings : r .closings ≡ countIf closesBranch (linesOf file)
+  pub place : r .place ≡ 0
 
 -- "after a no the four counts are 0"
 pub record NoCounts (r : Reply) : Type 0 where
@@ -144,6 +146,45 @@ CountsOf file r false = NoCounts r
 -- "Counts after a yes are the file's"; "a refusal reports zero for every count"
 unfoldable pub RightCounts : Checker → Type 0
 RightCounts checker = (file : List ℕ) → CountsOf file (checker file) (checker file .isYes)
+
+-- WHERE W IS ALREADY USED: "the first branch place that mentions w".
+abbrev pub MentionsAt : Table → List Literal → TermNo → Place → Type 0
+MentionsAt table B w p = (l : Literal) × (literalAt B p ≡ some l) × (mentionedIn (at table) w l ≡ true)
+
+pub record FirstMention (table : Table) (B : List Literal) (w : TermNo) (p : Place) : Type 0 where
+  pub here : MentionsAt table B w p
+  pub noneBefore : (q : Place) → q < p → ¬ MentionsAt table B w q
+
+-- the state after lines that pass, one after the other
+unfoldable pub after : State → List (List ℕ) → Checked State
+after σ [] = passed σ
+after σ (l ∷ ls) = do
+  σ′ ← runLine σ l
+  after σ′ ls
+
+-- In this state the line is a step, and the branch mentions its w, first at place p.
+pub record Uses (σ : State) (text : List ℕ) (p : Place) : Type 0 where
+  pub tree : Tree
+  pub treeOpen : σ .status ≡ isOpen tree
+  pub line : Line Letter
+  pub shaped : shape letters text ≡ some line
+  pub isStep : line .letter ≡ Letter.S
+  pub first : FirstMention (σ .table) (tree .branch) (line .fields .d) p
+
+-- Of these lines the i-th is such a step, in the state that those before it lead to.
+pub record UsedAt (σ : State) (ls : List (List ℕ)) (i : ℕ) (p : Place) : Type 0 where
+  pub earlier : List (List ℕ)
+  pub text : List ℕ
+  pub later : List (List ℕ)
+  pub lines : ls ≡ earlier ++ (text ∷ later)
+  pub number : i ≡ suc (length earlier)
+  pub state : State
+  pub reached : after σ earlier ≡ passed state
+  pub uses : Uses state text p
+
+-- A reply with a place has the number 13, and its line is such a step of the file.
+unfoldable pub RightPlaces : Checker → Type 0
+RightPlaces checker = (file : List ℕ) → ¬ (checker file .place ≡ 0) → (checker file .number ≡ 13) × UsedAt start (linesOf file) (checker file .line) (checker file .place)
 
 -- "A file is accepted when the checker says yes: its reply line begins with `yes`, or the call returns 0."
 abbrev pub BeginsWithYes : List ℕ → Type 0

@@ -70,13 +70,13 @@ gapInNumbers =
 unfoldable pub clauseCases : List Case
 unfolding noJog noJogNoStop unitClauses witnessInClause gapInNumbers
 clauseCases =
-    (noJog ⊢ "no,17,9,0,0,0,0") ∷
-    (noJogNoStop ⊢ "yes,0,0,3,3,3,2") ∷
-    (withLine 10 "S,cls,3,1,0,0" noJogNoStop ⊢ "no,12,10,0,0,0,0") ∷
-    (withLine 8 "S,cla,0,0,2,0" noJogNoStop ⊢ "no,11,8,0,0,0,0") ∷
-    (unitClauses ⊢ "yes,0,0,2,2,3,1") ∷
-    (witnessInClause ⊢ "no,13,7,0,0,0,0") ∷
-    (gapInNumbers ⊢ "no,21,3,0,0,0,0") ∷
+    (noJog ⊢ "no,17,9,0,0,0,0,0") ∷
+    (noJogNoStop ⊢ "yes,0,0,3,3,3,2,0") ∷
+    (withLine 10 "S,cls,3,1,0,0" noJogNoStop ⊢ "no,12,10,0,0,0,0,0") ∷
+    (withLine 8 "S,cla,0,0,2,0" noJogNoStop ⊢ "no,11,8,0,0,0,0,0") ∷
+    (unitClauses ⊢ "yes,0,0,2,2,3,1,0") ∷
+    (witnessInClause ⊢ "no,13,7,0,0,0,0,0") ∷
+    (gapInNumbers ⊢ "no,21,3,0,0,0,0,0") ∷
     []
 
 -- a heap and values make all A lines true and a literal of every clause, so that a yes to one of these would be wrong

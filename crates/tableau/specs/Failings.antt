@@ -97,11 +97,11 @@ outsideAll =
 
 unfoldable pub failings : List Case
 failings =
-    (incident ⊢ "no,12,15,0,0,0,0") ∷
-    (staleWitness ⊢ "no,13,12,0,0,0,0") ∷
-    (namesCompared ⊢ "no,12,7,0,0,0,0") ∷
-    (literalsKept ⊢ "no,12,9,0,0,0,0") ∷
-    (outsideAll ⊢ "no,12,6,0,0,0,0") ∷
+    (incident ⊢ "no,12,15,0,0,0,0,0") ∷
+    (staleWitness ⊢ "no,13,12,0,0,0,0,2") ∷
+    (namesCompared ⊢ "no,12,7,0,0,0,0,0") ∷
+    (literalsKept ⊢ "no,12,9,0,0,0,0,0") ∷
+    (outsideAll ⊢ "no,12,6,0,0,0,0,0") ∷
     []
 
 -- a heap and values make the assumptions of each file true, so that a yes would have been wrong

@@ -14,33 +14,43 @@ use Rattle.tableau.specs.Basics.{isSome, Four, every, bytes}
 use Rattle.tableau.specs.File.{Line, letters, inOrder, shape, split, LF, comma, maxBytes}
 use Rattle.tableau.specs.Words.{Command, make, assume, disjoin, infer, commandOf}
 use Rattle.tableau.specs.Fields.{Use, unused, place, name, side, clause, term, of, wordFields, sides, clauseFields, ruleUses}
-use Rattle.tableau.specs.Terms.{TermNo, ClauseNo, Table, Term, Literal, literal, Clauses, clauseOf, lastClause, at, numberOf, maxTerms, sortOf, sameSort, written, oneSort}
+use Rattle.tableau.specs.Terms.{Place, TermNo, ClauseNo, Table, Term, Literal, literal, Clauses, clauseOf, lastClause, at, numberOf, maxTerms, sortOf, sameSort, written, oneSort}
 use Rattle.tableau.specs.Rules.{Row, Kind, rows, congruence, replacement, disjunction, rule}
 use Rattle.tableau.specs.Tree.{Checked, refused, passed, _>>=_, _>>_, require, requireSome, Tree, Status, isOpen, isClosed, root, maxPlaces, alternatives, grown}
 
--- THE REFUSAL NUMBERS
-unfoldable pub reasonNumber : Reason → ℕ
-reasonNumber Reason.TooLong = 1
-reasonNumber Reason.BadShape = 2
-reasonNumber Reason.LetterOrder = 3
-reasonNumber Reason.UnknownWord = 4
-reasonNumber Reason.TreeClosed = 5
-reasonNumber Reason.UnusedField = 6
-reasonNumber Reason.TooManyTerms = 7
-reasonNumber Reason.NoSuchTerm = 8
-reasonNumber Reason.WrongSort = 9
-reasonNumber Reason.TermRepeated = 10
-reasonNumber Reason.NoSuchPlace = 11
-reasonNumber Reason.NeedNotMet = 12
-reasonNumber Reason.NotFresh = 13
-reasonNumber Reason.TermNotMade = 14
-reasonNumber Reason.BranchFull = 15
-reasonNumber Reason.WaitingFull = 16
-reasonNumber Reason.BranchOpen = 17
-reasonNumber Reason.BufferLength = 18
-reasonNumber Reason.BadFact = 19
-reasonNumber Reason.NotAnOrder = 20
-reasonNumber Reason.BadClause = 21
+-- THE REFUSALS: the number of each, and the reply's last field, `place`, "0 for every other reply".
+pub record Refusal : Type 0 where
+  pub number : ℕ
+  pub place : Place
+
+abbrev pub numbered : ℕ → Refusal
+numbered n = record { number = n; place = 0 }
+
+unfoldable pub refusalOf : Reason → Refusal
+refusalOf Reason.TooLong = numbered 1
+refusalOf Reason.BadShape = numbered 2
+refusalOf Reason.LetterOrder = numbered 3
+refusalOf Reason.UnknownWord = numbered 4
+refusalOf Reason.TreeClosed = numbered 5
+refusalOf Reason.UnusedField = numbered 6
+refusalOf Reason.TooManyTerms = numbered 7
+refusalOf Reason.NoSuchTerm = numbered 8
+refusalOf Reason.WrongSort = numbered 9
+refusalOf Reason.TermRepeated = numbered 10
+refusalOf Reason.NoSuchPlace = numbered 11
+refusalOf Reason.NeedNotMet = numbered 12
+refusalOf (Reason.NotFresh p) = record { number = 13; place = p .0 }
+refusalOf Reason.TermNotMade = numbered 14
+refusalOf Reason.BranchFull = numbered 15
+refusalOf Reason.WaitingFull = numbered 16
+refusalOf Reason.BranchOpen = numbered 17
+refusalOf Reason.BufferLength = numbered 18
+refusalOf Reason.BadFact = numbered 19
+refusalOf Reason.NotAnOrder = numbered 20
+refusalOf Reason.BadClause = numbered 21
+
+abbrev pub reasonNumber : Reason → ℕ
+reasonNumber r = refusalOf r .number
 
 -- The counts of a reply; while lines are read, of T, A and S lines and closings.
 pub record Counts : Type 0 where
@@ -249,7 +259,7 @@ verdictIf false file = refuse Reason.TooLong 0
 unfoldable pub verdict : List ℕ → Verdict
 verdict file = verdictIf (leb (length file) maxBytes) file
 
--- THE REPLY, "fields in order: `yes` or `no`, refusal number, line, T lines, A lines [and clauses], S lines, closings".
+-- THE REPLY, "fields in order: `yes` or `no`, refusal number, line, T lines, A lines [and clauses], S lines, closings"; "the reply gains a last field `place`".
 pub record Reply : Type 0 where
   pub isYes : Bool
   pub number : ℕ
@@ -258,17 +268,18 @@ pub record Reply : Type 0 where
   pub assumptions : ℕ
   pub steps : ℕ
   pub closings : ℕ
+  pub place : Place
 
--- "After a yes the number and line are 0; after a no the four counts are 0."
+-- "After a yes the number and line are 0; after a no the four counts are 0." A yes has no place.
 unfoldable pub replyOf : Verdict → Reply
-replyOf (accept c) = record { isYes = true; number = 0; line = 0; terms = c .terms; assumptions = c .assumptions; steps = c .steps; closings = c .closings }
-replyOf (refuse r i) = record { isYes = false; number = reasonNumber r; line = i; terms = 0; assumptions = 0; steps = 0; closings = 0 }
+replyOf (accept c) = record { isYes = true; number = 0; line = 0; terms = c .terms; assumptions = c .assumptions; steps = c .steps; closings = c .closings; place = 0 }
+replyOf (refuse r i) = record { isYes = false; number = refusalOf r .number; line = i; terms = 0; assumptions = 0; steps = 0; closings = 0; place = refusalOf r .place }
 
 unfoldable pub reply : List ℕ → Reply
 reply file = replyOf (verdict file)
 
-abbrev pub sixNumbers : Reply → List ℕ
-sixNumbers r = r .number ∷ r .line ∷ r .terms ∷ r .assumptions ∷ r .steps ∷ r .closings ∷ []
+abbrev pub replyNumbers : Reply → List ℕ
+replyNumbers r = r .number ∷ r .line ∷ r .terms ∷ r .assumptions ∷ r .steps ∷ r .closings ∷ r .place ∷ []
 
 -- "One line ended by LF": a number in decimal, with no leading zero
 unfoldable pub decimalFrom : ℕ → ℕ → List ℕ → List ℕ
@@ -287,9 +298,9 @@ yesOrNo true = bytes "yes"
 yesOrNo false = bytes "no"
 
 unfoldable pub replyLine : Reply → List ℕ
-replyLine r = yesOrNo (r .isYes) ++ commaNumbers (sixNumbers r)
+replyLine r = yesOrNo (r .isYes) ++ commaNumbers (replyNumbers r)
 
--- "six numbers of four bytes each, low byte first, in the reply's order"
+-- "[seven] numbers of four bytes each, low byte first, in the reply's order"
 abbrev pub fourBytes : ℕ → List ℕ
 fourBytes n = (n % 256) ∷ (n / 256 % 256) ∷ (n / 65536 % 256) ∷ (n / 16777216 % 256) ∷ []
 
@@ -298,12 +309,12 @@ numberBytes [] = []
 numberBytes (n ∷ ns) = fourBytes n ++ numberBytes ns
 
 unfoldable pub replyBytes : Reply → List ℕ
-replyBytes r = numberBytes (sixNumbers r)
+replyBytes r = numberBytes (replyNumbers r)
 
 -- THE CALL OF A BUILD HOST: the number it returns, and what the reply buffer holds afterwards.
--- "reply buffer not 24 bytes; returned by the call, nothing written, before 1"
+-- "reply buffer not [28] bytes; returned by the call, nothing written, before 1"
 abbrev pub bufferLength : ℕ
-bufferLength = 24
+bufferLength = 28
 
 pub record Call : Type 0 where
   pub returns : ℕ

@@ -14,10 +14,10 @@ use Rattle.tableau.specs.Claims.{Checker, Demand3, hasLetter, closesBran
 use Rattle.tableau.specs.Cases.{fileOf, F}
 
 abbrev pub yes′ : ℕ → ℕ → ℕ → ℕ → Reply
-yes′ t a s c = record { isYes = true; number = 0; line = 0; terms = t; assumptions = a; steps = s; closings = c }
+yes′ t a s c = record { isYes = true; number = 0; line = 0; terms = t; assumptions = a; steps = s; closings = c; place = 0 }
 
 abbrev pub no′ : ℕ → ℕ → Reply
-no′ n i = record { isYes = false; number = n; line = i; terms = 0; assumptions = 0; steps = 0; closings = 0 }
+no′ n i = record { isYes = false; number = n; line = i; terms = 0; assumptions = 0; steps = 0; closings = 0; place = 0 }
 
 -- "One that says no to all, or gives 15, 16 or 17 to all": one number and line for every file
 abbrev pub noToAll : ℕ → ℕ → Checker

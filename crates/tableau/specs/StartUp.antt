@@ -51,10 +51,10 @@ allocationUnsaid = withLine 6 "A,eq,3,3,0,0" somethingAllocated
 unfoldable pub startUpCases : List Case
 unfolding startUp somethingAllocated allocationUnsaid
 startUpCases =
-    (startUp ⊢ "no,4,5,0,0,0,0") ∷
-    (somethingAllocated ⊢ "yes,0,0,5,3,8,3") ∷
-    (allocationUnsaid ⊢ "no,12,9,0,0,0,0") ∷
-    (withLine 10 "S,ext,1,0,0,1" somethingAllocated ⊢ "no,13,10,0,0,0,0") ∷
+    (startUp ⊢ "no,4,5,0,0,0,0,0") ∷
+    (somethingAllocated ⊢ "yes,0,0,5,3,8,3,0") ∷
+    (allocationUnsaid ⊢ "no,12,9,0,0,0,0,0") ∷
+    (withLine 10 "S,ext,1,0,0,1" somethingAllocated ⊢ "no,13,10,0,0,0,0,4") ∷
     []
 
 -- a heap in which nothing is allocated, and values, make all assumed literals of a file true

@@ -1,15 +1,16 @@
--- What a rule concludes on a branch: its needs (check 12), whether it asks for a fresh w (check 13), the literals it adds (check 14).
+-- What a rule concludes on a branch: its needs (check 12), whether it asks for a fresh w, and what is fresh (check 13), the literals it adds (check 14).
 use mathlib.Core.Bool.{Bool, true, false, _&&_, _||_, not, cond}
 use mathlib.Core.List.{List, [], _∷_, map}
 use mathlib.Core.Option.{Option, none, some}
 use Prim.Native.Nat.{ℕ}
 use lib.Dec.{eqb}
+use Rattle.tableau.specs.declared.Freshness.{Freshness}
 use Rattle.tableau.specs.declared.Sort.{Sort}
 use Rattle.tableau.specs.declared.Operator.{Operator}
 use Rattle.tableau.specs.declared.Relation.{Relation}
 use Rattle.tableau.specs.Basics.{then, guard, Four, four, every}
 use Rattle.tableau.specs.Fields.{arguments, ifArgument}
-use Rattle.tableau.specs.Terms.{TermNo, Table, Term, variable, apply, Literal, literal, at, numberOf, sortOf, sameSort, sameOperator, sameRelation, mentioned, Clauses, disjuncts}
+use Rattle.tableau.specs.Terms.{Place, TermNo, Table, Term, variable, apply, Literal, literal, at, numberOf, sortOf, sameSort, sameOperator, sameRelation, firstPlace, mentioned, Clauses, disjuncts}
 use Rattle.tableau.specs.Rules.{Pattern, letter, operator, –, LiteralPattern, pattern, Need, p∶, q∶, t≐, isRegion, Row, Kind, rows, congruence, replacement, disjunction, letterT, letterW}
 
 -- An instance of a row: the term that each of its letters stands for.
@@ -83,13 +84,24 @@ module _ (table : Table) where
   madeAlternatives (l ∷ ls) σ = then (madeLiterals l σ) λ k. then (madeAlternatives ls σ) λ ks. some (k ∷ ks)
 
 -- "'Fresh' means an `rfv` term that occurs in no literal now on the branch, not even inside a larger term"; it "must also be absent from every
--- clause, split or not".
+-- clause, split or not". Where w is not fresh, the first place on the branch that mentions it goes with the answer, "0 .. for a w that isn't an `rfv`, and for a w found
+-- only in a clause".
 abbrev pub isRfv : Term → Bool
 isRfv (variable s n) = sameSort Sort.Reference s
 isRfv (apply o k) = false
 
-unfoldable pub isFresh : Table → Clauses → List Literal → TermNo → Bool
-isFresh table C branch w = isRfv (at table w) && not (mentioned (at table) w (disjuncts C) || mentioned (at table) w branch)
+abbrev pub notFresh : Place → Freshness
+notFresh p = Freshness.NotFresh (record { 0 = p })
+
+-- from whether w is an `rfv`, the first place on the branch that mentions it, and whether a clause does
+abbrev pub freshIf : Bool → Option Place → Bool → Freshness
+freshIf false p inClause = notFresh 0
+freshIf true (some p) inClause = notFresh p
+freshIf true none true = notFresh 0
+freshIf true none false = Freshness.Fresh
+
+unfoldable pub freshness : Table → Clauses → List Literal → TermNo → Freshness
+freshness table C branch w = freshIf (isRfv (at table w)) (firstPlace (at table) w branch) (mentioned (at table) w (disjuncts C))
 
 -- What a rule whose needs are met concludes: whether w has to be fresh, and the alternatives, if the table has all their terms.
 pub record Conclusion : Type 0 where

@@ -9,7 +9,7 @@ use Rattle.tableau.specs.declared.Sort.{Sort}
 use Rattle.tableau.specs.declared.Operator.{Operator}
 use Rattle.tableau.specs.declared.Word.{Word}
 use Rattle.tableau.specs.declared.Relation.{Relation}
-use Rattle.tableau.specs.Basics.{Four, four, every}
+use Rattle.tableau.specs.Basics.{isSome, Four, four, every}
 use Rattle.tableau.specs.Fields.{arguments, ifArgument}
 
 -- "Places, term numbers and names are three separate kinds of count throughout", and clause numbers a fourth.
@@ -157,13 +157,21 @@ oneSort Relation.Ne s s′ = sameSort s s′
 oneSort Relation.Le s s′ = true
 oneSort Relation.Nl s s′ = true
 
--- does the literal, or any of several, mention w?
+-- does the literal mention w?
 abbrev pub mentionedIn : (TermNo → Term) → TermNo → Literal → Bool
 mentionedIn table w (literal R m n) = mentions table w m || mentions table w n
 
-unfoldable pub mentioned : (TermNo → Term) → TermNo → List Literal → Bool
-mentioned table w [] = false
-mentioned table w (l ∷ ls) = mentionedIn table w l || mentioned table w ls
+-- "the first branch place that mentions w", if there is one; the literals' places count from i
+unfoldable pub placeFrom : Place → (TermNo → Term) → TermNo → List Literal → Option Place
+placeFrom i table w [] = none
+placeFrom i table w (l ∷ ls) = cond (mentionedIn table w l) (some i) (placeFrom (suc i) table w ls)
+
+abbrev pub firstPlace : (TermNo → Term) → TermNo → List Literal → Option Place
+firstPlace = placeFrom 1
+
+-- does any of the literals mention w?
+abbrev pub mentioned : (TermNo → Term) → TermNo → List Literal → Bool
+mentioned table w ls = isSome (firstPlace table w ls)
 
 -- CLAUSES: the literals of the C lines, in their order, each with the number of its clause.
 pub record Disjunct : Type 0 where

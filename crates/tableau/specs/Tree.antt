@@ -5,13 +5,14 @@ use mathlib.Core.Option.{Option, none, some}
 use Prim.Native.Nat.{ℕ, zero, suc, _+_}
 use lib.Dec.{leb}
 use lib.ListN.{length, take, getElem?}
+use Rattle.tableau.specs.declared.Freshness.{Freshness}
 use Rattle.tableau.specs.declared.Reason.{Reason}
 use Rattle.tableau.specs.declared.Rule.{Rule}
 use Rattle.tableau.specs.Basics.{Four, every}
 use Rattle.tableau.specs.Fields.{Use, unused, place, name, side, clause, term, of, ruleUses}
 use Rattle.tableau.specs.Terms.{Place, ClauseNo, Table, Literal, Clauses, clauseOf}
 use Rattle.tableau.specs.Rules.{rule}
-use Rattle.tableau.specs.Steps.{conclude, isFresh}
+use Rattle.tableau.specs.Steps.{freshness, conclude}
 
 -- The answer of a check: a reason to refuse, or what follows.
 pub data Checked (A : Type 0) : Type 0 where
@@ -105,19 +106,25 @@ grow τ (k ∷ ks) = isOpen (record {
   waiting = map (λ m. record { length = length (τ .branch); alternative = m }) ks ++ τ .waiting;
 })
 
--- The alternatives that rule x adds, where P and Q are the literals at places p and q, D those of clause t, and `fresh` says whether w is fresh: checks 12 to 14, a line
+-- check 13: "w not fresh", where the rule asks for a fresh w
+abbrev pub requireFresh : Bool → Freshness → Checked (Unit {0})
+requireFresh false f = passed tt
+requireFresh true Freshness.Fresh = passed tt
+requireFresh true (Freshness.NotFresh p) = refused (Reason.NotFresh p)
+
+-- The alternatives that rule x adds, where P and Q are the literals at places p and q, D those of clause t, and f says whether w is fresh: checks 12 to 14, a line
 -- for each, in the order of their numbers.
-unfoldable pub answer : Table → Bool → Option Literal → Option Literal → List Literal → ℕ → ℕ → Rule → Checked (List (List Literal))
-answer table fresh P Q D t w x = do
+unfoldable pub answer : Table → Freshness → Option Literal → Option Literal → List Literal → ℕ → ℕ → Rule → Checked (List (List Literal))
+answer table f P Q D t w x = do
   c ← requireSome (conclude table P Q t w D (rule x)) Reason.NeedNotMet
-  require (not (c .fresh) || fresh) Reason.NotFresh
+  requireFresh (c .fresh) f
   requireSome (c .adds) Reason.TermNotMade
 
 -- The same on a branch: check 11, then those above.
 unfoldable pub alternatives : Table → Clauses → List Literal → Rule → Four ℕ → Checked (List (List Literal))
 alternatives table C B x n = do
   require (every (isThere C B) (ruleUses x) n) Reason.NoSuchPlace
-  answer table (isFresh table C B (n .d)) (literalAt B (n .a)) (literalAt B (n .b)) (clauseOf C (n .c)) (n .c) (n .d) x
+  answer table (freshness table C B (n .d)) (literalAt B (n .a)) (literalAt B (n .b)) (clauseOf C (n .c)) (n .c) (n .d) x
 
 -- What they make of an open tree: checks 15 and 16.
 unfoldable pub grown : Tree → List (List Literal) → Checked Status

@@ -97,7 +97,8 @@ pub enum Reason {
     TermRepeated,
     NoSuchPlace,
     NeedNotMet,
-    NotFresh,
+    // With the first place that mentions w, 0 where none does.
+    NotFresh(Place),
     TermNotMade,
     BranchFull,
     WaitingFull,
@@ -106,6 +107,12 @@ pub enum Reason {
     BadFact,
     NotAnOrder,
     BadClause,
+}
+
+// Whether w is fresh; where it isn't, the first place that mentions it, 0 where none does.
+pub enum Freshness {
+    Fresh,
+    NotFresh(Place),
 }
 
 // "Places, term numbers and names are three separate kinds of count throughout": a place on the branch, the number of a term, the name of

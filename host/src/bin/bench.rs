@@ -8,6 +8,7 @@ use std::path::Path;
 use std::process::{Command, ExitCode};
 use std::time::Instant;
 
+use host::call::Numbers;
 use host::checkers::{Checker, CHECKERS, PLAIN_RUST, PROVED, YARDSTICK};
 use host::generator::full_tables;
 use host::generator::{Expected, Sample};
@@ -144,7 +145,7 @@ fn expect_reply((name, check): &Checker, sample: &Sample) {
 }
 
 /// Microseconds for one call.
-fn time(check: fn(&[u8]) -> [u32; 6], file: &[u8]) -> f64 {
+fn time(check: fn(&[u8]) -> Numbers, file: &[u8]) -> f64 {
     let start = Instant::now();
     for _ in 0..CALLS {
         black_box(check(black_box(file)));

@@ -97,7 +97,7 @@ pub fn no_such_clause(tableau: &Tableau, random: &mut Random) -> Damaged {
 pub fn last_alternative_left_out(tableau: &Tableau, random: &mut Random) -> Damaged {
     let index = some_split(tableau, random)?;
     let mut from = index + 1;
-    for _ in 0..tableau.lines[index].pushes {
+    for _ in 0..tableau.lines[index].pushes() {
         from = tableau.end_of_subtree(from);
     }
     let to = tableau.end_of_subtree(from);

@@ -325,17 +325,6 @@ impl Draft {
     }
 }
 
-impl Step {
-    /// How many alternatives begin to wait.
-    pub fn pushes(&self) -> usize {
-        self.alternatives.len().saturating_sub(1)
-    }
-
-    pub fn closes(&self) -> bool {
-        self.alternatives.is_empty()
-    }
-}
-
 pub fn sort_of_word(word: &str) -> Sort {
     match word {
         "nul" | "rfv" | "rea" => Sort::Reference,

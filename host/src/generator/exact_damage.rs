@@ -8,14 +8,13 @@ use crate::random::Random;
 use super::clause_damage;
 use super::draft::{MOST_PLACES, MOST_TERMS};
 use super::planted;
-use super::refusal;
 use super::tableau::{text, Entry, Line, Tableau};
-use super::Expected;
+use super::{not_fresh, refusal, Expected};
 
 pub type Damaged = Option<(Vec<u8>, Expected)>;
 pub type Damage = fn(&Tableau, &mut Random) -> Damaged;
 
-pub const EXACT: [(&str, Damage); 36] = [
+pub const EXACT: [(&str, Damage); 38] = [
     ("last closing dropped", last_closing_dropped),
     ("last closing doubled", last_closing_doubled),
     ("a line misshapen", misshapen),
@@ -43,6 +42,8 @@ pub const EXACT: [(&str, Damage); 36] = [
     ("w inside both sides", planted::inside_on_both_sides),
     ("w as a left side", planted::on_the_left),
     ("w in a clause only", planted::in_a_clause_only),
+    ("w in a clause too", planted::in_a_clause_too),
+    ("w in assumptions", planted::in_assumptions),
     ("a step by fir", planted::former_rule),
     ("a clause numbered 0", clause_damage::number_0),
     ("a gap in the clauses", clause_damage::gap),
@@ -272,10 +273,18 @@ fn no_such_side(tableau: &Tableau, random: &mut Random) -> Damaged {
     changed(tableau, index, field, Entry::Side(new), 12)
 }
 
-/// The step again, when its variable is no longer fresh.
+/// The step again, before all its branches are closed. The first literal of
+/// each of its alternatives has its variable in it, and no literal before.
 fn taken_twice(tableau: &Tableau, random: &mut Random) -> Damaged {
     let index = some_line(tableau, random, Line::takes_fresh)?;
-    Some((with_doubled(tableau, index), refusal(13, index + 2)))
+    let mut again = index + 1;
+    if random.chance(2, 3) {
+        again += random.below(tableau.end_of_subtree(index) - again);
+    }
+    let mut lines = tableau.lines.clone();
+    lines.insert(again, lines[index].clone());
+    let place = tableau.place_added(index);
+    Some((text(&lines), not_fresh(again + 1, place)))
 }
 
 /// Leaves out a term that no line names and that a step finds in the table.
@@ -313,22 +322,22 @@ pub fn miscounted(bytes: Vec<u8>) -> Damaged {
 }
 
 fn closing_dropped(tableau: &Tableau, random: &mut Random) -> Damaged {
-    let index = some_line(tableau, random, |line| line.closes)?;
+    let index = some_line(tableau, random, |line| line.closes())?;
     miscounted(without(tableau, index, index + 1))
 }
 
 fn closing_doubled(tableau: &Tableau, random: &mut Random) -> Damaged {
-    let index = some_line(tableau, random, |line| line.closes)?;
+    let index = some_line(tableau, random, |line| line.closes())?;
     miscounted(with_doubled(tableau, index))
 }
 
 fn split_dropped(tableau: &Tableau, random: &mut Random) -> Damaged {
-    let index = some_line(tableau, random, |line| line.pushes > 0)?;
+    let index = some_line(tableau, random, |line| line.pushes() > 0)?;
     miscounted(without(tableau, index, index + 1))
 }
 
 fn split_doubled(tableau: &Tableau, random: &mut Random) -> Damaged {
-    let index = some_line(tableau, random, |line| line.pushes > 0)?;
+    let index = some_line(tableau, random, |line| line.pushes() > 0)?;
     miscounted(with_doubled(tableau, index))
 }
 

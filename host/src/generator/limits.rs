@@ -25,7 +25,7 @@ pub fn samples(random: &mut Random) -> Vec<Sample> {
 /// The accepted file up to its first line that closes, then one line more that
 /// is refused.
 pub fn beyond(kind: &'static str, tableau: &Tableau, line: &str, number: u32) -> Sample {
-    let kept = tableau.lines.iter().take_while(|line| !line.closes);
+    let kept = tableau.lines.iter().take_while(|line| !line.closes());
     let mut text: String = kept.clone().map(|line| line.text()).collect();
     text += line;
     Sample {

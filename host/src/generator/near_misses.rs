@@ -139,7 +139,7 @@ fn finish(
     let counts = [draft.terms.len() as u32, draft.assumptions.len() as u32];
     let expected = match (fits, rule) {
         (false, _) => refusal(12, lines.len()),
-        (true, "cls") => Expected::Reply([0, 0, counts[0], counts[1], 1, 1]),
+        (true, "cls") => Expected::Reply([0, 0, counts[0], counts[1], 1, 1, 0]),
         (true, _) => refusal(17, lines.len() + 1),
     };
     Sample {

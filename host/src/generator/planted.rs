@@ -4,14 +4,18 @@
 
 use crate::random::Random;
 
-use super::draft::{MOST_TERMS, MOST_WAITING};
+use super::draft::{MOST_PLACES, MOST_TERMS, MOST_WAITING};
 use super::exact_damage::{some_line, Damaged, FORMER_RULE};
-use super::refusal;
 use super::tableau::{plain_line, text, Entry, Line, Tableau};
+use super::{not_fresh, refusal};
 
 const NONE: Entry = Entry::Unused;
 /// More terms than any of these plants.
 const SPARE_TERMS: usize = 5;
+/// As many assumptions with w in them as are planted at the most.
+const MOST_WITH_W: usize = 3;
+
+type Literal = (Entry, &'static str, Entry);
 
 /// The lines of a tableau with more planted.
 struct Planted {
@@ -47,23 +51,54 @@ impl Planted {
         Entry::Term(index as u32 + 1)
     }
 
-    /// Plants an assumption as the last one, so that derived literals stand one
-    /// place further on. Gives its place.
-    fn assume(&mut self, left: Entry, word: &'static str, right: Entry) -> Entry {
+    /// A literal with w in it, itself or inside a larger term.
+    fn literal_with(&mut self, w: Entry, random: &mut Random) -> Literal {
+        match random.below(3) {
+            0 => (w, "ni", self.term("all", NONE)),
+            1 => (self.term("nul", NONE), "in", self.term("sin", w)),
+            _ => {
+                let typ = self.term("typ", w);
+                (typ, "le", typ)
+            }
+        }
+    }
+
+    /// Plants an assumption as the last one. Gives its place.
+    fn assume(&mut self, literal: Literal) -> Entry {
+        let place = self.assumptions + 1;
+        self.assume_at(place, literal);
+        Entry::Place(place as u32)
+    }
+
+    /// Plants an assumption at a place, so that what stood there and after
+    /// stands one place further on.
+    fn assume_at(&mut self, new: usize, (left, word, right): Literal) {
         for entry in self.lines.iter_mut().flat_map(|line| &mut line.entries) {
             if let Entry::Place(place) = entry {
-                *place += u32::from(*place > self.assumptions as u32);
+                *place += u32::from(*place >= new as u32);
             }
         }
         let line = plain_line('A', word, [left, right, NONE, NONE]);
-        self.lines.insert(self.terms + self.assumptions, line);
+        self.lines.insert(self.terms + new - 1, line);
         self.assumptions += 1;
         self.before_steps += 1;
-        Entry::Place(self.assumptions as u32)
+    }
+
+    /// Plants so many assumptions with w in them. Gives the place of the first.
+    fn assume_with(&mut self, w: Entry, count: usize, random: &mut Random) -> usize {
+        let somewhere = 1 + random.below(self.assumptions + 1);
+        let first = random.pick(&[1, somewhere]);
+        let mut place = first;
+        for _ in 0..count {
+            let literal = self.literal_with(w, random);
+            self.assume_at(place, literal);
+            place += 1 + random.below(self.assumptions + 1 - place);
+        }
+        first
     }
 
     /// Plants a clause of one literal as the last one.
-    fn assume_alone(&mut self, tableau: &Tableau, left: Entry, word: &'static str, right: Entry) {
+    fn assume_alone(&mut self, tableau: &Tableau, (left, word, right): Literal) {
         let clause = Entry::Clause(tableau.clauses as u32 + 1);
         let line = plain_line('C', word, [left, right, clause, NONE]);
         let index = self.before_steps + tableau.first_step();
@@ -81,6 +116,10 @@ impl Planted {
 
     fn refused(&self, number: u32, line: usize) -> Damaged {
         Some((text(&self.lines), refusal(number, line)))
+    }
+
+    fn not_fresh(&self, line: usize, place: usize) -> Damaged {
+        Some((text(&self.lines), not_fresh(line, place)))
     }
 }
 
@@ -125,7 +164,7 @@ pub fn no_variable(tableau: &Tableau, random: &mut Random) -> Damaged {
     let other = some_line(tableau, random, is_other)?;
     let mut lines = tableau.lines.clone();
     lines[index].entries[3] = Entry::Term(other as u32 + 1);
-    Some((text(&lines), refusal(13, index + 1)))
+    Some((text(&lines), not_fresh(index + 1, 0)))
 }
 
 /// A step that takes w as fresh, with w, where one more alternative may wait.
@@ -135,6 +174,15 @@ fn taking_fresh(tableau: &Tableau, random: &mut Random) -> Option<(usize, Entry)
     room.then(|| (index, tableau.lines[index].entries[3]))
 }
 
+/// The first step that takes some w as fresh, with w.
+fn first_taking(tableau: &Tableau, random: &mut Random) -> Option<(usize, Entry)> {
+    let index = some_line(tableau, random, Line::takes_fresh)?;
+    let w = tableau.lines[index].entries[3];
+    let takes_w = |line: &Line| line.takes_fresh() && line.entries[3] == w;
+    let first = tableau.lines.iter().position(takes_w)?;
+    Some((first, w))
+}
+
 /// Before w is taken as fresh, a cut brings it in, inside a term on the right.
 pub fn inside_on_the_right(tableau: &Tableau, random: &mut Random) -> Damaged {
     let (index, w) = taking_fresh(tableau, random)?;
@@ -142,7 +190,7 @@ pub fn inside_on_the_right(tableau: &Tableau, random: &mut Random) -> Damaged {
     let nul = planted.term("nul", NONE);
     let sin = planted.term("sin", w);
     let line = planted.step(index, "cut", [NONE, NONE, nul, sin]);
-    planted.refused(13, line + 1)
+    planted.not_fresh(line + 1, tableau.place_added(index))
 }
 
 /// The same, inside a term that is on both sides.
@@ -152,7 +200,7 @@ pub fn inside_on_both_sides(tableau: &Tableau, random: &mut Random) -> Damaged {
     let typ = planted.term("typ", w);
     let rule = random.pick(&["ref", "ler"]);
     let line = planted.step(index, rule, [NONE, NONE, typ, NONE]);
-    planted.refused(13, line + 1)
+    planted.not_fresh(line + 1, tableau.place_added(index))
 }
 
 /// The same, with w itself as the left side.
@@ -161,27 +209,40 @@ pub fn on_the_left(tableau: &Tableau, random: &mut Random) -> Damaged {
     let mut planted = Planted::new(tableau)?;
     let all = planted.term("all", NONE);
     let line = planted.step(index, "cut", [NONE, NONE, w, all]);
-    planted.refused(13, line + 1)
+    planted.not_fresh(line + 1, tableau.place_added(index))
 }
 
 /// A clause that no step splits has w in it, itself or inside a larger term. So
 /// w is not fresh where it is first taken.
 pub fn in_a_clause_only(tableau: &Tableau, random: &mut Random) -> Damaged {
-    let index = some_line(tableau, random, Line::takes_fresh)?;
-    let w = tableau.lines[index].entries[3];
-    let takes_w = |line: &Line| line.takes_fresh() && line.entries[3] == w;
-    let first = tableau.lines.iter().position(takes_w)?;
+    let (first, w) = first_taking(tableau, random)?;
     let mut planted = Planted::new(tableau)?;
-    let (left, word, right) = match random.below(3) {
-        0 => (w, "ni", planted.term("all", NONE)),
-        1 => (planted.term("nul", NONE), "in", planted.term("sin", w)),
-        _ => {
-            let typ = planted.term("typ", w);
-            (typ, "le", typ)
-        }
-    };
-    planted.assume_alone(tableau, left, word, right);
-    planted.refused(13, first + planted.before_steps + 1)
+    let literal = planted.literal_with(w, random);
+    planted.assume_alone(tableau, literal);
+    planted.not_fresh(first + planted.before_steps + 1, 0)
+}
+
+/// The same, and a step before brings w onto the branch too.
+pub fn in_a_clause_too(tableau: &Tableau, random: &mut Random) -> Damaged {
+    let (first, w) = first_taking(tableau, random)?;
+    let mut planted = Planted::new(tableau)?;
+    let literal = planted.literal_with(w, random);
+    planted.assume_alone(tableau, literal);
+    let line = planted.step(first, "ref", [NONE, NONE, w, NONE]);
+    planted.not_fresh(line + 1, tableau.place_added(first))
+}
+
+/// Assumptions have w in them, so w is not fresh where it is first taken.
+pub fn in_assumptions(tableau: &Tableau, random: &mut Random) -> Damaged {
+    let (first, w) = first_taking(tableau, random)?;
+    let count = 1 + random.below(MOST_WITH_W);
+    let longest = *tableau.lengths()[..=first].iter().max()?;
+    if longest + count > MOST_PLACES {
+        return None;
+    }
+    let mut planted = Planted::new(tableau)?;
+    let place = planted.assume_with(w, count, random);
+    planted.not_fresh(first + planted.before_steps + 1, place)
 }
 
 /// A step by a word that is no rule any more, with the fields that older files
@@ -219,8 +280,8 @@ pub fn variable_at_random(tableau: &Tableau, random: &mut Random) -> Option<Vec<
     let mut planted = Planted::new(tableau)?;
     let all = planted.term("all", NONE);
     let emp = planted.term("emp", NONE);
-    let equal = planted.assume(all, "eq", emp);
-    let unequal = planted.assume(all, "ne", emp);
+    let equal = planted.assume((all, "eq", emp));
+    let unequal = planted.assume((all, "ne", emp));
     let moved = planted.before_steps;
     planted.lines.drain(from + moved..to + moved);
     for _ in 0..2 {

@@ -1,5 +1,6 @@
 //! A finished tableau: numbered lines, and what is known of each.
 
+use crate::call::Numbers;
 use crate::random::Random;
 
 use super::draft::{denial, ClauseId, Draft, Field, Literal, Place, Step, TermId};
@@ -32,9 +33,8 @@ pub struct Line {
     pub entries: [Entry; 4],
     /// The terms in the literals that a step adds.
     pub mentions: Vec<u32>,
-    /// How many alternatives begin to wait.
-    pub pushes: usize,
-    pub closes: bool,
+    /// How many literals a step adds in each alternative; none where it closes.
+    pub adds: Vec<usize>,
 }
 
 impl Line {
@@ -46,6 +46,15 @@ impl Line {
     /// The number of the clause of a C line.
     pub fn clause(&self) -> u32 {
         self.entries[2].number()
+    }
+
+    /// How many alternatives begin to wait.
+    pub fn pushes(&self) -> usize {
+        self.adds.len().saturating_sub(1)
+    }
+
+    pub fn closes(&self) -> bool {
+        self.letter == 'S' && self.adds.is_empty()
     }
 
     /// Whether the step takes a fresh variable.
@@ -72,11 +81,11 @@ impl Tableau {
     }
 
     /// The reply that a closed tableau gets: a yes and its counts.
-    pub fn reply(&self) -> [u32; 6] {
+    pub fn reply(&self) -> Numbers {
         let assumed = self.assumptions + self.clauses;
         let [terms, assumed, steps, closings] =
             [self.terms, assumed, self.steps, self.closings].map(|count| count as u32);
-        [0, 0, terms, assumed, steps, closings]
+        [0, 0, terms, assumed, steps, closings, 0]
     }
 
     /// Where the C lines begin.
@@ -148,9 +157,35 @@ impl Tableau {
     /// How many alternatives wait before this line.
     pub fn waiting_before(&self, index: usize) -> usize {
         let lines = &self.lines[..index];
-        let began: usize = lines.iter().map(|line| line.pushes).sum();
-        let closings = lines.iter().filter(|line| line.closes).count();
+        let began: usize = lines.iter().map(Line::pushes).sum();
+        let closings = lines.iter().filter(|line| line.closes()).count();
         began - closings
+    }
+
+    /// How many literals are on the branch before each line, and after the last.
+    pub fn lengths(&self) -> Vec<usize> {
+        let mut length = 0;
+        let mut lengths = vec![length];
+        // The length that each alternative which waits will make.
+        let mut waiting = Vec::new();
+        for line in &self.lines {
+            match (line.letter, line.adds.as_slice()) {
+                ('A', _) => length += 1,
+                ('S', [first, rest @ ..]) => {
+                    waiting.extend(rest.iter().rev().map(|more| length + more));
+                    length += first;
+                }
+                ('S', []) => length = waiting.pop().unwrap_or(length),
+                _ => {}
+            }
+            lengths.push(length);
+        }
+        lengths
+    }
+
+    /// The place of the first literal that this line adds.
+    pub fn place_added(&self, index: usize) -> usize {
+        self.lengths()[index] + 1
     }
 
     /// The lines (from, up to) of every alternative that once waited. It ends
@@ -158,7 +193,7 @@ impl Tableau {
     pub fn alternatives(&self) -> Vec<(usize, usize)> {
         let mut found = Vec::new();
         for (index, line) in self.lines.iter().enumerate() {
-            if line.closes && index + 1 < self.lines.len() {
+            if line.closes() && index + 1 < self.lines.len() {
                 found.push((index + 1, self.end_of_subtree(index + 1)));
             }
         }
@@ -171,8 +206,8 @@ impl Tableau {
         let mut open = 1;
         let mut index = start;
         while open > 0 {
-            open += self.lines[index].pushes;
-            open -= usize::from(self.lines[index].closes);
+            open += self.lines[index].pushes();
+            open -= usize::from(self.lines[index].closes());
             index += 1;
         }
         index
@@ -342,8 +377,7 @@ pub fn plain_line(letter: char, word: &'static str, entries: [Entry; 4]) -> Line
         word,
         entries,
         mentions: Vec::new(),
-        pushes: 0,
-        closes: false,
+        adds: Vec::new(),
     }
 }
 
@@ -374,7 +408,6 @@ fn step_line(step: &Step, numbering: &Numbering) -> Line {
         word: step.rule,
         entries: step.fields.map(|field| numbering.entry(field)),
         mentions: terms.map(|term| numbering.term(term)).collect(),
-        pushes: step.pushes(),
-        closes: step.closes(),
+        adds: step.alternatives.iter().map(Vec::len).collect(),
     }
 }

@@ -53,8 +53,21 @@ impl Mentions {
             self.at_splits.push((self.noted, self.now));
         }
         self.note_branch(tree, tree.branch().len());
+        !has(&self.now, variable as usize - 1)
+    }
+
+    /// The first place on the branch where a reference variable stands, or 0.
+    /// To be called after a test, which has noted the terms.
+    pub fn first_place(&self, variable: u32, tree: &Tree) -> u32 {
         let index = variable as usize - 1;
-        self.now[index / 64] >> (index % 64) & 1 == 0
+        let is_in = |side: u32| match self.in_terms[side as usize - 1] {
+            Variables::None => false,
+            Variables::One(other) => usize::from(other) == index,
+            Variables::Many(row) => has(&self.rows[usize::from(row)], index),
+        };
+        let mentions = |literal: &Literal| is_in(left(*literal)) || is_in(right(*literal));
+        let found = tree.branch().iter().position(mentions);
+        found.map_or(0, |index| index as u32 + 1)
     }
 
     fn note_terms(&mut self, terms: &[Packed]) {
@@ -116,6 +129,11 @@ impl Mentions {
             (self.noted, self.now) = self.at_splits.pop().unwrap_or_default();
         }
     }
+}
+
+#[inline(always)]
+fn has(row: &Row, index: usize) -> bool {
+    row[index / 64] >> (index % 64) & 1 == 1
 }
 
 #[inline(always)]

@@ -37,8 +37,17 @@ fn arguments<const N: usize>(term: Packed, head: Head) -> Result<[u32; N], Refus
 impl Checker {
     #[inline(always)]
     fn ensure_fresh(&mut self, number: u32, term: Packed) -> Step {
-        let fresh = has_head(term, RFV) && self.is_fresh(number);
-        ensure(fresh, Refusal::Fresh)
+        ensure(has_head(term, RFV), Refusal::Fresh)?;
+        if !self.is_fresh(number) {
+            return self.not_fresh(number);
+        }
+        Ok(())
+    }
+
+    #[cold]
+    fn not_fresh(&mut self, variable: u32) -> Step {
+        self.place = self.mentions.first_place(variable, &self.tree);
+        Err(Refusal::Fresh)
     }
 
     #[inline(always)]

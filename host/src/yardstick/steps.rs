@@ -15,6 +15,8 @@ pub struct Checker {
     pub clauses: Clauses,
     pub tree: Tree,
     pub mentions: Mentions,
+    /// Where w stands first, after a step that is refused for that.
+    pub place: u32,
 }
 
 impl Checker {
@@ -24,6 +26,7 @@ impl Checker {
             clauses: Clauses::new(),
             tree: Tree::new(),
             mentions: Mentions::default(),
+            place: 0,
         }
     }
 

@@ -4,7 +4,7 @@
 
 #include "tabcheck.h"
 
-/* One of the six numbers, whatever the machine's byte order. */
+/* One of the seven numbers, whatever the machine's byte order. */
 static unsigned number(const uint8_t *reply, enum tabcheck_field field)
 {
     const uint8_t *low = reply + 4 * field;
@@ -24,6 +24,7 @@ int main(void)
 
     printf("%s,%u,%u,", accepted ? "yes" : "no", number(reply, TABCHECK_REFUSAL), number(reply, TABCHECK_LINE));
     printf("%u,%u,", number(reply, TABCHECK_T_LINES), number(reply, TABCHECK_ASSUMED));
-    printf("%u,%u\n", number(reply, TABCHECK_S_LINES), number(reply, TABCHECK_CLOSINGS));
+    printf("%u,%u,", number(reply, TABCHECK_S_LINES), number(reply, TABCHECK_CLOSINGS));
+    printf("%u\n", number(reply, TABCHECK_PLACE));
     return accepted ? 0 : 1;
 }

@@ -36,58 +36,61 @@ fn for_ext() -> Vec<Case> {
         let name = format!("fresh: line {number} {line}");
         case(&name, with_line(&EXT, number, line), reply)
     };
-    let mut cases = vec![case("fresh: ext", lines(&EXT), "yes,0,0,4,3,3,2")];
-    // w on the left or right of a literal, in any line of any clause.
+    let mut cases = vec![case("fresh: ext", lines(&EXT), "yes,0,0,4,3,3,2,0")];
+    // w on the left or right of a literal, in any line of any clause, and at no
+    // place: only r ne r is on the branch.
     for (number, clause) in [(6, 1), (7, 1), (8, 2), (9, 2)] {
         for literal in [
             "in,1,3", "ni,1,3", "in,1,4", "eq,1,1", "ne,1,1", "eq,1,2", "eq,2,1", "ne,2,1",
         ] {
             let line = format!("C,{literal},{clause},0");
-            cases.push(changed(number, &line, "no,13,10,0,0,0,0"));
+            cases.push(changed(number, &line, "no,13,10,0,0,0,0,0"));
         }
     }
-    // v is in the clauses.
-    cases.push(changed(10, "S,ext,1,0,0,2", "no,13,10,0,0,0,0"));
-    cases.push(changed(10, "S,ext,1,0,0,3", "no,13,10,0,0,0,0"));
+    // v is in the clauses; r is no rfv, though at place 1.
+    cases.push(changed(10, "S,ext,1,0,0,2", "no,13,10,0,0,0,0,0"));
+    cases.push(changed(10, "S,ext,1,0,0,3", "no,13,10,0,0,0,0,0"));
     // A C line more, so that only the last holds w.
     for clause in [2, 3] {
         let last = format!("C,eq,1,1,{clause},0");
         cases.push(case(
             &format!("fresh: then {last}"),
             lines(&[&EXT[..9], &[&last], &EXT[9..]].concat()),
-            "no,13,11,0,0,0,0",
+            "no,13,11,0,0,0,0,0",
         ));
     }
     // A name is no term number: rgv 1 is not term 1.
-    cases.push(changed(6, "C,eq,3,3,1,0", "yes,0,0,4,3,3,2"));
+    cases.push(changed(6, "C,eq,3,3,1,0", "yes,0,0,4,3,3,2,0"));
     cases
 }
 
+/// Terms of which many hold w, term 1.
+pub const LARGER_TERMS: [&str; 21] = [
+    U,                // 1, w
+    V,                // 2
+    R,                // 3
+    HEAP,             // 4
+    FIELD,            // 5
+    "T,clv,1,0,0,0",  // 6
+    "T,typ,1,0,0,0",  // 7, typ(w)
+    "T,sin,1,0,0,0",  // 8, sin(w)
+    "T,cup,3,8,0,0",  // 9, cup(r,sin(w))
+    "T,cap,9,3,0,0",  // 10, cap(cup(r,sin(w)),r)
+    "T,dif,3,8,0,0",  // 11, dif(r,sin(w))
+    "T,rea,4,1,5,0",  // 12, rea(h,w,f)
+    "T,wri,4,1,5,2",  // 13, wri(h,w,f,v)
+    "T,wri,4,2,5,1",  // 14, wri(h,v,f,w)
+    "T,rea,14,2,5,0", // 15, rea(wri(h,v,f,w),v,f)
+    "T,img,4,8,5,0",  // 16, img(h,sin(w),f)
+    "T,typ,12,0,0,0", // 17, typ(rea(h,w,f))
+    "T,typ,2,0,0,0",  // 18, typ(v)
+    "T,sin,2,0,0,0",  // 19, sin(v)
+    "T,rea,4,2,5,0",  // 20, rea(h,v,f)
+    "T,wri,4,2,5,2",  // 21, wri(h,v,f,v)
+];
+
 /// Terms that hold w, term 1, on either side of a literal.
 fn inside_larger_terms() -> Vec<Case> {
-    let terms = [
-        U,                // 1, w
-        V,                // 2
-        R,                // 3
-        HEAP,             // 4
-        FIELD,            // 5
-        "T,clv,1,0,0,0",  // 6
-        "T,typ,1,0,0,0",  // 7, typ(w)
-        "T,sin,1,0,0,0",  // 8, sin(w)
-        "T,cup,3,8,0,0",  // 9, cup(r,sin(w))
-        "T,cap,9,3,0,0",  // 10, cap(cup(r,sin(w)),r)
-        "T,dif,3,8,0,0",  // 11, dif(r,sin(w))
-        "T,rea,4,1,5,0",  // 12, rea(h,w,f)
-        "T,wri,4,1,5,2",  // 13, wri(h,w,f,v)
-        "T,wri,4,2,5,1",  // 14, wri(h,v,f,w)
-        "T,rea,14,2,5,0", // 15, rea(wri(h,v,f,w),v,f)
-        "T,img,4,8,5,0",  // 16, img(h,sin(w),f)
-        "T,typ,12,0,0,0", // 17, typ(rea(h,w,f))
-        "T,typ,2,0,0,0",  // 18, typ(v)
-        "T,sin,2,0,0,0",  // 19, sin(v)
-        "T,rea,4,2,5,0",  // 20, rea(h,v,f)
-        "T,wri,4,2,5,2",  // 21, wri(h,v,f,v)
-    ];
     let steps = [
         "S,ext,1,0,0,1", // 24, 2: w in r, 3: w ni r
         "S,cls,2,3,0,0", // 25, 2: w ni r, 3: w in r
@@ -95,7 +98,7 @@ fn inside_larger_terms() -> Vec<Case> {
     ];
     let with = |literal: &str, reply| {
         let clause = format!("C,{literal},1,0");
-        let file = [&terms[..], &["A,ne,3,3,0,0", &clause], &steps].concat();
+        let file = [&LARGER_TERMS[..], &["A,ne,3,3,0,0", &clause], &steps].concat();
         case(&format!("fresh: {literal}"), lines(&file), reply)
     };
     let mut cases = Vec::new();
@@ -104,12 +107,12 @@ fn inside_larger_terms() -> Vec<Case> {
         "eq,2,12", "eq,4,13", "ne,14,4", "eq,15,2", "eq,2,15", "in,2,16", "eq,16,3", "le,18,17",
         "nl,17,6",
     ] {
-        cases.push(with(literal, "no,13,24,0,0,0,0"));
+        cases.push(with(literal, "no,13,24,0,0,0,0,0"));
     }
     for literal in [
         "le,18,6", "nl,6,18", "in,2,19", "eq,3,19", "in,20,3", "eq,2,20", "eq,4,21", "ne,21,4",
     ] {
-        cases.push(with(literal, "yes,0,0,21,2,3,2"));
+        cases.push(with(literal, "yes,0,0,21,2,3,2,0"));
     }
     cases
 }
@@ -129,12 +132,12 @@ fn in_many_clauses() -> Vec<Case> {
         case(
             "fresh: beside 400 clauses",
             file(1, &[]),
-            "yes,0,0,4,401,3,2",
+            "yes,0,0,4,401,3,2,0",
         ),
         case(
             "fresh: beside 50 clauses of 8",
             file(8, &[]),
-            "yes,0,0,4,51,3,2",
+            "yes,0,0,4,51,3,2,0",
         ),
     ];
     for size in [1, 8] {
@@ -142,7 +145,7 @@ fn in_many_clauses() -> Vec<Case> {
             cases.push(case(
                 &format!("fresh: w on C line {line} of 400, clauses of {size}"),
                 file(size, &[line]),
-                "no,13,406,0,0,0,0",
+                "no,13,406,0,0,0,0,0",
             ));
         }
     }
@@ -173,15 +176,16 @@ fn beside_splits() -> Vec<Case> {
         case(&name, with_lines(&file, changes), reply)
     };
     vec![
-        changed("in both alternatives", &[], "yes,0,0,4,3,7,4"),
-        // The second alternative, which waits, holds w.
-        changed("w waiting", &[(8, "C,in,1,4,1,0")], "no,13,10,0,0,0,0"),
+        changed("in both alternatives", &[], "yes,0,0,4,3,7,4,0"),
+        // The second alternative, which waits, holds w; no place does.
+        changed("w waiting", &[(8, "C,in,1,4,1,0")], "no,13,10,0,0,0,0,0"),
+        // 3: w in r, by `cla`.
         changed(
             "w on the branch",
             &[(7, "C,in,1,3,1,0")],
-            "no,13,10,0,0,0,0",
+            "no,13,10,0,0,0,0,3",
         ),
-        // The first alternative, which is closed, holds w.
+        // The first alternative, which is closed, holds w; no place does now.
         changed(
             "w in the closed alternative",
             &[
@@ -190,13 +194,14 @@ fn beside_splits() -> Vec<Case> {
                 (11, "S,ref,0,0,2,0"), // 5: v eq v
                 (12, "S,cls,2,1,0,0"), // 3: v in s
             ],
-            "no,13,13,0,0,0,0",
+            "no,13,13,0,0,0,0,0",
         ),
-        // The clause is not split, or split in an alternative that is closed.
+        // The clause is not split, or split in an alternative that is closed:
+        // place 3 is v eq v, then v ni r.
         changed(
             "w in a clause not split",
             &[(8, "C,in,1,4,1,0"), (9, "S,ref,0,0,2,0")],
-            "no,13,10,0,0,0,0",
+            "no,13,10,0,0,0,0,0",
         ),
         changed(
             "w in a clause split in a closed alternative",
@@ -207,10 +212,10 @@ fn beside_splits() -> Vec<Case> {
                 (11, "S,cls,2,1,0,0"), // 4: w in s
                 (12, "S,cls,2,1,0,0"), // 3: v ni r
             ],
-            "no,13,13,0,0,0,0",
+            "no,13,13,0,0,0,0,0",
         ),
-        // w has come onto the branch by ext, not by a clause.
-        changed("w twice", &[(11, "S,ext,1,0,0,1")], "no,13,11,0,0,0,0"),
+        // w has come onto the branch by ext, not by a clause: 4: w in r.
+        changed("w twice", &[(11, "S,ext,1,0,0,1")], "no,13,11,0,0,0,0,4"),
     ]
 }
 
@@ -236,7 +241,8 @@ fn for_wit() -> Vec<Case> {
         "S,eqr,2,3,0,0", // 17, 6: w in emp
         "S,emp,6,0,0,0", // 18
     ];
-    let mut cases = vec![case("fresh: wit", lines(&file), "yes,0,0,11,3,3,1")];
+    let mut cases = vec![case("fresh: wit", lines(&file), "yes,0,0,11,3,3,1,0")];
+    // At no place: u in img(h,r,f) and r eq emp are without w.
     for literal in [
         "in,2,3", "ni,2,10", "eq,2,1", "ne,1,2", "le,7,8", "nl,8,7", "eq,7,11", "eq,9,1", "in,9,3",
     ] {
@@ -246,13 +252,14 @@ fn for_wit() -> Vec<Case> {
             cases.push(case(
                 &name,
                 with_line(&file, number, &line),
-                "no,13,16,0,0,0,0",
+                "no,13,16,0,0,0,0,0",
             ));
         }
     }
     for (literal, split, in_the_other) in [
-        ("le,11,8", "no,17,18,0,0,0,0", "no,17,20,0,0,0,0"),
-        ("le,7,8", "no,13,17,0,0,0,0", "no,13,19,0,0,0,0"),
+        ("le,11,8", "no,17,18,0,0,0,0,0", "no,17,20,0,0,0,0,0"),
+        // 3: typ(w) le dty(f); in the other, 3: u eq u, so at no place.
+        ("le,7,8", "no,13,17,0,0,0,0,3", "no,13,19,0,0,0,0,0"),
     ] {
         let line = format!("C,{literal},1,0");
         // The clause is split first, so that `wit` is on line 17.
@@ -295,16 +302,16 @@ fn two_checks_broken_by_w() -> Vec<Case> {
     ];
     let rows = [
         // 13 alone; 13 and 14
-        ("S,ext,2,0,0,2", "no,13,11,0,0,0,0"),
-        ("S,wit,1,0,0,2", "no,13,11,0,0,0,0"),
+        ("S,ext,2,0,0,2", "no,13,11,0,0,0,0,0"),
+        ("S,wit,1,0,0,2", "no,13,11,0,0,0,0,0"),
         // 6, 8, 11, 12 and 13
-        ("S,ext,2,1,0,2", "no,6,11,0,0,0,0"),
-        ("S,wit,1,0,1,2", "no,6,11,0,0,0,0"),
-        ("S,ext,2,0,0,8", "no,8,11,0,0,0,0"),
-        ("S,ext,3,0,0,2", "no,11,11,0,0,0,0"),
-        ("S,wit,0,0,0,2", "no,11,11,0,0,0,0"),
-        ("S,ext,1,0,0,2", "no,12,11,0,0,0,0"),
-        ("S,wit,2,0,0,2", "no,12,11,0,0,0,0"),
+        ("S,ext,2,1,0,2", "no,6,11,0,0,0,0,0"),
+        ("S,wit,1,0,1,2", "no,6,11,0,0,0,0,0"),
+        ("S,ext,2,0,0,8", "no,8,11,0,0,0,0,0"),
+        ("S,ext,3,0,0,2", "no,11,11,0,0,0,0,0"),
+        ("S,wit,0,0,0,2", "no,11,11,0,0,0,0,0"),
+        ("S,ext,1,0,0,2", "no,12,11,0,0,0,0,0"),
+        ("S,wit,2,0,0,2", "no,12,11,0,0,0,0,0"),
     ];
     let mut cases: Vec<Case> = rows
         .into_iter()
@@ -323,12 +330,12 @@ fn two_checks_broken_by_w() -> Vec<Case> {
     cases.push(case(
         "fresh: w in a clause, all full",
         full("C,in,2,3,1,0"),
-        "no,13,1009,0,0,0,0",
+        "no,13,1009,0,0,0,0,0",
     ));
     cases.push(case(
         "fresh: w in no clause, all full",
         full("C,in,1,3,1,0"),
-        "no,15,1009,0,0,0,0",
+        "no,15,1009,0,0,0,0,0",
     ));
     cases
 }

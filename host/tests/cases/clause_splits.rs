@@ -42,23 +42,23 @@ fn no_clause() -> Vec<Case> {
     // OR has clause 1, terms 1 to 3 and places 1 and 2.
     for clause in [0, 2, 3, 4, 400, 9999] {
         let line = format!("S,cla,0,0,{clause},0");
-        cases.push(or_with(8, &line, "no,11,8,0,0,0,0"));
+        cases.push(or_with(8, &line, "no,11,8,0,0,0,0,0"));
     }
     // Now with place 3.
-    cases.push(or_with(9, "S,cla,0,0,3,0", "no,11,9,0,0,0,0"));
-    cases.push(or_with(9, "S,cla,0,0,0,0", "no,11,9,0,0,0,0"));
+    cases.push(or_with(9, "S,cla,0,0,3,0", "no,11,9,0,0,0,0,0"));
+    cases.push(or_with(9, "S,cla,0,0,0,0", "no,11,9,0,0,0,0,0"));
     // Two clauses: the second, and one past it.
     let two = [(7, "C,in,1,3,2,0")];
     let with = |line| with_lines(&OR, &[&two[..], &[(8, line)]].concat());
     cases.push(case(
         "cla: the last of two",
         with("S,cla,0,0,2,0"),
-        "no,12,9,0,0,0,0", // 3: u in s, so place 1 does not deny it
+        "no,12,9,0,0,0,0,0", // 3: u in s, so place 1 does not deny it
     ));
     cases.push(case(
         "cla: one past the last of two",
         with("S,cla,0,0,3,0"),
-        "no,11,8,0,0,0,0",
+        "no,11,8,0,0,0,0,0",
     ));
     cases
 }
@@ -68,12 +68,12 @@ fn no_clause_without_c_lines() -> Vec<Case> {
     // F has terms 1 to 4 and places 1 and 2, and then 3 and 4.
     for clause in [0, 1, 2, 3, 4, 5, 9999] {
         let line = format!("S,cla,0,0,{clause},0");
-        for (number, reply) in [(7, "no,11,7,0,0,0,0"), (8, "no,11,8,0,0,0,0")] {
+        for (number, reply) in [(7, "no,11,7,0,0,0,0,0"), (8, "no,11,8,0,0,0,0,0")] {
             let name = format!("cla: F, line {number} {line}");
             cases.push(case(&name, with_line(&F, number, &line), reply));
         }
     }
-    for (number, reply) in [(8, "no,11,8,0,0,0,0"), (10, "no,11,10,0,0,0,0")] {
+    for (number, reply) in [(8, "no,11,8,0,0,0,0,0"), (10, "no,11,10,0,0,0,0,0")] {
         cases.push(case(
             &format!("cla: G, line {number}"),
             with_line(&G, number, "S,cla,0,0,1,0"),
@@ -95,10 +95,10 @@ fn clause_number_past_terms_and_places() -> Vec<Case> {
     let mut cases: Vec<Case> = (1..=9)
         .map(|clause| {
             let name = format!("cla: clause {clause} of 9");
-            case(&name, file(clause), "yes,0,0,2,10,2,1")
+            case(&name, file(clause), "yes,0,0,2,10,2,1,0")
         })
         .collect();
-    cases.push(case("cla: clause 10 of 9", file(10), "no,11,13,0,0,0,0"));
+    cases.push(case("cla: clause 10 of 9", file(10), "no,11,13,0,0,0,0,0"));
     cases
 }
 
@@ -116,7 +116,7 @@ fn unused_fields() -> Vec<Case> {
         "0,0,9999,1",
     ] {
         let line = format!("S,cla,{fields}");
-        cases.push(or_with(8, &line, "no,6,8,0,0,0,0"));
+        cases.push(or_with(8, &line, "no,6,8,0,0,0,0,0"));
     }
     cases
 }
@@ -132,12 +132,12 @@ fn closed() -> Vec<Case> {
         "S,ref,0,0,1,0",
         "S,cls,3,2,0,0",
     ] {
-        cases.push(or_with(11, line, "no,5,11,0,0,0,0"));
+        cases.push(or_with(11, line, "no,5,11,0,0,0,0,0"));
     }
     cases.push(case(
         "cla: after F",
         with_more(&F, &["S,cla,0,0,1,0"]),
-        "no,5,9,0,0,0,0",
+        "no,5,9,0,0,0,0,0",
     ));
     cases
 }
@@ -159,14 +159,54 @@ fn all_denied(size: usize) -> Vec<String> {
 /// closing more.
 fn every_size() -> Vec<Case> {
     let rows = [
-        (1, "yes,0,0,2,2,2,1", "no,17,6,0,0,0,0", "no,5,7,0,0,0,0"),
-        (2, "yes,0,0,3,3,3,2", "no,17,10,0,0,0,0", "no,5,11,0,0,0,0"),
-        (3, "yes,0,0,4,4,4,3", "no,17,14,0,0,0,0", "no,5,15,0,0,0,0"),
-        (4, "yes,0,0,5,5,5,4", "no,17,18,0,0,0,0", "no,5,19,0,0,0,0"),
-        (5, "yes,0,0,6,6,6,5", "no,17,22,0,0,0,0", "no,5,23,0,0,0,0"),
-        (6, "yes,0,0,7,7,7,6", "no,17,26,0,0,0,0", "no,5,27,0,0,0,0"),
-        (7, "yes,0,0,8,8,8,7", "no,17,30,0,0,0,0", "no,5,31,0,0,0,0"),
-        (8, "yes,0,0,9,9,9,8", "no,17,34,0,0,0,0", "no,5,35,0,0,0,0"),
+        (
+            1,
+            "yes,0,0,2,2,2,1,0",
+            "no,17,6,0,0,0,0,0",
+            "no,5,7,0,0,0,0,0",
+        ),
+        (
+            2,
+            "yes,0,0,3,3,3,2,0",
+            "no,17,10,0,0,0,0,0",
+            "no,5,11,0,0,0,0,0",
+        ),
+        (
+            3,
+            "yes,0,0,4,4,4,3,0",
+            "no,17,14,0,0,0,0,0",
+            "no,5,15,0,0,0,0,0",
+        ),
+        (
+            4,
+            "yes,0,0,5,5,5,4,0",
+            "no,17,18,0,0,0,0,0",
+            "no,5,19,0,0,0,0,0",
+        ),
+        (
+            5,
+            "yes,0,0,6,6,6,5,0",
+            "no,17,22,0,0,0,0,0",
+            "no,5,23,0,0,0,0,0",
+        ),
+        (
+            6,
+            "yes,0,0,7,7,7,6,0",
+            "no,17,26,0,0,0,0,0",
+            "no,5,27,0,0,0,0,0",
+        ),
+        (
+            7,
+            "yes,0,0,8,8,8,7,0",
+            "no,17,30,0,0,0,0,0",
+            "no,5,31,0,0,0,0,0",
+        ),
+        (
+            8,
+            "yes,0,0,9,9,9,8,0",
+            "no,17,34,0,0,0,0,0",
+            "no,5,35,0,0,0,0,0",
+        ),
     ];
     let mut cases = Vec::new();
     for (size, accepted, open, closed) in rows {
@@ -195,17 +235,17 @@ fn every_size() -> Vec<Case> {
 fn every_closing_checked() -> Vec<Case> {
     let file = all_denied(8);
     let rows = [
-        (27, "S,cls,9,2,0,0", "no,12,27,0,0,0,0"),
-        (28, "S,cls,9,1,0,0", "no,12,28,0,0,0,0"),
-        (29, "S,cls,9,4,0,0", "no,12,29,0,0,0,0"),
-        (30, "S,cls,9,3,0,0", "no,12,30,0,0,0,0"),
-        (31, "S,cls,9,6,0,0", "no,12,31,0,0,0,0"),
-        (32, "S,cls,9,5,0,0", "no,12,32,0,0,0,0"),
-        (33, "S,cls,9,8,0,0", "no,12,33,0,0,0,0"),
-        (34, "S,cls,9,7,0,0", "no,12,34,0,0,0,0"),
-        (34, "S,cls,9,1,0,0", "no,12,34,0,0,0,0"),
-        (34, "S,cls,10,8,0,0", "no,11,34,0,0,0,0"), // every alternative has place 9
-        (34, "S,cls,9,10,0,0", "no,11,34,0,0,0,0"),
+        (27, "S,cls,9,2,0,0", "no,12,27,0,0,0,0,0"),
+        (28, "S,cls,9,1,0,0", "no,12,28,0,0,0,0,0"),
+        (29, "S,cls,9,4,0,0", "no,12,29,0,0,0,0,0"),
+        (30, "S,cls,9,3,0,0", "no,12,30,0,0,0,0,0"),
+        (31, "S,cls,9,6,0,0", "no,12,31,0,0,0,0,0"),
+        (32, "S,cls,9,5,0,0", "no,12,32,0,0,0,0,0"),
+        (33, "S,cls,9,8,0,0", "no,12,33,0,0,0,0,0"),
+        (34, "S,cls,9,7,0,0", "no,12,34,0,0,0,0,0"),
+        (34, "S,cls,9,1,0,0", "no,12,34,0,0,0,0,0"),
+        (34, "S,cls,10,8,0,0", "no,11,34,0,0,0,0,0"), // every alternative has place 9
+        (34, "S,cls,9,10,0,0", "no,11,34,0,0,0,0,0"),
     ];
     let mut cases: Vec<Case> = rows
         .into_iter()
@@ -226,14 +266,14 @@ fn every_closing_checked() -> Vec<Case> {
         cases.push(case(
             &format!("cla: 8 literals, A line {number} left out"),
             without(number),
-            "no,11,26,0,0,0,0",
+            "no,11,26,0,0,0,0,0",
         ));
     }
     // A literal left out: C lines are 18 to 25, and the closings begin on 26.
     for (number, reply) in [
-        (18, "no,12,26,0,0,0,0"), // literal 2 comes first
-        (21, "no,12,29,0,0,0,0"), // literal 5 comes after 3
-        (25, "no,5,33,0,0,0,0"),  // the seventh closing closes the tree
+        (18, "no,12,26,0,0,0,0,0"), // literal 2 comes first
+        (21, "no,12,29,0,0,0,0,0"), // literal 5 comes after 3
+        (25, "no,5,33,0,0,0,0,0"),  // the seventh closing closes the tree
     ] {
         cases.push(case(
             &format!("cla: 8 literals, C line {number} left out"),
@@ -249,15 +289,15 @@ fn order_of_alternatives() -> Vec<Case> {
     let file = all_denied(3); // closings on lines 12 to 14
     let closings = ["S,cls,4,1,0,0", "S,cls,4,2,0,0", "S,cls,4,3,0,0"];
     let rows = [
-        ([0, 1, 2], "yes,0,0,4,4,4,3"),
-        ([0, 2, 1], "no,12,13,0,0,0,0"),
-        ([1, 0, 2], "no,12,12,0,0,0,0"),
-        ([1, 2, 0], "no,12,12,0,0,0,0"),
-        ([2, 0, 1], "no,12,12,0,0,0,0"),
-        ([2, 1, 0], "no,12,12,0,0,0,0"),
-        ([0, 0, 0], "no,12,13,0,0,0,0"),
-        ([0, 1, 1], "no,12,14,0,0,0,0"),
-        ([0, 1, 0], "no,12,14,0,0,0,0"),
+        ([0, 1, 2], "yes,0,0,4,4,4,3,0"),
+        ([0, 2, 1], "no,12,13,0,0,0,0,0"),
+        ([1, 0, 2], "no,12,12,0,0,0,0,0"),
+        ([1, 2, 0], "no,12,12,0,0,0,0,0"),
+        ([2, 0, 1], "no,12,12,0,0,0,0,0"),
+        ([2, 1, 0], "no,12,12,0,0,0,0,0"),
+        ([0, 0, 0], "no,12,13,0,0,0,0,0"),
+        ([0, 1, 1], "no,12,14,0,0,0,0,0"),
+        ([0, 1, 0], "no,12,14,0,0,0,0,0"),
     ];
     let mut cases: Vec<Case> = rows
         .into_iter()
@@ -278,12 +318,12 @@ fn order_of_alternatives() -> Vec<Case> {
     cases.push(case(
         "cla: 3 literals turned round",
         with_lines(&file, &turned),
-        "yes,0,0,4,4,4,3",
+        "yes,0,0,4,4,4,3,0",
     ));
     cases.push(case(
         "cla: 3 literals turned round, the closings not",
         with_lines(&file, &turned[..2]),
-        "no,12,12,0,0,0,0",
+        "no,12,12,0,0,0,0,0",
     ));
     cases
 }
@@ -303,21 +343,21 @@ fn one_literal() -> Vec<Case> {
         runs(&[&open[..], &[(cuts, "S,cut,0,0,1,2")], more].concat())
     };
     vec![
-        case("cla: one literal", lines(&file), "yes,0,0,2,2,2,1"),
+        case("cla: one literal", lines(&file), "yes,0,0,2,2,2,1,0"),
         case(
             "cla: one literal, a step after the closing",
             with_more(&file, &["S,cls,2,1,0,0"]),
-            "no,5,7,0,0,0,0",
+            "no,5,7,0,0,0,0,0",
         ),
         case(
             "cla: one literal, split three times",
             with_more(&file[..5], &[file[4], file[4], "S,cls,4,1,0,0"]),
-            "yes,0,0,2,2,4,1",
+            "yes,0,0,2,2,4,1,0",
         ),
         case(
             "cla: one literal, not split",
             lines(&[&file[..4], &["S,cls,2,1,0,0"]].concat()),
-            "no,11,5,0,0,0,0",
+            "no,11,5,0,0,0,0,0",
         ),
         // Places 2 to 201: u in r by the cuts, 202 by `cla`. Then the last cut
         // comes back with 201: u ni r, which place 2 denies, and so on. At the
@@ -334,7 +374,7 @@ fn one_literal() -> Vec<Case> {
                     (1, "S,cls,3,1,0,0"),
                 ],
             ),
-            "yes,0,0,2,2,403,201",
+            "yes,0,0,2,2,403,201,0",
         ),
     ]
 }
@@ -361,13 +401,13 @@ fn every_relation() -> Vec<Case> {
             cases.push(case(
                 &format!("cla: {a} {c}"),
                 lines(&[&terms[..], &[&a, &c], &steps].concat()),
-                "yes,0,0,3,2,2,1",
+                "yes,0,0,3,2,2,1,0",
             ));
             // The closing finds no place 2 before `cla`.
             cases.push(case(
                 &format!("cla: {a} {c}, not split"),
                 lines(&[&terms[..], &[&a, &c], &steps[1..]].concat()),
-                "no,11,6,0,0,0,0",
+                "no,11,6,0,0,0,0,0",
             ));
         }
     }
@@ -401,16 +441,16 @@ fn premises_of_other_rules() -> Vec<Case> {
         case(&name, with_line(&file, number, line), reply)
     };
     vec![
-        case("cla: premises", lines(&file), "yes,0,0,5,4,7,3"),
-        changed(13, "S,cpe,3,0,0,0", "no,12,13,0,0,0,0"), // u in s
-        changed(13, "S,cpe,5,0,0,0", "no,11,13,0,0,0,0"),
-        changed(15, "S,cpe,4,0,0,0", "no,12,15,0,0,0,0"), // that is closed
-        changed(15, "S,cls,5,1,0,0", "no,11,15,0,0,0,0"), // so place 5 is gone
-        changed(16, "S,cls,4,5,0,0", "no,12,16,0,0,0,0"), // eq comes first
-        changed(17, "S,eqr,4,6,0,0", "no,11,17,0,0,0,0"),
-        changed(17, "S,eql,4,3,0,0", "no,12,17,0,0,0,0"), // 3 is in s, not r
-        changed(18, "S,cls,5,2,0,0", "no,12,18,0,0,0,0"), // v is another
-        changed(11, "C,eq,3,4,1,0", "no,12,17,0,0,0,0"),  // r eq s
+        case("cla: premises", lines(&file), "yes,0,0,5,4,7,3,0"),
+        changed(13, "S,cpe,3,0,0,0", "no,12,13,0,0,0,0,0"), // u in s
+        changed(13, "S,cpe,5,0,0,0", "no,11,13,0,0,0,0,0"),
+        changed(15, "S,cpe,4,0,0,0", "no,12,15,0,0,0,0,0"), // that is closed
+        changed(15, "S,cls,5,1,0,0", "no,11,15,0,0,0,0,0"), // so place 5 is gone
+        changed(16, "S,cls,4,5,0,0", "no,12,16,0,0,0,0,0"), // eq comes first
+        changed(17, "S,eqr,4,6,0,0", "no,11,17,0,0,0,0,0"),
+        changed(17, "S,eql,4,3,0,0", "no,12,17,0,0,0,0,0"), // 3 is in s, not r
+        changed(18, "S,cls,5,2,0,0", "no,12,18,0,0,0,0,0"), // v is another
+        changed(11, "C,eq,3,4,1,0", "no,12,17,0,0,0,0,0"),  // r eq s
     ]
 }
 
@@ -427,7 +467,7 @@ fn split_twice() -> Vec<Case> {
                 "S,cls,4,2,0,0", // 11, 3: u in s
                 "S,cls,3,2,0,0", // 12
             ]),
-            "yes,0,0,3,3,5,3",
+            "yes,0,0,3,3,5,3,0",
         ),
         case(
             "cla: split in the second alternative again",
@@ -438,7 +478,7 @@ fn split_twice() -> Vec<Case> {
                 "S,cls,4,1,0,0", // 11, 4: u in s
                 "S,cls,4,2,0,0", // 12
             ]),
-            "yes,0,0,3,3,5,3",
+            "yes,0,0,3,3,5,3,0",
         ),
         case(
             "cla: split in both alternatives again",
@@ -451,22 +491,22 @@ fn split_twice() -> Vec<Case> {
                 "S,cls,3,2,0,0", // 13, by place 3; 4: u in s
                 "S,cls,4,2,0,0", // 14
             ]),
-            "yes,0,0,3,3,7,4",
+            "yes,0,0,3,3,7,4,0",
         ),
         case(
             "cla: split twice, closed once too few",
             or_then(&[cla, cla, "S,cls,4,1,0,0", "S,cls,4,2,0,0"]),
-            "no,17,12,0,0,0,0",
+            "no,17,12,0,0,0,0,0",
         ),
         case(
             "cla: split twice, the first split's alternative first",
             or_then(&[cla, cla, "S,cls,4,1,0,0", "S,cls,3,2,0,0"]),
-            "no,12,11,0,0,0,0", // place 3 is still u in r
+            "no,12,11,0,0,0,0,0", // place 3 is still u in r
         ),
         case(
             "cla: split twice, place 4 after the cut back",
             or_then(&[cla, cla, "S,cls,4,1,0,0", "S,cls,4,2,0,0", "S,cls,4,2,0,0"]),
-            "no,11,12,0,0,0,0",
+            "no,11,12,0,0,0,0,0",
         ),
         case(
             "cla: split three times",
@@ -479,7 +519,7 @@ fn split_twice() -> Vec<Case> {
                 "S,cls,4,2,0,0", // 13, 3: u in s
                 "S,cls,3,2,0,0", // 14
             ]),
-            "yes,0,0,3,3,7,4",
+            "yes,0,0,3,3,7,4,0",
         ),
     ]
 }
@@ -530,48 +570,48 @@ fn nested() -> Vec<Case> {
     ]
     .concat();
     vec![
-        changed(&[], "yes,0,0,4,5,5,3"),
+        changed(&[], "yes,0,0,4,5,5,3,0"),
         case(
             "cla: two clauses, the second alone",
             lines(&second_alone),
-            "yes,0,0,4,5,3,2",
+            "yes,0,0,4,5,3,2,0",
         ),
         case(
             "cla: two clauses, the second in both alternatives",
             lines(&in_the_second),
-            "yes,0,0,4,5,7,4",
+            "yes,0,0,4,5,7,4,0",
         ),
         // The second clause again in place of the first, then back at v in s
         // of the outer split, which place 3 does not deny.
-        changed(&[(12, "S,cla,0,0,2,0")], "no,12,16,0,0,0,0"),
+        changed(&[(12, "S,cla,0,0,2,0")], "no,12,16,0,0,0,0,0"),
         changed(
             &[(12, "S,cla,0,0,2,0"), (16, "S,cls,4,2,0,0")],
-            "yes,0,0,4,5,5,3",
+            "yes,0,0,4,5,5,3,0",
         ),
         // 5: u in r is not denied.
-        changed(&[(13, "S,cla,0,0,1,0")], "no,12,14,0,0,0,0"),
+        changed(&[(13, "S,cla,0,0,1,0")], "no,12,14,0,0,0,0,0"),
         // The alternative of clause 1 is not due.
-        changed(&[(15, "S,cls,4,3,0,0")], "no,12,15,0,0,0,0"),
-        changed(&[(15, "S,cls,5,3,0,0")], "no,12,15,0,0,0,0"),
+        changed(&[(15, "S,cls,4,3,0,0")], "no,12,15,0,0,0,0,0"),
+        changed(&[(15, "S,cls,5,3,0,0")], "no,12,15,0,0,0,0,0"),
         // Both alternatives of clause 2 have place 5, the second of clause 1
         // place 4.
-        changed(&[(15, "S,cls,6,2,0,0")], "no,11,15,0,0,0,0"),
-        changed(&[(16, "S,cls,5,3,0,0")], "no,11,16,0,0,0,0"),
-        changed(&[(16, "S,cls,4,2,0,0")], "no,12,16,0,0,0,0"),
+        changed(&[(15, "S,cls,6,2,0,0")], "no,11,15,0,0,0,0,0"),
+        changed(&[(16, "S,cls,5,3,0,0")], "no,11,16,0,0,0,0,0"),
+        changed(&[(16, "S,cls,4,2,0,0")], "no,12,16,0,0,0,0,0"),
         case(
             "cla: two clauses, two alternatives open",
             lines(&TWO[..14]),
-            "no,17,15,0,0,0,0",
+            "no,17,15,0,0,0,0,0",
         ),
         case(
             "cla: two clauses, one alternative open",
             lines(&TWO[..15]),
-            "no,17,16,0,0,0,0",
+            "no,17,16,0,0,0,0,0",
         ),
         case(
             "cla: two clauses, one step more",
             with_more(&TWO, &["S,cla,0,0,2,0"]),
-            "no,5,17,0,0,0,0",
+            "no,5,17,0,0,0,0,0",
         ),
     ]
 }
@@ -589,17 +629,17 @@ fn eight_in_each_of_eight() -> Vec<Case> {
     // 33 + 1 + 8 * 9 lines.
     let last = file.len();
     vec![
-        case("cla: 8 in each of 8", lines(&file), "yes,0,0,9,10,73,64"),
+        case("cla: 8 in each of 8", lines(&file), "yes,0,0,9,10,73,64,0"),
         case(
             "cla: 8 in each of 8, one open",
             lines(&file[..last - 1]),
-            "no,17,106,0,0,0,0",
+            "no,17,106,0,0,0,0,0",
         ),
         // Line 42 closes u ni r(7), so that u ni r(8) is left beside u in r(1).
         case(
             "cla: 8 in each of 8, the second literal too early",
             with_line(&file, 43, "S,cls,9,2,0,0"),
-            "no,12,43,0,0,0,0",
+            "no,12,43,0,0,0,0,0",
         ),
     ]
 }
@@ -650,19 +690,19 @@ fn among_other_splits() -> Vec<Case> {
     ]
     .concat();
     vec![
-        case("cla: among splits", lines(&file), "yes,0,0,5,4,11,6"),
-        changed(14, "S,cls,4,2,0,0", "no,12,14,0,0,0,0"), // 4 is v in r
-        changed(15, "S,cls,4,2,0,0", "no,12,15,0,0,0,0"), // the third is not due
-        changed(16, "S,cls,5,3,0,0", "no,11,16,0,0,0,0"), // no place 5 now
-        changed(16, "S,cls,4,2,0,0", "no,12,16,0,0,0,0"), // the second comes first
-        changed(20, "S,cls,4,2,0,0", "no,12,20,0,0,0,0"), // and is not closed
-        changed(22, "S,cls,6,4,0,0", "no,11,22,0,0,0,0"), // places 5, 6 are gone
-        changed(22, "S,cls,4,3,0,0", "no,12,22,0,0,0,0"),
-        case("cla: inside a cut", lines(&inside), "yes,0,0,3,3,7,4"),
+        case("cla: among splits", lines(&file), "yes,0,0,5,4,11,6,0"),
+        changed(14, "S,cls,4,2,0,0", "no,12,14,0,0,0,0,0"), // 4 is v in r
+        changed(15, "S,cls,4,2,0,0", "no,12,15,0,0,0,0,0"), // the third is not due
+        changed(16, "S,cls,5,3,0,0", "no,11,16,0,0,0,0,0"), // no place 5 now
+        changed(16, "S,cls,4,2,0,0", "no,12,16,0,0,0,0,0"), // the second comes first
+        changed(20, "S,cls,4,2,0,0", "no,12,20,0,0,0,0,0"), // and is not closed
+        changed(22, "S,cls,6,4,0,0", "no,11,22,0,0,0,0,0"), // places 5, 6 are gone
+        changed(22, "S,cls,4,3,0,0", "no,12,22,0,0,0,0,0"),
+        case("cla: inside a cut", lines(&inside), "yes,0,0,3,3,7,4,0"),
         case(
             "cla: inside a cut, place 3 in the wrong alternative",
             with_line(&inside, 9, "S,cla,0,0,1,0"), // 4: u in r, 3: u in r
-            "no,12,11,0,0,0,0",
+            "no,12,11,0,0,0,0,0",
         ),
     ]
 }
@@ -710,16 +750,16 @@ fn inside_and_around_img() -> Vec<Case> {
         case(&name, with_line(&around, number, line), reply)
     };
     vec![
-        case("cla: inside img", lines(&inside), "yes,0,0,9,5,8,5"),
-        inside_with(19, "S,cls,3,5,0,0", "no,12,19,0,0,0,0"), // u ni r is due
-        inside_with(20, "S,cls,5,4,0,0", "no,12,20,0,0,0,0"), // third before second
-        inside_with(22, "S,cls,5,4,0,0", "no,12,22,0,0,0,0"), // u ni r is due
-        inside_with(23, "S,cls,1,6,0,0", "no,11,23,0,0,0,0"), // no place 6 now
-        case("cla: around img", lines(&around), "yes,0,0,9,5,6,4"),
-        around_with(19, "S,cls,1,5,0,0", "no,12,19,0,0,0,0"), // 5 is still u in r
-        around_with(20, "S,cls,1,5,0,0", "no,12,20,0,0,0,0"),
-        around_with(21, "S,cls,6,4,0,0", "no,11,21,0,0,0,0"), // no place 6 now
-        around_with(21, "S,cls,5,4,0,0", "no,12,21,0,0,0,0"),
+        case("cla: inside img", lines(&inside), "yes,0,0,9,5,8,5,0"),
+        inside_with(19, "S,cls,3,5,0,0", "no,12,19,0,0,0,0,0"), // u ni r is due
+        inside_with(20, "S,cls,5,4,0,0", "no,12,20,0,0,0,0,0"), // third before second
+        inside_with(22, "S,cls,5,4,0,0", "no,12,22,0,0,0,0,0"), // u ni r is due
+        inside_with(23, "S,cls,1,6,0,0", "no,11,23,0,0,0,0,0"), // no place 6 now
+        case("cla: around img", lines(&around), "yes,0,0,9,5,6,4,0"),
+        around_with(19, "S,cls,1,5,0,0", "no,12,19,0,0,0,0,0"), // 5 is still u in r
+        around_with(20, "S,cls,1,5,0,0", "no,12,20,0,0,0,0,0"),
+        around_with(21, "S,cls,6,4,0,0", "no,11,21,0,0,0,0,0"), // no place 6 now
+        around_with(21, "S,cls,5,4,0,0", "no,12,21,0,0,0,0,0"),
     ]
 }
 
@@ -755,22 +795,22 @@ fn literals_and_clauses_repeated() -> Vec<Case> {
     // The clause says again what is assumed.
     let assumed_too = with_line(&OR, 6, "C,ni,1,2,1,0");
     vec![
-        case("cla: a literal twice", lines(&twice), "yes,0,0,2,2,3,2"),
+        case("cla: a literal twice", lines(&twice), "yes,0,0,2,2,3,2,0"),
         case(
             "cla: a literal twice, closed once",
             lines(&twice[..7]),
-            "no,17,8,0,0,0,0",
+            "no,17,8,0,0,0,0,0",
         ),
         case(
             "cla: a clause twice",
             lines(&two_clauses),
-            "yes,0,0,2,3,2,1",
+            "yes,0,0,2,3,2,1,0",
         ),
-        case("cla: a literal or its denial", or_not, "yes,0,0,3,3,3,2"),
+        case("cla: a literal or its denial", or_not, "yes,0,0,3,3,3,2,0"),
         case(
             "cla: a literal that is assumed",
             assumed_too,
-            "no,12,9,0,0,0,0",
+            "no,12,9,0,0,0,0,0",
         ),
     ]
 }
@@ -783,17 +823,17 @@ fn never_split() -> Vec<Case> {
         case(
             "cla: never, one literal",
             f_with(&["C,in,1,2,1,0"]),
-            "yes,0,0,4,3,2,1",
+            "yes,0,0,4,3,2,1,0",
         ),
         case(
             "cla: never, eight literals",
             f_with(&eight),
-            "yes,0,0,4,3,2,1",
+            "yes,0,0,4,3,2,1,0",
         ),
         case(
             "cla: never, two clauses",
             f_with(&["C,in,1,2,1,0", "C,ne,2,3,1,0", "C,eq,4,4,2,0"]),
-            "yes,0,0,4,4,2,1",
+            "yes,0,0,4,4,2,1,0",
         ),
         // Of two clauses only the second, only the first.
         case(
@@ -807,23 +847,23 @@ fn never_split() -> Vec<Case> {
                 ]
                 .concat(),
             ),
-            "yes,0,0,3,4,3,2",
+            "yes,0,0,3,4,3,2,0",
         ),
         case(
             "cla: the first of two",
             lines(&[&OR[..7], &["C,eq,1,1,2,0"], &OR[7..]].concat()),
-            "yes,0,0,3,4,3,2",
+            "yes,0,0,3,4,3,2,0",
         ),
         // Nothing else is contradictory, so the branch stays open.
         case(
             "cla: never, and open",
             lines(&[&OR[..7], &["S,cut,0,0,1,2", "S,cls,3,1,0,0"]].concat()),
-            "no,17,10,0,0,0,0",
+            "no,17,10,0,0,0,0,0",
         ),
         case(
             "cla: never, cls on its literal",
             lines(&[&OR[..7], &["S,cls,3,1,0,0"]].concat()),
-            "no,11,8,0,0,0,0",
+            "no,11,8,0,0,0,0,0",
         ),
     ]
 }
@@ -857,36 +897,36 @@ fn counts() -> Vec<Case> {
         (7, "S,cls,2,1,0,0"),
     ];
     vec![
-        case("cla: no A lines", lines(&no_a_lines), "yes,0,0,2,1,4,2"),
+        case("cla: no A lines", lines(&no_a_lines), "yes,0,0,2,1,4,2,0"),
         case(
             "cla: no A lines, one alternative open",
             lines(&no_a_lines[..6]),
-            "no,17,7,0,0,0,0",
+            "no,17,7,0,0,0,0,0",
         ),
         case(
             "cla: no A lines, not split",
             lines(&[&no_a_lines[..4], &["S,emp,1,0,0,0"]].concat()),
-            "no,11,5,0,0,0,0",
+            "no,11,5,0,0,0,0,0",
         ),
         case(
             "cla: no A lines, no steps",
             lines(&no_a_lines[..4]),
-            "no,17,5,0,0,0,0",
+            "no,17,5,0,0,0,0,0",
         ),
         case(
             "cla: no A lines, two clauses",
             lines(&two_clauses),
-            "yes,0,0,2,2,3,1",
+            "yes,0,0,2,2,3,1,0",
         ),
         case(
             "cla: no A lines, two clauses, the second first",
             with_lines(&two_clauses, &other_way),
-            "yes,0,0,2,2,3,1",
+            "yes,0,0,2,2,3,1,0",
         ),
         case(
             "cla: no A lines, two clauses, one split",
             lines(&[&two_clauses[..5], &["S,cls,1,2,0,0"]].concat()),
-            "no,11,6,0,0,0,0",
+            "no,11,6,0,0,0,0,0",
         ),
         // Three clauses of 1, 2 and 3 literals beside F's two A lines.
         case(
@@ -900,7 +940,7 @@ fn counts() -> Vec<Case> {
                 ]
                 .concat(),
             ),
-            "yes,0,0,4,5,2,1",
+            "yes,0,0,4,5,2,1,0",
         ),
     ]
 }
@@ -908,11 +948,11 @@ fn counts() -> Vec<Case> {
 /// Places count A lines and what steps add.
 fn no_place() -> Vec<Case> {
     vec![
-        or_with(8, "S,cls,3,1,0,0", "no,11,8,0,0,0,0"),
-        or_with(8, "S,sym,3,0,0,0", "no,11,8,0,0,0,0"),
-        or_with(8, "S,cls,4,2,0,0", "no,11,8,0,0,0,0"),
-        or_with(9, "S,cls,4,1,0,0", "no,11,9,0,0,0,0"),
-        or_with(9, "S,cls,5,1,0,0", "no,11,9,0,0,0,0"),
+        or_with(8, "S,cls,3,1,0,0", "no,11,8,0,0,0,0,0"),
+        or_with(8, "S,sym,3,0,0,0", "no,11,8,0,0,0,0,0"),
+        or_with(8, "S,cls,4,2,0,0", "no,11,8,0,0,0,0,0"),
+        or_with(9, "S,cls,4,1,0,0", "no,11,9,0,0,0,0,0"),
+        or_with(9, "S,cls,5,1,0,0", "no,11,9,0,0,0,0,0"),
         // The first place that a step takes is 3, whatever C lines there are.
         case(
             "cla: a step before it takes place 3",
@@ -924,12 +964,12 @@ fn no_place() -> Vec<Case> {
                 ]
                 .concat(),
             ),
-            "yes,0,0,3,3,4,2",
+            "yes,0,0,3,3,4,2,0",
         ),
         case(
             "cla: a step before it takes no other place",
             lines(&[&OR[..7], &["S,ref,0,0,1,0"], &OR[7..]].concat()),
-            "no,12,10,0,0,0,0", // 3 is u eq u
+            "no,12,10,0,0,0,0,0", // 3 is u eq u
         ),
     ]
 }
@@ -962,45 +1002,45 @@ fn places() -> Vec<Case> {
         (
             "place 1,000",
             filled(997, 1, &[(1, CLA), (1, "S,cls,1000,2,0,0")]),
-            "yes,0,0,2,1000,2,1",
+            "yes,0,0,2,1000,2,1,0",
         ),
         // Line 2 + 1,000 + 1 + 1.
         (
             "place 1,001",
             filled(998, 1, &[(1, CLA), (1, CLS)]),
-            "no,15,1004,0,0,0,0",
+            "no,15,1004,0,0,0,0,0",
         ),
         (
             "place 1,000 in each of 8",
             filled(997, 8, &[(1, CLA), (8, "S,cls,1000,2,0,0")]),
-            "yes,0,0,2,1000,9,8",
+            "yes,0,0,2,1000,9,8,0",
         ),
         (
             "place 1,001 in each of 8",
             filled(998, 8, &[(1, CLA), (8, CLS)]),
-            "no,15,1011,0,0,0,0",
+            "no,15,1011,0,0,0,0,0",
         ),
         // After the first `cla` there is no room for a second.
         (
             "place 1,001 by the second",
             filled(997, 2, &[(2, CLA), (1, CLS)]),
-            "no,15,1005,0,0,0,0",
+            "no,15,1005,0,0,0,0,0",
         ),
         (
             "place 1,001 by the second, in the second alternative",
             filled(997, 2, &[(1, CLA), (1, CLS), (1, CLA)]),
-            "no,15,1006,0,0,0,0",
+            "no,15,1006,0,0,0,0,0",
         ),
         // 2 A lines, 997 steps, and `cla` takes place 1,000.
         (
             "place 1,000 after steps",
             filled(0, 2, &[(997, REF), (1, CLA), (2, CLS)]),
-            "yes,0,0,2,3,1000,2",
+            "yes,0,0,2,3,1000,2,0",
         ),
         (
             "place 1,001 after steps",
             filled(0, 2, &[(998, REF), (1, CLA), (2, CLS)]),
-            "no,15,1005,0,0,0,0",
+            "no,15,1005,0,0,0,0,0",
         ),
         // Place 3 and 997 more in each alternative.
         (
@@ -1010,7 +1050,7 @@ fn places() -> Vec<Case> {
                 2,
                 &[(1, CLA), (997, REF), (1, CLS), (997, REF), (1, CLS)],
             ),
-            "yes,0,0,2,3,1997,2",
+            "yes,0,0,2,3,1997,2,0",
         ),
         // Line 4 + 2 + 1 + 997 + 1 + 998.
         (
@@ -1020,7 +1060,7 @@ fn places() -> Vec<Case> {
                 2,
                 &[(1, CLA), (997, REF), (1, CLS), (998, REF), (1, CLS)],
             ),
-            "no,15,2003,0,0,0,0",
+            "no,15,2003,0,0,0,0,0",
         ),
     ];
     rows.into_iter()
@@ -1035,69 +1075,69 @@ fn waiting() -> Vec<Case> {
         (
             "200 waiting by 2 each",
             filled(0, 2, &[(200, CLA), (201, CLS)]),
-            "yes,0,0,2,3,401,201",
+            "yes,0,0,2,3,401,201,0",
         ),
         (
             "201 waiting by 2 each",
             filled(0, 2, &[(201, CLA), (202, CLS)]),
-            "no,16,207,0,0,0,0",
+            "no,16,207,0,0,0,0,0",
         ),
         // 28 times 7 are 196.
         (
             "196 waiting by 8 each",
             filled(0, 8, &[(28, CLA), (197, CLS)]),
-            "yes,0,0,2,3,225,197",
+            "yes,0,0,2,3,225,197,0",
         ),
         (
             "203 waiting by 8 each",
             filled(0, 8, &[(29, CLA), (204, CLS)]),
-            "no,16,41,0,0,0,0",
+            "no,16,41,0,0,0,0,0",
         ),
         (
             "200 waiting by 8 each and cuts",
             filled(0, 8, &[(28, CLA), (4, CUT), (201, CLS)]),
-            "yes,0,0,2,3,233,201",
+            "yes,0,0,2,3,233,201,0",
         ),
         (
             "201 waiting by 8 each and cuts",
             filled(0, 8, &[(28, CLA), (5, CUT), (202, CLS)]),
-            "no,16,45,0,0,0,0",
+            "no,16,45,0,0,0,0,0",
         ),
         (
             "193 cuts and 8",
             filled(0, 8, &[(193, CUT), (1, CLA), (201, CLS)]),
-            "yes,0,0,2,3,395,201",
+            "yes,0,0,2,3,395,201,0",
         ),
         (
             "194 cuts and 8",
             filled(0, 8, &[(194, CUT), (1, CLA), (202, CLS)]),
-            "no,16,207,0,0,0,0",
+            "no,16,207,0,0,0,0,0",
         ),
         (
             "199 cuts and 2",
             filled(0, 2, &[(199, CUT), (1, CLA), (201, CLS)]),
-            "yes,0,0,2,3,401,201",
+            "yes,0,0,2,3,401,201,0",
         ),
         (
             "200 cuts and 2",
             filled(0, 2, &[(200, CUT), (1, CLA), (202, CLS)]),
-            "no,16,207,0,0,0,0",
+            "no,16,207,0,0,0,0,0",
         ),
         (
             "198 cuts and 3",
             filled(0, 3, &[(198, CUT), (1, CLA), (201, CLS)]),
-            "yes,0,0,2,3,400,201",
+            "yes,0,0,2,3,400,201,0",
         ),
         (
             "199 cuts and 3",
             filled(0, 3, &[(199, CUT), (1, CLA), (202, CLS)]),
-            "no,16,207,0,0,0,0",
+            "no,16,207,0,0,0,0,0",
         ),
         // A clause of one literal leaves nothing waiting.
         (
             "200 cuts and 1",
             filled(0, 1, &[(200, CUT), (9, CLA), (201, CLS)]),
-            "yes,0,0,2,3,410,201",
+            "yes,0,0,2,3,410,201,0",
         ),
     ];
     rows.into_iter()
@@ -1111,23 +1151,23 @@ fn waiting_again() -> Vec<Case> {
         case(
             "cla: 200 waiting again after a closing",
             filled(0, 2, &[(200, CLA), (1, CLS), (1, CLA), (201, CLS)]),
-            "yes,0,0,2,3,403,202",
+            "yes,0,0,2,3,403,202,0",
         ),
         case(
             "cla: 201 waiting after a closing",
             filled(0, 2, &[(200, CLA), (1, CLS), (2, CLA)]),
-            "no,16,209,0,0,0,0",
+            "no,16,209,0,0,0,0,0",
         ),
         // Seven closings make room for the seven alternatives of one more.
         case(
             "cla: 8 after 7 closings",
             filled(0, 8, &[(200, CUT), (7, CLS), (1, CLA), (201, CLS)]),
-            "yes,0,0,2,3,409,208",
+            "yes,0,0,2,3,409,208,0",
         ),
         case(
             "cla: 8 after 6 closings",
             filled(0, 8, &[(200, CUT), (6, CLS), (1, CLA)]),
-            "no,16,219,0,0,0,0",
+            "no,16,219,0,0,0,0,0",
         ),
     ]
 }
@@ -1139,26 +1179,30 @@ fn places_and_waiting() -> Vec<Case> {
     };
     vec![
         // 15 and 16
-        case("cla: both full", file(800, 2, CLA), "no,15,1005,0,0,0,0"),
+        case("cla: both full", file(800, 2, CLA), "no,15,1005,0,0,0,0,0"),
         // 15 alone, 16 alone, neither
-        case("cla: both full, 1", file(800, 1, CLA), "no,15,1004,0,0,0,0"),
+        case(
+            "cla: both full, 1",
+            file(800, 1, CLA),
+            "no,15,1004,0,0,0,0,0",
+        ),
         case(
             "cla: only waiting full",
             file(799, 2, CLA),
-            "no,16,1004,0,0,0,0",
+            "no,16,1004,0,0,0,0,0",
         ),
-        case("cla: room for 1", file(799, 1, CLA), "no,17,1004,0,0,0,0"),
+        case("cla: room for 1", file(799, 1, CLA), "no,17,1004,0,0,0,0,0"),
         // 11 and 15, 16
         case(
             "cla: both full, no clause",
             file(800, 2, "S,cla,0,0,2,0"),
-            "no,11,1005,0,0,0,0",
+            "no,11,1005,0,0,0,0,0",
         ),
         // 6 and 15, 16
         case(
             "cla: both full, unused field",
             file(800, 2, "S,cla,0,0,1,1"),
-            "no,6,1005,0,0,0,0",
+            "no,6,1005,0,0,0,0,0",
         ),
     ]
 }

@@ -101,12 +101,12 @@ fn shapes_of_a_line() -> Vec<Case> {
     ];
     let mut cases: Vec<Case> = bad
         .iter()
-        .map(|line| or_with(6, line, "no,2,6,0,0,0,0"))
+        .map(|line| or_with(6, line, "no,2,6,0,0,0,0,0"))
         .collect();
-    cases.push(or_with(8, "S,cla,0,0,01,0", "no,2,8,0,0,0,0"));
-    cases.push(or_with(8, "S,cla,0,0,1", "no,2,8,0,0,0,0"));
-    cases.push(or_with(8, "S,clas,0,0,1,0", "no,2,8,0,0,0,0"));
-    cases.push(or_with(8, "S,cl,0,0,1,0", "no,4,8,0,0,0,0"));
+    cases.push(or_with(8, "S,cla,0,0,01,0", "no,2,8,0,0,0,0,0"));
+    cases.push(or_with(8, "S,cla,0,0,1", "no,2,8,0,0,0,0,0"));
+    cases.push(or_with(8, "S,clas,0,0,1,0", "no,2,8,0,0,0,0,0"));
+    cases.push(or_with(8, "S,cl,0,0,1,0", "no,4,8,0,0,0,0,0"));
     cases
 }
 
@@ -117,15 +117,15 @@ fn shapes_of_a_file() -> Vec<Case> {
         file
     };
     vec![
-        case("clauses: or", lines(&OR), "yes,0,0,3,3,3,2"),
-        case("clauses: or, no last LF", unended(10), "no,2,10,0,0,0,0"),
-        case("clauses: C line without LF", unended(6), "no,2,6,0,0,0,0"),
-        case("clauses: cla without LF", unended(8), "no,2,8,0,0,0,0"),
+        case("clauses: or", lines(&OR), "yes,0,0,3,3,3,2,0"),
+        case("clauses: or, no last LF", unended(10), "no,2,10,0,0,0,0,0"),
+        case("clauses: C line without LF", unended(6), "no,2,6,0,0,0,0,0"),
+        case("clauses: cla without LF", unended(8), "no,2,8,0,0,0,0,0"),
         // What the file lacks when it stops there.
-        case("clauses: to line 6", lines(&OR[..6]), "no,17,7,0,0,0,0"),
-        case("clauses: to line 7", lines(&OR[..7]), "no,17,8,0,0,0,0"),
-        case("clauses: to line 8", lines(&OR[..8]), "no,17,9,0,0,0,0"),
-        case("clauses: to line 9", lines(&OR[..9]), "no,17,10,0,0,0,0"),
+        case("clauses: to line 6", lines(&OR[..6]), "no,17,7,0,0,0,0,0"),
+        case("clauses: to line 7", lines(&OR[..7]), "no,17,8,0,0,0,0,0"),
+        case("clauses: to line 8", lines(&OR[..8]), "no,17,9,0,0,0,0,0"),
+        case("clauses: to line 9", lines(&OR[..9]), "no,17,10,0,0,0,0,0"),
     ]
 }
 
@@ -134,32 +134,32 @@ fn letters_out_of_order() -> Vec<Case> {
     let step = "S,ref,0,0,1,0";
     let mut cases = vec![
         // T after A, after C, after S.
-        or_with(5, t, "no,3,5,0,0,0,0"),
-        or_with(7, t, "no,3,7,0,0,0,0"),
-        or_with(9, t, "no,3,9,0,0,0,0"),
-        or_with(11, t, "no,3,11,0,0,0,0"),
+        or_with(5, t, "no,3,5,0,0,0,0,0"),
+        or_with(7, t, "no,3,7,0,0,0,0,0"),
+        or_with(9, t, "no,3,9,0,0,0,0,0"),
+        or_with(11, t, "no,3,11,0,0,0,0,0"),
         // A after C, after S.
-        or_with(7, a, "no,3,7,0,0,0,0"),
-        or_with(9, a, "no,3,9,0,0,0,0"),
-        or_with(11, a, "no,3,11,0,0,0,0"),
+        or_with(7, a, "no,3,7,0,0,0,0,0"),
+        or_with(9, a, "no,3,9,0,0,0,0,0"),
+        or_with(11, a, "no,3,11,0,0,0,0,0"),
         // C after S: the last clause, the next one, after the last closing.
-        or_with(9, c, "no,3,9,0,0,0,0"),
-        or_with(9, "C,in,1,2,2,0", "no,3,9,0,0,0,0"),
-        or_with(11, c, "no,3,11,0,0,0,0"),
-        or_with(11, "C,in,1,2,2,0", "no,3,11,0,0,0,0"),
+        or_with(9, c, "no,3,9,0,0,0,0,0"),
+        or_with(9, "C,in,1,2,2,0", "no,3,9,0,0,0,0,0"),
+        or_with(11, c, "no,3,11,0,0,0,0,0"),
+        or_with(11, "C,in,1,2,2,0", "no,3,11,0,0,0,0,0"),
     ];
     let rows: [(&str, &[&str], &'static str); 10] = [
-        ("T C T", &[U, R, c, t], "no,3,4,0,0,0,0"),
-        ("T C A", &[U, R, c, a], "no,3,4,0,0,0,0"),
-        ("T C A C", &[U, R, c, a, c], "no,3,4,0,0,0,0"),
-        ("T C S T", &[U, R, c, step, t], "no,3,5,0,0,0,0"),
-        ("T C S A", &[U, R, c, step, a], "no,3,5,0,0,0,0"),
-        ("T C S C", &[U, R, c, step, c], "no,3,5,0,0,0,0"),
-        ("T S C", &[U, R, step, c], "no,3,4,0,0,0,0"),
+        ("T C T", &[U, R, c, t], "no,3,4,0,0,0,0,0"),
+        ("T C A", &[U, R, c, a], "no,3,4,0,0,0,0,0"),
+        ("T C A C", &[U, R, c, a, c], "no,3,4,0,0,0,0,0"),
+        ("T C S T", &[U, R, c, step, t], "no,3,5,0,0,0,0,0"),
+        ("T C S A", &[U, R, c, step, a], "no,3,5,0,0,0,0,0"),
+        ("T C S C", &[U, R, c, step, c], "no,3,5,0,0,0,0,0"),
+        ("T S C", &[U, R, step, c], "no,3,4,0,0,0,0,0"),
         // Any kind may be missing: not 3, but the line finds no term.
-        ("C first", &[c], "no,8,1,0,0,0,0"),
-        ("C S", &["C,eq,1,1,1,0", step], "no,8,1,0,0,0,0"),
-        ("cla first", &["S,cla,0,0,1,0"], "no,11,1,0,0,0,0"),
+        ("C first", &[c], "no,8,1,0,0,0,0,0"),
+        ("C S", &["C,eq,1,1,1,0", step], "no,8,1,0,0,0,0,0"),
+        ("cla first", &["S,cla,0,0,1,0"], "no,11,1,0,0,0,0,0"),
     ];
     for (what, file, reply) in rows {
         cases.push(case(&format!("clauses: {what}"), lines(file), reply));
@@ -175,15 +175,15 @@ fn a_lines_between_and_before() -> Vec<Case> {
         lines(&file)
     };
     let rows = [
-        (1, "no,8,1,0,0,0,0"), // no term yet
-        (2, "no,8,2,0,0,0,0"),
-        (3, "no,3,4,0,0,0,0"), // then a T line
-        (4, "no,3,5,0,0,0,0"), // then a T line
-        (5, "no,3,6,0,0,0,0"), // then an A line
-        (6, "no,3,7,0,0,0,0"), // then an A line
-        (7, "yes,0,0,4,3,2,1"),
-        (8, "no,3,8,0,0,0,0"), // after a step
-        (9, "no,3,9,0,0,0,0"),
+        (1, "no,8,1,0,0,0,0,0"), // no term yet
+        (2, "no,8,2,0,0,0,0,0"),
+        (3, "no,3,4,0,0,0,0,0"), // then a T line
+        (4, "no,3,5,0,0,0,0,0"), // then a T line
+        (5, "no,3,6,0,0,0,0,0"), // then an A line
+        (6, "no,3,7,0,0,0,0,0"), // then an A line
+        (7, "yes,0,0,4,3,2,1,0"),
+        (8, "no,3,8,0,0,0,0,0"), // after a step
+        (9, "no,3,9,0,0,0,0,0"),
     ];
     rows.into_iter()
         .map(|(number, reply)| {
@@ -198,7 +198,7 @@ fn words() -> Vec<Case> {
     let unknown = ["xy", "xyz", "on", "inn", "ein", "fir", "cl", "la"];
     for word in [&words_of_no_literal()[..], &unknown].concat() {
         let line = format!("C,{word},1,2,1,0");
-        cases.push(or_with(6, &line, "no,4,6,0,0,0,0"));
+        cases.push(or_with(6, &line, "no,4,6,0,0,0,0,0"));
     }
     cases
 }
@@ -225,12 +225,12 @@ fn sorts_with(line: &str, reply: &'static str) -> Case {
 fn right_literals() -> Vec<Case> {
     let mut cases = Vec::new();
     for literal in ["in,1,2", "ni,1,2", "le,5,5", "nl,5,5"] {
-        cases.push(sorts_with(&format!("C,{literal},1,0"), "yes,0,0,5,3,1,1"));
+        cases.push(sorts_with(&format!("C,{literal},1,0"), "yes,0,0,5,3,1,1,0"));
     }
     for term in 1..=5 {
         for word in ["eq", "ne"] {
             let line = format!("C,{word},{term},{term},1,0");
-            cases.push(sorts_with(&line, "yes,0,0,5,3,1,1"));
+            cases.push(sorts_with(&line, "yes,0,0,5,3,1,1,0"));
         }
     }
     cases
@@ -242,7 +242,7 @@ fn unused_fields() -> Vec<Case> {
     for literal in ["in,1,2", "ni,1,2", "eq,1,1", "ne,2,2", "le,5,5", "nl,5,5"] {
         for number in [1, 9999] {
             let line = format!("C,{literal},1,{number}");
-            cases.push(sorts_with(&line, "no,6,8,0,0,0,0"));
+            cases.push(sorts_with(&line, "no,6,8,0,0,0,0,0"));
         }
     }
     cases
@@ -261,7 +261,7 @@ fn terms_not_made() -> Vec<Case> {
         for number in [0, 6, 9999] {
             for sides in [format!("{number},{right}"), format!("{left},{number}")] {
                 let line = format!("C,{word},{sides},1,0");
-                cases.push(sorts_with(&line, "no,8,8,0,0,0,0"));
+                cases.push(sorts_with(&line, "no,8,8,0,0,0,0,0"));
             }
         }
     }
@@ -271,7 +271,7 @@ fn terms_not_made() -> Vec<Case> {
 fn wrong_sorts() -> Vec<Case> {
     let wrong = literals_of_wrong_sorts().into_iter();
     wrong
-        .map(|literal| sorts_with(&format!("C,{literal},1,0"), "no,9,8,0,0,0,0"))
+        .map(|literal| sorts_with(&format!("C,{literal},1,0"), "no,9,8,0,0,0,0,0"))
         .collect()
 }
 
@@ -303,39 +303,39 @@ fn sized(sizes: &[usize]) -> Vec<usize> {
 
 fn clause_numbers() -> Vec<Case> {
     let rows: [(&[usize], &'static str); 29] = [
-        (&[], "yes,0,0,2,2,1,1"),
-        (&[1], "yes,0,0,2,3,1,1"),
-        (&[1, 1], "yes,0,0,2,3,1,1"),
-        (&[1, 2], "yes,0,0,2,4,1,1"),
-        (&[1, 1, 2], "yes,0,0,2,4,1,1"),
-        (&[1, 2, 2], "yes,0,0,2,4,1,1"),
-        (&[1, 1, 2, 2, 3], "yes,0,0,2,5,1,1"),
-        (&[1, 2, 3, 4, 5, 6, 7, 8, 9, 10], "yes,0,0,2,12,1,1"),
+        (&[], "yes,0,0,2,2,1,1,0"),
+        (&[1], "yes,0,0,2,3,1,1,0"),
+        (&[1, 1], "yes,0,0,2,3,1,1,0"),
+        (&[1, 2], "yes,0,0,2,4,1,1,0"),
+        (&[1, 1, 2], "yes,0,0,2,4,1,1,0"),
+        (&[1, 2, 2], "yes,0,0,2,4,1,1,0"),
+        (&[1, 1, 2, 2, 3], "yes,0,0,2,5,1,1,0"),
+        (&[1, 2, 3, 4, 5, 6, 7, 8, 9, 10], "yes,0,0,2,12,1,1,0"),
         // number 0
-        (&[0], "no,21,5,0,0,0,0"),
-        (&[0, 1], "no,21,5,0,0,0,0"),
-        (&[1, 0], "no,21,6,0,0,0,0"),
-        (&[1, 1, 0], "no,21,7,0,0,0,0"),
-        (&[1, 2, 0, 3], "no,21,7,0,0,0,0"),
+        (&[0], "no,21,5,0,0,0,0,0"),
+        (&[0, 1], "no,21,5,0,0,0,0,0"),
+        (&[1, 0], "no,21,6,0,0,0,0,0"),
+        (&[1, 1, 0], "no,21,7,0,0,0,0,0"),
+        (&[1, 2, 0, 3], "no,21,7,0,0,0,0,0"),
         // the first is not 1
-        (&[2], "no,21,5,0,0,0,0"),
-        (&[2, 1], "no,21,5,0,0,0,0"),
-        (&[3], "no,21,5,0,0,0,0"),
-        (&[400], "no,21,5,0,0,0,0"),
-        (&[9999], "no,21,5,0,0,0,0"),
+        (&[2], "no,21,5,0,0,0,0,0"),
+        (&[2, 1], "no,21,5,0,0,0,0,0"),
+        (&[3], "no,21,5,0,0,0,0,0"),
+        (&[400], "no,21,5,0,0,0,0,0"),
+        (&[9999], "no,21,5,0,0,0,0,0"),
         // a gap
-        (&[1, 3], "no,21,6,0,0,0,0"),
-        (&[1, 1, 3], "no,21,7,0,0,0,0"),
-        (&[1, 2, 4], "no,21,7,0,0,0,0"),
-        (&[1, 2, 2, 4, 3], "no,21,8,0,0,0,0"),
-        (&[1, 9999], "no,21,6,0,0,0,0"),
+        (&[1, 3], "no,21,6,0,0,0,0,0"),
+        (&[1, 1, 3], "no,21,7,0,0,0,0,0"),
+        (&[1, 2, 4], "no,21,7,0,0,0,0,0"),
+        (&[1, 2, 2, 4, 3], "no,21,8,0,0,0,0,0"),
+        (&[1, 9999], "no,21,6,0,0,0,0,0"),
         // back to an earlier clause
-        (&[1, 2, 1], "no,21,7,0,0,0,0"),
-        (&[1, 1, 2, 1], "no,21,8,0,0,0,0"),
-        (&[1, 2, 2, 1], "no,21,8,0,0,0,0"),
-        (&[1, 2, 3, 1], "no,21,8,0,0,0,0"),
-        (&[1, 2, 3, 2], "no,21,8,0,0,0,0"),
-        (&[1, 2, 3, 3, 2, 4], "no,21,9,0,0,0,0"),
+        (&[1, 2, 1], "no,21,7,0,0,0,0,0"),
+        (&[1, 1, 2, 1], "no,21,8,0,0,0,0,0"),
+        (&[1, 2, 2, 1], "no,21,8,0,0,0,0,0"),
+        (&[1, 2, 3, 1], "no,21,8,0,0,0,0,0"),
+        (&[1, 2, 3, 2], "no,21,8,0,0,0,0,0"),
+        (&[1, 2, 3, 3, 2, 4], "no,21,9,0,0,0,0,0"),
     ];
     rows.into_iter()
         .map(|(numbers, reply)| {
@@ -347,16 +347,16 @@ fn clause_numbers() -> Vec<Case> {
 
 fn most_literals() -> Vec<Case> {
     let rows: [(&[usize], &'static str); 10] = [
-        (&[7], "yes,0,0,2,3,1,1"),
-        (&[8], "yes,0,0,2,3,1,1"),
-        (&[8, 1], "yes,0,0,2,4,1,1"),
-        (&[8, 8, 8], "yes,0,0,2,5,1,1"),
-        (&[1, 2, 3, 4, 5, 6, 7, 8], "yes,0,0,2,10,1,1"),
-        (&[8, 7, 6, 5, 4, 3, 2, 1], "yes,0,0,2,10,1,1"),
-        (&[9], "no,21,13,0,0,0,0"),
-        (&[9, 1], "no,21,13,0,0,0,0"),
-        (&[1, 9], "no,21,14,0,0,0,0"),
-        (&[8, 8, 9, 8], "no,21,29,0,0,0,0"),
+        (&[7], "yes,0,0,2,3,1,1,0"),
+        (&[8], "yes,0,0,2,3,1,1,0"),
+        (&[8, 1], "yes,0,0,2,4,1,1,0"),
+        (&[8, 8, 8], "yes,0,0,2,5,1,1,0"),
+        (&[1, 2, 3, 4, 5, 6, 7, 8], "yes,0,0,2,10,1,1,0"),
+        (&[8, 7, 6, 5, 4, 3, 2, 1], "yes,0,0,2,10,1,1,0"),
+        (&[9], "no,21,13,0,0,0,0,0"),
+        (&[9, 1], "no,21,13,0,0,0,0,0"),
+        (&[1, 9], "no,21,14,0,0,0,0,0"),
+        (&[8, 8, 9, 8], "no,21,29,0,0,0,0,0"),
     ];
     let mut cases: Vec<Case> = rows
         .into_iter()
@@ -367,9 +367,9 @@ fn most_literals() -> Vec<Case> {
         .collect();
     // After eight literals: no clause, a gap, back to the first.
     for (numbers, reply) in [
-        (vec![1, 1, 1, 1, 1, 1, 1, 1, 0], "no,21,13,0,0,0,0"),
-        (vec![1, 1, 1, 1, 1, 1, 1, 1, 3], "no,21,13,0,0,0,0"),
-        (vec![1, 2, 2, 2, 2, 2, 2, 2, 2, 1], "no,21,14,0,0,0,0"),
+        (vec![1, 1, 1, 1, 1, 1, 1, 1, 0], "no,21,13,0,0,0,0,0"),
+        (vec![1, 1, 1, 1, 1, 1, 1, 1, 3], "no,21,13,0,0,0,0,0"),
+        (vec![1, 2, 2, 2, 2, 2, 2, 2, 2, 1], "no,21,14,0,0,0,0,0"),
     ] {
         let name = format!("clauses: numbers {numbers:?}");
         cases.push(case(&name, numbered(&numbers), reply));
@@ -380,32 +380,32 @@ fn most_literals() -> Vec<Case> {
 /// 400 C lines are lines 5 to 404.
 fn most_c_lines() -> Vec<Case> {
     let rows: [(&str, Vec<usize>, &'static str); 12] = [
-        ("399 of 1", vec![1; 399], "yes,0,0,2,401,1,1"),
-        ("400 of 1", vec![1; 400], "yes,0,0,2,402,1,1"),
-        ("401 of 1", vec![1; 401], "no,21,405,0,0,0,0"),
-        ("402 of 1", vec![1; 402], "no,21,405,0,0,0,0"),
-        ("200 of 2", vec![2; 200], "yes,0,0,2,202,1,1"),
-        ("201 of 2", vec![2; 201], "no,21,405,0,0,0,0"),
-        ("50 of 8", vec![8; 50], "yes,0,0,2,52,1,1"),
-        ("51 of 8", vec![8; 51], "no,21,405,0,0,0,0"),
+        ("399 of 1", vec![1; 399], "yes,0,0,2,401,1,1,0"),
+        ("400 of 1", vec![1; 400], "yes,0,0,2,402,1,1,0"),
+        ("401 of 1", vec![1; 401], "no,21,405,0,0,0,0,0"),
+        ("402 of 1", vec![1; 402], "no,21,405,0,0,0,0,0"),
+        ("200 of 2", vec![2; 200], "yes,0,0,2,202,1,1,0"),
+        ("201 of 2", vec![2; 201], "no,21,405,0,0,0,0,0"),
+        ("50 of 8", vec![8; 50], "yes,0,0,2,52,1,1,0"),
+        ("51 of 8", vec![8; 51], "no,21,405,0,0,0,0,0"),
         // 399 and one more.
-        ("57 of 7", vec![7; 57], "yes,0,0,2,59,1,1"),
+        ("57 of 7", vec![7; 57], "yes,0,0,2,59,1,1,0"),
         (
             "57 of 7, 1 of 1",
             [vec![7; 57], vec![1]].concat(),
-            "yes,0,0,2,60,1,1",
+            "yes,0,0,2,60,1,1,0",
         ),
         // The 401st is the second literal of the last clause.
         (
             "57 of 7, 1 of 2",
             [vec![7; 57], vec![2]].concat(),
-            "no,21,405,0,0,0,0",
+            "no,21,405,0,0,0,0,0",
         ),
         // The 401st is a ninth literal too.
         (
             "49 of 8, 1 of 9",
             [vec![8; 49], vec![9]].concat(),
-            "no,21,405,0,0,0,0",
+            "no,21,405,0,0,0,0,0",
         ),
     ];
     let mut cases: Vec<Case> = rows
@@ -420,7 +420,7 @@ fn most_c_lines() -> Vec<Case> {
         cases.push(case(
             &format!("clauses: 400 of 1, then number {number}"),
             numbered(&numbers),
-            "no,21,405,0,0,0,0",
+            "no,21,405,0,0,0,0,0",
         ));
     }
     cases
@@ -440,33 +440,33 @@ fn beside_1000_a_lines() -> Vec<Case> {
         case(
             "clauses: 1,000 A lines and a C line",
             file(1000, &[1]),
-            "yes,0,0,2,1001,1,1",
+            "yes,0,0,2,1001,1,1,0",
         ),
         case(
             "clauses: 1,000 A lines and 400 clauses",
             file(1000, &[1; 400]),
-            "yes,0,0,2,1400,1,1",
+            "yes,0,0,2,1400,1,1,0",
         ),
         case(
             "clauses: 1,000 A lines and 50 clauses of 8",
             file(1000, &[8; 50]),
-            "yes,0,0,2,1050,1,1",
+            "yes,0,0,2,1050,1,1,0",
         ),
         case(
             "clauses: 1,000 A lines and 401 clauses",
             file(1000, &[1; 401]),
-            "no,21,1403,0,0,0,0",
+            "no,21,1403,0,0,0,0,0",
         ),
         case(
             "clauses: 1,001 A lines and a C line",
             file(1001, &[1]),
-            "no,15,1003,0,0,0,0",
+            "no,15,1003,0,0,0,0,0",
         ),
         // A C line gives place 1,000 no literal.
         case(
             "clauses: 999 A lines and a C line",
             file(999, &[1]),
-            "no,11,1003,0,0,0,0",
+            "no,11,1003,0,0,0,0,0",
         ),
     ]
 }
@@ -475,59 +475,59 @@ fn beside_1000_a_lines() -> Vec<Case> {
 fn two_checks_broken() -> Vec<Case> {
     vec![
         // 2 and 4, 6, 8, 9, 21
-        or_with(6, "C,cap,1,2,1", "no,2,6,0,0,0,0"),
-        or_with(6, "C,in,1,2,1,01", "no,2,6,0,0,0,0"),
-        or_with(6, "C,in,00,2,1,0", "no,2,6,0,0,0,0"),
-        or_with(6, "C,in,2,01,1,0", "no,2,6,0,0,0,0"),
-        or_with(6, "C,in,1,2,000,0", "no,2,6,0,0,0,0"),
+        or_with(6, "C,cap,1,2,1", "no,2,6,0,0,0,0,0"),
+        or_with(6, "C,in,1,2,1,01", "no,2,6,0,0,0,0,0"),
+        or_with(6, "C,in,00,2,1,0", "no,2,6,0,0,0,0,0"),
+        or_with(6, "C,in,2,01,1,0", "no,2,6,0,0,0,0,0"),
+        or_with(6, "C,in,1,2,000,0", "no,2,6,0,0,0,0,0"),
         // 4 and 6, 8, 9, 21
-        or_with(6, "C,cap,1,2,1,1", "no,4,6,0,0,0,0"),
-        or_with(6, "C,cap,0,9,1,0", "no,4,6,0,0,0,0"),
-        or_with(6, "C,cut,2,1,1,0", "no,4,6,0,0,0,0"),
-        or_with(6, "C,cla,1,2,0,0", "no,4,6,0,0,0,0"),
-        or_with(7, "C,cla,1,2,3,0", "no,4,7,0,0,0,0"),
-        or_with(6, "C,sub,9,9,9,9", "no,4,6,0,0,0,0"),
+        or_with(6, "C,cap,1,2,1,1", "no,4,6,0,0,0,0,0"),
+        or_with(6, "C,cap,0,9,1,0", "no,4,6,0,0,0,0,0"),
+        or_with(6, "C,cut,2,1,1,0", "no,4,6,0,0,0,0,0"),
+        or_with(6, "C,cla,1,2,0,0", "no,4,6,0,0,0,0,0"),
+        or_with(7, "C,cla,1,2,3,0", "no,4,7,0,0,0,0,0"),
+        or_with(6, "C,sub,9,9,9,9", "no,4,6,0,0,0,0,0"),
         // 6 and 8
-        or_with(6, "C,in,0,2,1,1", "no,6,6,0,0,0,0"),
-        or_with(6, "C,in,1,4,1,1", "no,6,6,0,0,0,0"),
+        or_with(6, "C,in,0,2,1,1", "no,6,6,0,0,0,0,0"),
+        or_with(6, "C,in,1,4,1,1", "no,6,6,0,0,0,0,0"),
         // 6 and 9
-        or_with(6, "C,in,2,1,1,1", "no,6,6,0,0,0,0"),
-        or_with(6, "C,eq,1,2,1,1", "no,6,6,0,0,0,0"),
+        or_with(6, "C,in,2,1,1,1", "no,6,6,0,0,0,0,0"),
+        or_with(6, "C,eq,1,2,1,1", "no,6,6,0,0,0,0,0"),
         // 6 and 21
-        or_with(6, "C,in,1,2,0,1", "no,6,6,0,0,0,0"),
-        or_with(6, "C,in,1,2,2,1", "no,6,6,0,0,0,0"),
-        or_with(7, "C,in,1,2,3,1", "no,6,7,0,0,0,0"),
-        or_with(6, "C,in,9,9,9,9", "no,6,6,0,0,0,0"),
+        or_with(6, "C,in,1,2,0,1", "no,6,6,0,0,0,0,0"),
+        or_with(6, "C,in,1,2,2,1", "no,6,6,0,0,0,0,0"),
+        or_with(7, "C,in,1,2,3,1", "no,6,7,0,0,0,0,0"),
+        or_with(6, "C,in,9,9,9,9", "no,6,6,0,0,0,0,0"),
         // 8 and 9
-        or_with(6, "C,in,2,4,1,0", "no,8,6,0,0,0,0"),
-        or_with(6, "C,in,0,1,1,0", "no,8,6,0,0,0,0"),
-        or_with(6, "C,le,1,0,1,0", "no,8,6,0,0,0,0"),
+        or_with(6, "C,in,2,4,1,0", "no,8,6,0,0,0,0,0"),
+        or_with(6, "C,in,0,1,1,0", "no,8,6,0,0,0,0,0"),
+        or_with(6, "C,le,1,0,1,0", "no,8,6,0,0,0,0,0"),
         // 8 and 21
-        or_with(6, "C,in,0,2,0,0", "no,8,6,0,0,0,0"),
-        or_with(6, "C,in,1,4,2,0", "no,8,6,0,0,0,0"),
-        or_with(7, "C,in,1,9999,3,0", "no,8,7,0,0,0,0"),
+        or_with(6, "C,in,0,2,0,0", "no,8,6,0,0,0,0,0"),
+        or_with(6, "C,in,1,4,2,0", "no,8,6,0,0,0,0,0"),
+        or_with(7, "C,in,1,9999,3,0", "no,8,7,0,0,0,0,0"),
         // 9 and 21
-        or_with(6, "C,in,2,1,0,0", "no,9,6,0,0,0,0"),
-        or_with(6, "C,eq,1,2,2,0", "no,9,6,0,0,0,0"),
-        or_with(6, "C,le,1,1,9999,0", "no,9,6,0,0,0,0"),
-        or_with(7, "C,ni,2,2,3,0", "no,9,7,0,0,0,0"),
-        or_with(7, "C,ne,3,1,0,0", "no,9,7,0,0,0,0"),
+        or_with(6, "C,in,2,1,0,0", "no,9,6,0,0,0,0,0"),
+        or_with(6, "C,eq,1,2,2,0", "no,9,6,0,0,0,0,0"),
+        or_with(6, "C,le,1,1,9999,0", "no,9,6,0,0,0,0,0"),
+        or_with(7, "C,ni,2,2,3,0", "no,9,7,0,0,0,0,0"),
+        or_with(7, "C,ne,3,1,0,0", "no,9,7,0,0,0,0,0"),
         // 21 alone
-        or_with(6, "C,in,1,2,0,0", "no,21,6,0,0,0,0"),
-        or_with(6, "C,in,1,2,2,0", "no,21,6,0,0,0,0"),
-        or_with(7, "C,in,1,2,0,0", "no,21,7,0,0,0,0"),
-        or_with(7, "C,in,1,2,3,0", "no,21,7,0,0,0,0"),
+        or_with(6, "C,in,1,2,0,0", "no,21,6,0,0,0,0,0"),
+        or_with(6, "C,in,1,2,2,0", "no,21,6,0,0,0,0,0"),
+        or_with(7, "C,in,1,2,0,0", "no,21,7,0,0,0,0,0"),
+        or_with(7, "C,in,1,2,3,0", "no,21,7,0,0,0,0,0"),
         // The second literal is a clause of its own, and line 9 closes the tree.
-        or_with(7, "C,in,1,3,2,0", "no,5,10,0,0,0,0"),
+        or_with(7, "C,in,1,3,2,0", "no,5,10,0,0,0,0,0"),
     ]
 }
 
 /// A C line after a step gets 3 unless it gets 2.
 fn two_checks_broken_after_a_step() -> Vec<Case> {
     let mut cases = vec![
-        or_with(9, "C,in,1,2,1", "no,2,9,0,0,0,0"),
-        or_with(9, "c,in,1,2,1,0", "no,2,9,0,0,0,0"),
-        or_with(11, "C,in,1,2,1", "no,2,11,0,0,0,0"),
+        or_with(9, "C,in,1,2,1", "no,2,9,0,0,0,0,0"),
+        or_with(9, "c,in,1,2,1,0", "no,2,9,0,0,0,0,0"),
+        or_with(11, "C,in,1,2,1", "no,2,11,0,0,0,0,0"),
     ];
     // 4, 6, 8, 9, 21
     for line in [
@@ -539,8 +539,8 @@ fn two_checks_broken_after_a_step() -> Vec<Case> {
         "C,in,1,2,0,0",
         "C,in,1,2,3,0",
     ] {
-        cases.push(or_with(9, line, "no,3,9,0,0,0,0"));
-        cases.push(or_with(11, line, "no,3,11,0,0,0,0"));
+        cases.push(or_with(9, line, "no,3,9,0,0,0,0,0"));
+        cases.push(or_with(11, line, "no,3,11,0,0,0,0,0"));
     }
     // 4, 6, 8, 9, 10 on T and A lines after a C line
     for line in [
@@ -552,7 +552,7 @@ fn two_checks_broken_after_a_step() -> Vec<Case> {
         "A,in,1,4,0,0",
         "A,in,2,1,0,0",
     ] {
-        cases.push(or_with(7, line, "no,3,7,0,0,0,0"));
+        cases.push(or_with(7, line, "no,3,7,0,0,0,0,0"));
     }
     cases
 }
@@ -567,17 +567,17 @@ fn after_c_lines(what: &str, numbers: &[usize], line: &str, reply: &'static str)
 /// The clause has eight literals, lines 5 to 12.
 fn two_checks_broken_by_literal_9() -> Vec<Case> {
     let rows = [
-        ("C,in,1,2,1", "no,2,13,0,0,0,0"),
-        ("T,rfv,2,0,0,0", "no,3,13,0,0,0,0"),
-        ("A,in,1,2,0,0", "no,3,13,0,0,0,0"),
-        ("C,cap,1,2,1,0", "no,4,13,0,0,0,0"),
-        ("C,in,1,2,1,1", "no,6,13,0,0,0,0"),
-        ("C,in,1,3,1,0", "no,8,13,0,0,0,0"),
-        ("C,in,2,1,1,0", "no,9,13,0,0,0,0"),
-        ("C,eq,1,2,1,0", "no,9,13,0,0,0,0"),
-        ("C,in,1,2,1,0", "no,21,13,0,0,0,0"),
-        ("C,ni,1,2,1,0", "no,21,13,0,0,0,0"),
-        ("C,in,1,2,2,0", "yes,0,0,2,4,1,1"),
+        ("C,in,1,2,1", "no,2,13,0,0,0,0,0"),
+        ("T,rfv,2,0,0,0", "no,3,13,0,0,0,0,0"),
+        ("A,in,1,2,0,0", "no,3,13,0,0,0,0,0"),
+        ("C,cap,1,2,1,0", "no,4,13,0,0,0,0,0"),
+        ("C,in,1,2,1,1", "no,6,13,0,0,0,0,0"),
+        ("C,in,1,3,1,0", "no,8,13,0,0,0,0,0"),
+        ("C,in,2,1,1,0", "no,9,13,0,0,0,0,0"),
+        ("C,eq,1,2,1,0", "no,9,13,0,0,0,0,0"),
+        ("C,in,1,2,1,0", "no,21,13,0,0,0,0,0"),
+        ("C,ni,1,2,1,0", "no,21,13,0,0,0,0,0"),
+        ("C,in,1,2,2,0", "yes,0,0,2,4,1,1,0"),
     ];
     rows.into_iter()
         .map(|(line, reply)| after_c_lines("literal 9", &[1; 8], line, reply))
@@ -587,15 +587,15 @@ fn two_checks_broken_by_literal_9() -> Vec<Case> {
 /// 400 clauses of one literal each, lines 5 to 404.
 fn two_checks_broken_by_c_line_401() -> Vec<Case> {
     let rows = [
-        ("C,in,1,2,401", "no,2,405,0,0,0,0"),
-        ("T,rfv,2,0,0,0", "no,3,405,0,0,0,0"),
-        ("A,in,1,2,0,0", "no,3,405,0,0,0,0"),
-        ("C,cap,1,2,401,0", "no,4,405,0,0,0,0"),
-        ("C,in,1,2,401,1", "no,6,405,0,0,0,0"),
-        ("C,in,1,3,401,0", "no,8,405,0,0,0,0"),
-        ("C,in,2,1,401,0", "no,9,405,0,0,0,0"),
-        ("C,eq,1,2,401,0", "no,9,405,0,0,0,0"),
-        ("C,ni,1,2,401,0", "no,21,405,0,0,0,0"),
+        ("C,in,1,2,401", "no,2,405,0,0,0,0,0"),
+        ("T,rfv,2,0,0,0", "no,3,405,0,0,0,0,0"),
+        ("A,in,1,2,0,0", "no,3,405,0,0,0,0,0"),
+        ("C,cap,1,2,401,0", "no,4,405,0,0,0,0,0"),
+        ("C,in,1,2,401,1", "no,6,405,0,0,0,0,0"),
+        ("C,in,1,3,401,0", "no,8,405,0,0,0,0,0"),
+        ("C,in,2,1,401,0", "no,9,405,0,0,0,0,0"),
+        ("C,eq,1,2,401,0", "no,9,405,0,0,0,0,0"),
+        ("C,ni,1,2,401,0", "no,21,405,0,0,0,0,0"),
     ];
     let numbers = sized(&[1; 400]);
     rows.into_iter()
@@ -606,30 +606,33 @@ fn two_checks_broken_by_c_line_401() -> Vec<Case> {
 fn first_bad_line() -> Vec<Case> {
     let rows = [
         // 21 on line 6, then 2, 3, 9, 21
-        ([(6, "C,in,1,2,0,0"), (7, "C,in,1,2")], "no,21,6,0,0,0,0"),
+        ([(6, "C,in,1,2,0,0"), (7, "C,in,1,2")], "no,21,6,0,0,0,0,0"),
         (
             [(6, "C,in,1,2,2,0"), (7, "A,ni,1,2,0,0")],
-            "no,21,6,0,0,0,0",
+            "no,21,6,0,0,0,0,0",
         ),
         (
             [(6, "C,in,1,2,2,0"), (7, "C,in,2,1,1,0")],
-            "no,21,6,0,0,0,0",
+            "no,21,6,0,0,0,0,0",
         ),
         (
             [(6, "C,in,1,2,2,0"), (7, "C,in,1,3,0,0")],
-            "no,21,6,0,0,0,0",
+            "no,21,6,0,0,0,0,0",
         ),
         // 9 on line 6, then 21
-        ([(6, "C,in,2,1,1,0"), (7, "C,in,1,3,3,0")], "no,9,6,0,0,0,0"),
+        (
+            [(6, "C,in,2,1,1,0"), (7, "C,in,1,3,3,0")],
+            "no,9,6,0,0,0,0,0",
+        ),
         // 21 on line 7, then 11
         (
             [(7, "C,in,1,3,0,0"), (8, "S,cla,0,0,2,0")],
-            "no,21,7,0,0,0,0",
+            "no,21,7,0,0,0,0,0",
         ),
         // 12 on line 9, then 3
         (
             [(9, "S,cls,3,2,0,0"), (10, "C,in,1,2,1,0")],
-            "no,12,9,0,0,0,0",
+            "no,12,9,0,0,0,0,0",
         ),
     ];
     rows.into_iter()

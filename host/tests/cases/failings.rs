@@ -45,35 +45,35 @@ fn two_of_three_alternatives() -> Vec<Case> {
         case(
             "failings: img, all three closed",
             lines(&right),
-            "yes,0,0,10,4,5,3",
+            "yes,0,0,10,4,5,3,0",
         ),
-        damaged("third left open", lines(&right[..17]), "no,17,18,0,0,0,0"),
+        damaged("third left open", lines(&right[..17]), "no,17,18,0,0,0,0,0"),
         // Place 5 is still ni all.
         damaged(
             "second skipped",
             without_line(&right, 17),
-            "no,12,17,0,0,0,0",
+            "no,12,17,0,0,0,0,0",
         ),
         // Place 5 is still nl, so it denies no in.
         damaged(
             "first skipped",
             without_line(&right, 16),
-            "no,12,16,0,0,0,0",
+            "no,12,16,0,0,0,0,0",
         ),
         damaged(
             "classes the other way round",
             with_line(&right, 12, "A,le,7,6,0,0"),
-            "no,12,16,0,0,0,0",
+            "no,12,16,0,0,0,0,0",
         ),
         damaged(
             "u allocated, not what is read",
             with_line(&right, 13, "A,in,1,9,0,0"),
-            "no,12,17,0,0,0,0",
+            "no,12,17,0,0,0,0,0",
         ),
         damaged(
             "r empty, not its image",
             with_line(&right, 14, "A,eq,2,10,0,0"),
-            "no,12,18,0,0,0,0",
+            "no,12,18,0,0,0,0,0",
         ),
     ]
 }
@@ -120,24 +120,25 @@ fn w_inside_a_larger_term() -> Vec<Case> {
         case(
             "failings: typ(v) on the branch",
             with_lines(&base, &[(9, "T,typ,2,0,0,0"), (10, "A,eq,9,9,0,0")]),
-            "yes,0,0,9,3,4,2",
+            "yes,0,0,9,3,4,2,0",
         ),
+        // 1: typ(w) eq typ(w)
         case(
             "failings: typ(w) on the branch",
             with_lines(&base, &[(9, "T,typ,1,0,0,0"), (10, "A,eq,9,9,0,0")]),
-            "no,13,13,0,0,0,0",
+            "no,13,13,0,0,0,0,1",
         ),
     ];
     for (inner, outer) in rows {
         cases.push(case(
             &format!("failings: w in {inner}, then {outer}, in the table"),
             with_lines(&base, &[(8, inner), (9, outer)]),
-            "yes,0,0,9,3,4,2",
+            "yes,0,0,9,3,4,2,0",
         ));
         cases.push(case(
             &format!("failings: w in {inner}, then {outer}, on the branch"),
             with_lines(&base, &[(8, inner), (9, outer), (10, "A,eq,9,9,0,0")]),
-            "no,13,13,0,0,0,0",
+            "no,13,13,0,0,0,0,1",
         ));
     }
     cases
@@ -170,7 +171,7 @@ fn names_as_arguments() -> Vec<Case> {
         cases.push(case(
             &format!("failings: terms 3 and 4, beside {first}"),
             with_lines(&base, &[(1, first), (2, second)]),
-            "yes,0,0,6,3,2,1",
+            "yes,0,0,6,3,2,1,0",
         ));
         cases.push(case(
             &format!("failings: names 3 and 4, {first}"),
@@ -183,7 +184,7 @@ fn names_as_arguments() -> Vec<Case> {
                     (11, "S,cls,4,3,0,0"),
                 ],
             ),
-            "no,12,10,0,0,0,0",
+            "no,12,10,0,0,0,0,0",
         ));
     }
     cases
@@ -214,16 +215,20 @@ fn literals_of_a_closed_alternative() -> Vec<Case> {
         case(
             "failings: cue, both closed",
             lines(&right),
-            "yes,0,0,4,3,4,2",
+            "yes,0,0,4,3,4,2,0",
         ),
-        last("first closing again", "S,cls,4,2,0,0", "no,12,11,0,0,0,0"),
-        last("place 5 gone", "S,sym,5,0,0,0", "no,11,11,0,0,0,0"),
-        last("u in s not at place 6", "S,cls,6,3,0,0", "no,11,11,0,0,0,0"),
+        last("first closing again", "S,cls,4,2,0,0", "no,12,11,0,0,0,0,0"),
+        last("place 5 gone", "S,sym,5,0,0,0", "no,11,11,0,0,0,0,0"),
+        last(
+            "u in s not at place 6",
+            "S,cls,6,3,0,0",
+            "no,11,11,0,0,0,0,0",
+        ),
         // Nothing denies u in s.
         case(
             "failings: cue, second can't close",
             with_lines(&right, &[(7, "A,eq,1,1,0,0"), (11, "S,cls,4,2,0,0")]),
-            "no,12,11,0,0,0,0",
+            "no,12,11,0,0,0,0,0",
         ),
     ]
 }
@@ -246,23 +251,23 @@ fn singleton_outside_all() -> Vec<Case> {
         case(
             "failings: sgi, both closed",
             lines(&right),
-            "yes,0,0,4,2,4,2",
+            "yes,0,0,4,2,4,2,0",
         ),
         // Place 3 is still u ni all.
         case(
             "failings: sgi, no case outside all",
             without_line(&right, 8),
-            "no,12,8,0,0,0,0",
+            "no,12,8,0,0,0,0,0",
         ),
         case(
             "failings: sgi, u needn't be allocated",
             with_line(&right, 5, "A,eq,1,1,0,0"),
-            "no,12,8,0,0,0,0",
+            "no,12,8,0,0,0,0,0",
         ),
         case(
             "failings: sgi, no case inside all",
             lines(&right[..8]),
-            "no,17,9,0,0,0,0",
+            "no,17,9,0,0,0,0,0",
         ),
     ]
 }

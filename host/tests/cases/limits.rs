@@ -57,26 +57,26 @@ fn bytes() -> Vec<Case> {
     let mut longer = full.clone();
     longer.push(b'\n');
     vec![
-        case("limits: 60,000 bytes", full, "yes,0,0,4,2,4279,10"),
+        case("limits: 60,000 bytes", full, "yes,0,0,4,2,4279,10,0"),
         case(
             "limits: 60,001 bytes, all lines right",
             over,
-            "no,1,0,0,0,0,0",
+            "no,1,0,0,0,0,0,0",
         ),
         case(
             "limits: 60,000 right bytes and one more",
             longer,
-            "no,1,0,0,0,0,0",
+            "no,1,0,0,0,0,0,0",
         ),
         case(
             "limits: 59,999 bytes without the last LF",
             no_lf,
-            "no,2,4285,0,0,0,0",
+            "no,2,4285,0,0,0,0,0",
         ),
         case(
             "limits: 60,000 bytes, the last no LF",
             other_end,
-            "no,2,4285,0,0,0,0",
+            "no,2,4285,0,0,0,0,0",
         ),
     ]
 }
@@ -93,12 +93,12 @@ fn terms() -> Vec<Case> {
         file.extend(rest.map(String::from));
     }
     vec![
-        case("limits: 600 terms", lines(&full), "yes,0,0,600,2,1,1"),
-        case("limits: 601 terms", lines(&over), "no,7,601,0,0,0,0"),
+        case("limits: 600 terms", lines(&full), "yes,0,0,600,2,1,1,0"),
+        case("limits: 601 terms", lines(&over), "no,7,601,0,0,0,0,0"),
         case(
             "limits: term 601 of 600",
             with_line(&full, 601, "A,in,1,601,0,0"),
-            "no,8,601,0,0,0,0",
+            "no,8,601,0,0,0,0,0",
         ),
     ]
 }
@@ -120,12 +120,12 @@ fn shared_terms() -> Vec<Case> {
         case(
             "limits: w not in a much shared term",
             lines(&file),
-            "yes,0,0,600,2,3,2",
+            "yes,0,0,600,2,3,2,0",
         ),
         case(
             "limits: w in a much shared term",
             with_line(&file, 2, "T,sin,1,0,0,0"),
-            "no,13,603,0,0,0,0",
+            "no,13,603,0,0,0,0,1",
         ),
     ]
 }
@@ -136,12 +136,12 @@ fn places() -> Vec<Case> {
         case(
             "limits: 1,000 A lines",
             runs(&[(1, U), (1, R), (999, IN), (1, NI), (1, last)]),
-            "yes,0,0,2,1000,1,1",
+            "yes,0,0,2,1000,1,1,0",
         ),
         case(
             "limits: 1,001 A lines, then the closing",
             runs(&[(1, U), (1, R), (999, IN), (2, NI), (1, last)]),
-            "no,15,1003,0,0,0,0",
+            "no,15,1003,0,0,0,0,0",
         ),
         case(
             "limits: place 1,001 of 1,000",
@@ -152,7 +152,7 @@ fn places() -> Vec<Case> {
                 (1, NI),
                 (1, "S,cls,999,1001,0,0"),
             ]),
-            "no,11,1003,0,0,0,0",
+            "no,11,1003,0,0,0,0,0",
         ),
     ]
 }
@@ -163,24 +163,24 @@ fn places_of_steps() -> Vec<Case> {
         case(
             "limits: 998 steps to 1,000 places",
             file(&[(998, REF), (1, CLS)]),
-            "yes,0,0,2,2,999,1",
+            "yes,0,0,2,2,999,1,0",
         ),
         case(
             "limits: 999 steps past 1,000 places",
             file(&[(999, REF), (1, CLS)]),
-            "no,15,1003,0,0,0,0",
+            "no,15,1003,0,0,0,0,0",
         ),
         // 3 places after the cut, in each alternative.
         case(
             "limits: 1,000 places in both alternatives",
             file(&[(1, CUT), (997, REF), (1, CLS), (997, REF), (1, CLS)]),
-            "yes,0,0,2,2,1997,2",
+            "yes,0,0,2,2,1997,2,0",
         ),
         // Line 5 cuts, 6 to 1002 fill, 1003 closes, 1004 to 2000 fill again.
         case(
             "limits: 1,001 places in the second alternative",
             file(&[(1, CUT), (997, REF), (1, CLS), (998, REF), (1, CLS)]),
-            "no,15,2001,0,0,0,0",
+            "no,15,2001,0,0,0,0,0",
         ),
     ]
 }
@@ -213,14 +213,14 @@ fn waiting() -> Vec<Case> {
         case(
             "limits: 200 waiting",
             lines(&full),
-            "yes,0,0,201,201,401,201",
+            "yes,0,0,201,201,401,201,0",
         ),
-        case("limits: 201 waiting", lines(&over), "no,16,603,0,0,0,0"),
+        case("limits: 201 waiting", lines(&over), "no,16,603,0,0,0,0,0"),
         // After the first closing the alternative of cut 200 is due.
         case(
             "limits: the first of 200 waiting taken first",
             with_line(&full, 604, "S,cls,1,202,0,0"),
-            "no,12,604,0,0,0,0",
+            "no,12,604,0,0,0,0,0",
         ),
     ]
 }
@@ -235,12 +235,12 @@ fn waiting_again() -> Vec<Case> {
         case(
             "limits: 200 waiting again after a closing",
             file(&[&[CLS, CUT], &closings[..]].concat()),
-            "yes,0,0,2,2,403,202",
+            "yes,0,0,2,2,403,202,0",
         ),
         case(
             "limits: 201 waiting after a closing",
             file(&[CLS, CUT, CUT]),
-            "no,16,207,0,0,0,0",
+            "no,16,207,0,0,0,0,0",
         ),
     ]
 }

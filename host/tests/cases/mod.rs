@@ -1,10 +1,10 @@
 //! Files for the checker, each with the reply that it must get.
 //!
 //! Every reply is worked out by hand from the scope document, its rule `fir`
-//! struck, and from the request "Assumptions with an or in them". In comments
-//! `3: u in r` says that place 3 of the branch now holds that literal; beside a
-//! closing it is what the next alternative adds. A number beside a T line is the
-//! number of the term.
+//! struck, and from the requests "Assumptions with an or in them" and "Where is
+//! that witness already used?". In comments `3: u in r` says that place 3 of the
+//! branch now holds that literal; beside a closing it is what the next
+//! alternative adds. A number beside a T line is the number of the term.
 
 mod allocated;
 mod clause_freshness;
@@ -14,6 +14,7 @@ mod failings;
 mod limits;
 mod marked;
 mod numbers;
+mod places;
 mod rules_accept;
 mod rules_refuse;
 mod tree;
@@ -38,6 +39,7 @@ pub fn all() -> Vec<Case> {
         clauses::cases(),
         clause_splits::cases(),
         clause_freshness::cases(),
+        places::cases(),
     ];
     topics.into_iter().flatten().collect()
 }

@@ -65,17 +65,17 @@ fn regions() -> Vec<Case> {
         (7, "S,eql,1,2,0,0"), // 4: u in r
     ];
     vec![
-        case("accept: eqr", lines(&eqr), "yes,0,0,3,3,2,1"),
-        case("accept: eql", with_lines(&eqr, &eql), "yes,0,0,3,3,2,1"),
+        case("accept: eqr", lines(&eqr), "yes,0,0,3,3,2,1,0"),
+        case("accept: eql", with_lines(&eqr, &eql), "yes,0,0,3,3,2,1,0"),
         case(
             "accept: ext, one region",
             lines(&ext_same),
-            "yes,0,0,2,1,3,2",
+            "yes,0,0,2,1,3,2,0",
         ),
         case(
             "accept: ext, cap changed over",
             lines(&ext_caps),
-            "yes,0,0,5,1,7,2",
+            "yes,0,0,5,1,7,2,0",
         ),
     ]
 }
@@ -137,17 +137,17 @@ fn operators() -> Vec<Case> {
         (8, "S,dfi,1,2,4,0"), // 4: u in dif(r,s)
     ];
     vec![
-        case("accept: cpe", lines(&cpe), "yes,0,0,5,1,3,1"),
-        case("accept: cpi", lines(&cpi), "yes,0,0,4,3,2,1"),
-        case("accept: cue", lines(&cue), "yes,0,0,3,1,3,2"),
-        case("accept: cui, left", lines(&cui), "yes,0,0,4,2,2,1"),
+        case("accept: cpe", lines(&cpe), "yes,0,0,5,1,3,1,0"),
+        case("accept: cpi", lines(&cpi), "yes,0,0,4,3,2,1,0"),
+        case("accept: cue", lines(&cue), "yes,0,0,3,1,3,2,0"),
+        case("accept: cui, left", lines(&cui), "yes,0,0,4,2,2,1,0"),
         case(
             "accept: cui, right",
             with_line(&cui, 5, "A,in,1,3,0,0"),
-            "yes,0,0,4,2,2,1",
+            "yes,0,0,4,2,2,1,0",
         ),
-        case("accept: dfe", lines(&dfe), "yes,0,0,3,1,2,1"),
-        case("accept: dfi", with_lines(&cpi, &dfi), "yes,0,0,4,3,2,1"),
+        case("accept: dfe", lines(&dfe), "yes,0,0,3,1,2,1,0"),
+        case("accept: dfi", with_lines(&cpi, &dfi), "yes,0,0,4,3,2,1,0"),
     ]
 }
 
@@ -217,13 +217,13 @@ fn members() -> Vec<Case> {
     ];
     let emp = [U, EMP, "A,in,1,2,0,0", "S,emp,1,0,0,0"];
     vec![
-        case("accept: sge", lines(&sge), "yes,0,0,3,2,2,1"),
-        case("accept: sgi", lines(&sgi), "yes,0,0,3,2,3,2"),
-        case("accept: cut", lines(&cut), "yes,0,0,5,3,5,2"),
-        case("accept: all", lines(&all), "yes,0,0,3,2,2,1"),
-        case("accept: nul", lines(&nul), "yes,0,0,3,2,2,1"),
-        case("accept: sep", lines(&sep), "yes,0,0,3,3,2,1"),
-        case("accept: emp", lines(&emp), "yes,0,0,2,1,1,1"),
+        case("accept: sge", lines(&sge), "yes,0,0,3,2,2,1,0"),
+        case("accept: sgi", lines(&sgi), "yes,0,0,3,2,3,2,0"),
+        case("accept: cut", lines(&cut), "yes,0,0,5,3,5,2,0"),
+        case("accept: all", lines(&all), "yes,0,0,3,2,2,1,0"),
+        case("accept: nul", lines(&nul), "yes,0,0,3,2,2,1,0"),
+        case("accept: sep", lines(&sep), "yes,0,0,3,3,2,1,0"),
+        case("accept: emp", lines(&emp), "yes,0,0,2,1,1,1,0"),
     ]
 }
 
@@ -278,8 +278,8 @@ fn images() -> Vec<Case> {
         "S,cls,10,3,0,0",
     ];
     vec![
-        case("accept: img", lines(&IMG), "yes,0,0,9,4,4,3"),
-        case("accept: wit", lines(&wit), "yes,0,0,12,4,8,3"),
+        case("accept: img", lines(&IMG), "yes,0,0,9,4,4,3,0"),
+        case("accept: wit", lines(&wit), "yes,0,0,12,4,8,3,0"),
     ]
 }
 
@@ -314,14 +314,14 @@ fn equalities() -> Vec<Case> {
         "S,cls,4,3,0,0",
     ];
     vec![
-        case("accept: ref", lines(&ref_), "yes,0,0,1,1,2,1"),
-        case("accept: sym of eq", lines(&sym), "yes,0,0,2,2,2,1"),
+        case("accept: ref", lines(&ref_), "yes,0,0,1,1,2,1,0"),
+        case("accept: sym of eq", lines(&sym), "yes,0,0,2,2,2,1,0"),
         case(
             "accept: sym of ne",
             with_lines(&sym, &sym_ne),
-            "yes,0,0,2,2,2,1",
+            "yes,0,0,2,2,2,1,0",
         ),
-        case("accept: trn", lines(&trn), "yes,0,0,3,3,2,1"),
+        case("accept: trn", lines(&trn), "yes,0,0,3,3,2,1,0"),
     ]
 }
 
@@ -380,12 +380,12 @@ fn sub_at_every_argument() -> Vec<Case> {
         cases.push(case(
             &format!("accept: sub from {t} to {w}"),
             changed(eq),
-            "yes,0,0,10,2,2,1",
+            "yes,0,0,10,2,2,1,0",
         ));
         cases.push(case(
             &format!("refuse: sub from {t} to {w}, sides changed over"),
             changed(back),
-            "no,12,13,0,0,0,0",
+            "no,12,13,0,0,0,0,0",
         ));
     }
     cases
@@ -487,7 +487,7 @@ fn rep_in_every_literal() -> Vec<Case> {
         cases.push(case(
             &format!("accept: {step} on {p} by {q}"),
             lines(&[U, V, R, S, C, D, E, p, q, denial, step, closing]),
-            "yes,0,0,7,3,2,1",
+            "yes,0,0,7,3,2,1,0",
         ));
     }
     cases
@@ -520,9 +520,9 @@ fn classes() -> Vec<Case> {
         "S,cls,4,3,0,0",
     ];
     vec![
-        case("accept: ler", lines(&ler), "yes,0,0,1,1,2,1"),
-        case("accept: let", lines(&let_), "yes,0,0,3,3,2,1"),
-        case("accept: lea", lines(&lea), "yes,0,0,2,3,2,1"),
+        case("accept: ler", lines(&ler), "yes,0,0,1,1,2,1,0"),
+        case("accept: let", lines(&let_), "yes,0,0,3,3,2,1,0"),
+        case("accept: lea", lines(&lea), "yes,0,0,2,3,2,1,0"),
     ]
 }
 
@@ -559,16 +559,16 @@ fn writes() -> Vec<Case> {
         (13, "S,cls,4,1,0,0"),
     ];
     vec![
-        case("accept: rdh", lines(&rdh), "yes,0,0,6,1,2,1"),
+        case("accept: rdh", lines(&rdh), "yes,0,0,6,1,2,1,0"),
         case(
             "accept: rdm, other reference",
             lines(&rdm),
-            "yes,0,0,9,2,3,2",
+            "yes,0,0,9,2,3,2,0",
         ),
         case(
             "accept: rdm, other field",
             with_lines(&rdm, &by_field),
-            "yes,0,0,9,2,3,2",
+            "yes,0,0,9,2,3,2,0",
         ),
     ]
 }
@@ -583,14 +583,14 @@ fn closings() -> Vec<Case> {
     let by_eq = [U, V, "A,eq,1,2,0,0", "A,ne,1,2,0,0", "S,cls,1,2,0,0"];
     let by_le = [C, D, "A,le,1,2,0,0", "A,nl,1,2,0,0", "S,cls,1,2,0,0"];
     vec![
-        case("accept: cls by in", lines(&by_in), "yes,0,0,2,2,1,1"),
+        case("accept: cls by in", lines(&by_in), "yes,0,0,2,2,1,1,0"),
         case(
             "accept: cls, denial first",
             with_lines(&by_in, &denial_first),
-            "yes,0,0,2,2,1,1",
+            "yes,0,0,2,2,1,1,0",
         ),
-        case("accept: cls by eq", lines(&by_eq), "yes,0,0,2,2,1,1"),
-        case("accept: cls by le", lines(&by_le), "yes,0,0,2,2,1,1"),
+        case("accept: cls by eq", lines(&by_eq), "yes,0,0,2,2,1,1,0"),
+        case("accept: cls by le", lines(&by_le), "yes,0,0,2,2,1,1,0"),
     ]
 }
 
@@ -635,10 +635,10 @@ fn one_place_twice() -> Vec<Case> {
         "S,cls,3,2,0,0",
     ];
     vec![
-        case("accept: cpi, p is q", lines(&cpi), "yes,0,0,3,2,2,1"),
-        case("accept: trn, p is q", lines(&trn), "yes,0,0,1,2,2,1"),
-        case("accept: rep, p is q", lines(&rep), "yes,0,0,2,2,2,1"),
-        case("accept: let, p is q", lines(&let_), "yes,0,0,1,2,2,1"),
-        case("accept: lea, p is q", lines(&lea), "yes,0,0,1,2,2,1"),
+        case("accept: cpi, p is q", lines(&cpi), "yes,0,0,3,2,2,1,0"),
+        case("accept: trn, p is q", lines(&trn), "yes,0,0,1,2,2,1,0"),
+        case("accept: rep, p is q", lines(&rep), "yes,0,0,2,2,2,1,0"),
+        case("accept: let, p is q", lines(&let_), "yes,0,0,1,2,2,1,0"),
+        case("accept: lea, p is q", lines(&lea), "yes,0,0,1,2,2,1,0"),
     ]
 }

@@ -106,14 +106,18 @@ fn closed(step: &'static str, alternatives: usize) -> Vec<&'static str> {
 }
 
 // The step is on line 35 + 37 + 1.
-const N4: &str = "no,4,73,0,0,0,0";
-const N6: &str = "no,6,73,0,0,0,0";
-const N8: &str = "no,8,73,0,0,0,0";
-const N9: &str = "no,9,73,0,0,0,0";
-const N11: &str = "no,11,73,0,0,0,0";
-const N12: &str = "no,12,73,0,0,0,0";
-const N13: &str = "no,13,73,0,0,0,0";
-const N14: &str = "no,14,73,0,0,0,0";
+const N4: &str = "no,4,73,0,0,0,0,0";
+const N6: &str = "no,6,73,0,0,0,0,0";
+const N8: &str = "no,8,73,0,0,0,0,0";
+const N9: &str = "no,9,73,0,0,0,0,0";
+const N11: &str = "no,11,73,0,0,0,0,0";
+const N12: &str = "no,12,73,0,0,0,0,0";
+// w is no rfv; its first place is 1, 36, 37.
+const N13: &str = "no,13,73,0,0,0,0,0";
+const N13_AT_1: &str = "no,13,73,0,0,0,0,1";
+const N13_AT_36: &str = "no,13,73,0,0,0,0,36";
+const N13_AT_37: &str = "no,13,73,0,0,0,0,37";
+const N14: &str = "no,14,73,0,0,0,0,0";
 
 pub fn cases() -> Vec<Case> {
     let groups = [
@@ -218,9 +222,9 @@ fn right() -> Vec<Case> {
     let mut cases = Vec::new();
     for (step, alternatives) in steps {
         let reply = match alternatives {
-            1 => "yes,0,0,35,37,2,1",
-            2 => "yes,0,0,35,37,3,2",
-            _ => "yes,0,0,35,37,4,3",
+            1 => "yes,0,0,35,37,2,1,0",
+            2 => "yes,0,0,35,37,3,2,0",
+            _ => "yes,0,0,35,37,4,3,0",
         };
         let file = bench(37, 0, &closed(step, alternatives));
         cases.push(case(&format!("bench: {step}, closed"), lines(&file), reply));
@@ -236,7 +240,7 @@ fn right() -> Vec<Case> {
         cases.push(case(
             &format!("bench: {step}"),
             lines(&bench(37, 0, &[step])),
-            "yes,0,0,35,37,1,1",
+            "yes,0,0,35,37,1,1,0",
         ));
     }
     cases
@@ -291,16 +295,16 @@ fn ext() -> Vec<Case> {
         ("S,ext,9,0,0,36", N8),
         ("S,ext,0,0,0,6", N11),
         ("S,ext,38,0,0,6", N11),
-        ("S,ext,8,0,0,6", N12),  // p is eq
-        ("S,ext,4,0,0,6", N12),  // p is ni
-        ("S,ext,23,0,0,6", N12), // p is about references
-        ("S,ext,35,0,0,6", N12), // p is about classes
-        ("S,ext,9,0,0,1", N13),  // nul is no rfv
-        ("S,ext,9,0,0,7", N13),  // nor is a region variable
-        ("S,ext,9,0,0,26", N13), // nor is a read, though in no literal
-        ("S,ext,9,0,0,4", N13),  // u is at a side
-        ("S,ext,9,0,0,35", N13), // z is at a right side
-        ("S,ext,9,0,0,33", N13), // x is inside typ(x)
+        ("S,ext,8,0,0,6", N12),        // p is eq
+        ("S,ext,4,0,0,6", N12),        // p is ni
+        ("S,ext,23,0,0,6", N12),       // p is about references
+        ("S,ext,35,0,0,6", N12),       // p is about classes
+        ("S,ext,9,0,0,1", N13),        // nul is no rfv
+        ("S,ext,9,0,0,7", N13),        // nor is a region variable
+        ("S,ext,9,0,0,26", N13),       // nor is a read, though in no literal
+        ("S,ext,9,0,0,4", N13_AT_1),   // u is at a side
+        ("S,ext,9,0,0,35", N13_AT_37), // z is at a right side
+        ("S,ext,9,0,0,33", N13_AT_36), // x is inside typ(x)
     ])
 }
 
@@ -548,9 +552,9 @@ fn wit() -> Vec<Case> {
         ("S,wit,18,0,0,1", N13),
         ("S,wit,18,0,0,7", N13),
         ("S,wit,18,0,0,26", N13),
-        ("S,wit,18,0,0,4", N13), // the u of p
-        ("S,wit,18,0,0,35", N13),
-        ("S,wit,18,0,0,33", N13), // and no rea(h,x,f)
+        ("S,wit,18,0,0,4", N13_AT_1), // the u of p
+        ("S,wit,18,0,0,35", N13_AT_37),
+        ("S,wit,18,0,0,33", N13_AT_36), // and no rea(h,x,f)
     ])
 }
 
@@ -807,7 +811,7 @@ fn tree_closed() -> Vec<Case> {
             case(
                 &format!("bench, closed: {step}"),
                 lines(&bench(37, 0, &[CLOSE, step])),
-                "no,5,74,0,0,0,0",
+                "no,5,74,0,0,0,0,0",
             )
         })
         .collect()
@@ -845,9 +849,9 @@ fn branch_full() -> Vec<Case> {
     let mut cases = Vec::new();
     for (step, longest, _) in ADDING {
         let counts = [
-            (1000, "no,15,1036,0,0,0,0"),
-            (999, "no,15,1035,0,0,0,0"),
-            (998, "no,15,1034,0,0,0,0"),
+            (1000, "no,15,1036,0,0,0,0,0"),
+            (999, "no,15,1035,0,0,0,0,0"),
+            (998, "no,15,1034,0,0,0,0,0"),
         ];
         for (places, reply) in &counts[..longest] {
             cases.push(case(
@@ -865,12 +869,12 @@ fn branch_fills() -> Vec<Case> {
     let mut cases = Vec::new();
     for (step, longest, alternatives) in ADDING {
         let (places, reply) = match (longest, alternatives) {
-            (1, 1) => (999, "yes,0,0,35,999,2,1"),
-            (1, 2) => (999, "yes,0,0,35,999,3,2"),
-            (1, _) => (999, "yes,0,0,35,999,4,3"),
-            (2, 1) => (998, "yes,0,0,35,998,2,1"),
-            (2, _) => (998, "yes,0,0,35,998,3,2"),
-            _ => (997, "yes,0,0,35,997,2,1"),
+            (1, 1) => (999, "yes,0,0,35,999,2,1,0"),
+            (1, 2) => (999, "yes,0,0,35,999,3,2,0"),
+            (1, _) => (999, "yes,0,0,35,999,4,3,0"),
+            (2, 1) => (998, "yes,0,0,35,998,2,1,0"),
+            (2, _) => (998, "yes,0,0,35,998,3,2,0"),
+            _ => (997, "yes,0,0,35,997,2,1,0"),
         };
         cases.push(case(
             &format!("bench of {places}: {step}, closed"),
@@ -883,7 +887,7 @@ fn branch_fills() -> Vec<Case> {
         cases.push(case(
             &format!("bench of 1000: {step}"),
             lines(&bench(1000, 0, &[step])),
-            "yes,0,0,35,1000,1,1",
+            "yes,0,0,35,1000,1,1,0",
         ));
     }
     cases
@@ -893,13 +897,13 @@ fn branch_fills() -> Vec<Case> {
 /// waiting, so it is refused with 199 too.
 fn waiting_full() -> Vec<Case> {
     let rows = [
-        (200, "S,ext,9,0,0,6", "no,16,273,0,0,0,0"),
-        (200, "S,cue,12,0,0,0", "no,16,273,0,0,0,0"),
-        (200, "S,sgi,0,0,20,0", "no,16,273,0,0,0,0"),
-        (200, "S,cut,0,0,4,7", "no,16,273,0,0,0,0"),
-        (200, "S,img,1,0,21,0", "no,16,273,0,0,0,0"),
-        (199, "S,img,1,0,21,0", "no,16,272,0,0,0,0"),
-        (200, "S,rdm,0,0,30,0", "no,16,273,0,0,0,0"),
+        (200, "S,ext,9,0,0,6", "no,16,273,0,0,0,0,0"),
+        (200, "S,cue,12,0,0,0", "no,16,273,0,0,0,0,0"),
+        (200, "S,sgi,0,0,20,0", "no,16,273,0,0,0,0,0"),
+        (200, "S,cut,0,0,4,7", "no,16,273,0,0,0,0,0"),
+        (200, "S,img,1,0,21,0", "no,16,273,0,0,0,0,0"),
+        (199, "S,img,1,0,21,0", "no,16,272,0,0,0,0,0"),
+        (200, "S,rdm,0,0,30,0", "no,16,273,0,0,0,0,0"),
     ];
     rows.iter()
         .map(|&(waiting, step, reply)| {
@@ -916,12 +920,12 @@ fn waiting_full() -> Vec<Case> {
 /// branches have to be closed.
 fn waiting_fills() -> Vec<Case> {
     let rows = [
-        (199, "S,ext,9,0,0,6", "yes,0,0,35,37,401,201"),
-        (199, "S,cue,12,0,0,0", "yes,0,0,35,37,401,201"),
-        (199, "S,sgi,0,0,20,0", "yes,0,0,35,37,401,201"),
-        (198, "S,img,1,0,21,0", "yes,0,0,35,37,400,201"),
-        (199, "S,rdm,0,0,30,0", "yes,0,0,35,37,401,201"),
-        (200, "S,ref,0,0,9,0", "yes,0,0,35,37,402,201"),
+        (199, "S,ext,9,0,0,6", "yes,0,0,35,37,401,201,0"),
+        (199, "S,cue,12,0,0,0", "yes,0,0,35,37,401,201,0"),
+        (199, "S,sgi,0,0,20,0", "yes,0,0,35,37,401,201,0"),
+        (198, "S,img,1,0,21,0", "yes,0,0,35,37,400,201,0"),
+        (199, "S,rdm,0,0,30,0", "yes,0,0,35,37,401,201,0"),
+        (200, "S,ref,0,0,9,0", "yes,0,0,35,37,402,201,0"),
     ];
     rows.iter()
         .map(|&(waiting, step, reply)| {
@@ -937,15 +941,15 @@ fn waiting_fills() -> Vec<Case> {
 /// The smaller number is given. The step is on line 1036.
 fn two_checks_on_a_full_branch() -> Vec<Case> {
     let rows = [
-        ("S,ref,1,0,9,0", "no,6,1036,0,0,0,0"),
-        ("S,ref,0,0,36,0", "no,8,1036,0,0,0,0"),
-        ("S,cut,0,0,7,7", "no,9,1036,0,0,0,0"),
-        ("S,ler,0,0,4,0", "no,9,1036,0,0,0,0"),
-        ("S,cpe,1001,0,0,0", "no,11,1036,0,0,0,0"),
-        ("S,cpe,11,0,0,0", "no,12,1036,0,0,0,0"),
-        ("S,ext,9,0,0,4", "no,13,1036,0,0,0,0"),
-        ("S,wit,18,0,0,33", "no,13,1036,0,0,0,0"),
-        ("S,rdm,0,0,31,0", "no,14,1036,0,0,0,0"),
+        ("S,ref,1,0,9,0", "no,6,1036,0,0,0,0,0"),
+        ("S,ref,0,0,36,0", "no,8,1036,0,0,0,0,0"),
+        ("S,cut,0,0,7,7", "no,9,1036,0,0,0,0,0"),
+        ("S,ler,0,0,4,0", "no,9,1036,0,0,0,0,0"),
+        ("S,cpe,1001,0,0,0", "no,11,1036,0,0,0,0,0"),
+        ("S,cpe,11,0,0,0", "no,12,1036,0,0,0,0,0"),
+        ("S,ext,9,0,0,4", "no,13,1036,0,0,0,0,1"),
+        ("S,wit,18,0,0,33", "no,13,1036,0,0,0,0,36"),
+        ("S,rdm,0,0,31,0", "no,14,1036,0,0,0,0,0"),
     ];
     rows.iter()
         .map(|&(step, reply)| {
@@ -962,17 +966,17 @@ fn two_checks_on_a_full_branch() -> Vec<Case> {
 /// places, which the cuts make 1,000, on line 35 + 800 + 200 + 1.
 fn two_checks_with_200_waiting() -> Vec<Case> {
     let rows = [
-        (37, "S,cut,1,0,4,7", "no,6,273,0,0,0,0"),
-        (37, "S,cut,0,0,4,36", "no,8,273,0,0,0,0"),
-        (37, "S,cut,0,0,7,7", "no,9,273,0,0,0,0"),
-        (37, "S,cue,238,0,0,0", "no,11,273,0,0,0,0"),
-        (37, "S,cue,13,0,0,0", "no,12,273,0,0,0,0"),
-        (37, "S,ext,9,0,0,4", "no,13,273,0,0,0,0"),
-        (37, "S,rdm,0,0,31,0", "no,14,273,0,0,0,0"),
-        (800, "S,cut,0,0,4,7", "no,15,1036,0,0,0,0"),
-        (800, "S,img,1,0,21,0", "no,15,1036,0,0,0,0"),
-        (799, "S,rdm,0,0,30,0", "no,15,1035,0,0,0,0"), // two literals
-        (799, "S,cut,0,0,4,7", "no,16,1035,0,0,0,0"),  // one literal
+        (37, "S,cut,1,0,4,7", "no,6,273,0,0,0,0,0"),
+        (37, "S,cut,0,0,4,36", "no,8,273,0,0,0,0,0"),
+        (37, "S,cut,0,0,7,7", "no,9,273,0,0,0,0,0"),
+        (37, "S,cue,238,0,0,0", "no,11,273,0,0,0,0,0"),
+        (37, "S,cue,13,0,0,0", "no,12,273,0,0,0,0,0"),
+        (37, "S,ext,9,0,0,4", "no,13,273,0,0,0,0,1"),
+        (37, "S,rdm,0,0,31,0", "no,14,273,0,0,0,0,0"),
+        (800, "S,cut,0,0,4,7", "no,15,1036,0,0,0,0,0"),
+        (800, "S,img,1,0,21,0", "no,15,1036,0,0,0,0,0"),
+        (799, "S,rdm,0,0,30,0", "no,15,1035,0,0,0,0,0"), // two literals
+        (799, "S,cut,0,0,4,7", "no,16,1035,0,0,0,0,0"),  // one literal
     ];
     rows.iter()
         .map(|&(places, step, reply)| {
@@ -992,7 +996,7 @@ fn fir_at_the_limits() -> Vec<Case> {
         (
             "closed",
             lines(&bench(37, 0, &[CLOSE, step])),
-            "no,4,74,0,0,0,0",
+            "no,4,74,0,0,0,0,0",
         ),
         (
             "without all",
@@ -1002,22 +1006,22 @@ fn fir_at_the_limits() -> Vec<Case> {
         (
             "999 places",
             lines(&bench(999, 0, &[step, CLOSE])),
-            "no,4,1035,0,0,0,0",
+            "no,4,1035,0,0,0,0,0",
         ),
         (
             "1,000 places",
             lines(&bench(1000, 0, &[step])),
-            "no,4,1036,0,0,0,0",
+            "no,4,1036,0,0,0,0,0",
         ),
         (
             "200 waiting",
             lines(&bench(37, 200, &[step])),
-            "no,4,273,0,0,0,0",
+            "no,4,273,0,0,0,0,0",
         ),
         (
             "1,000 places, 200 waiting",
             lines(&bench(800, 200, &[step])),
-            "no,4,1036,0,0,0,0",
+            "no,4,1036,0,0,0,0,0",
         ),
     ];
     rows.into_iter()

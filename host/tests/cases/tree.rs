@@ -44,27 +44,27 @@ fn split_in_the_first_alternative() -> Vec<Case> {
         )
     };
     vec![
-        case("tree: left", lines(&LEFT), "yes,0,0,6,4,5,3"),
-        changed(13, "S,cls,6,3,0,0", "no,12,13,0,0,0,0"), // b isn't first
-        changed(14, "S,cls,5,4,0,0", "no,12,14,0,0,0,0"), // nor c second
-        changed(14, "S,cls,6,2,0,0", "no,12,14,0,0,0,0"), // a is closed
-        changed(14, "S,cls,7,3,0,0", "no,11,14,0,0,0,0"), // b took place 6 again
-        changed(15, "S,cls,6,4,0,0", "no,11,15,0,0,0,0"), // c took place 5
-        changed(15, "S,cls,5,3,0,0", "no,12,15,0,0,0,0"), // b is closed
+        case("tree: left", lines(&LEFT), "yes,0,0,6,4,5,3,0"),
+        changed(13, "S,cls,6,3,0,0", "no,12,13,0,0,0,0,0"), // b isn't first
+        changed(14, "S,cls,5,4,0,0", "no,12,14,0,0,0,0,0"), // nor c second
+        changed(14, "S,cls,6,2,0,0", "no,12,14,0,0,0,0,0"), // a is closed
+        changed(14, "S,cls,7,3,0,0", "no,11,14,0,0,0,0,0"), // b took place 6 again
+        changed(15, "S,cls,6,4,0,0", "no,11,15,0,0,0,0,0"), // c took place 5
+        changed(15, "S,cls,5,3,0,0", "no,12,15,0,0,0,0,0"), // b is closed
         case(
             "tree: left, two open",
             lines(&LEFT[..13]),
-            "no,17,14,0,0,0,0",
+            "no,17,14,0,0,0,0,0",
         ),
         case(
             "tree: left, one open",
             lines(&LEFT[..14]),
-            "no,17,15,0,0,0,0",
+            "no,17,15,0,0,0,0,0",
         ),
         case(
             "tree: left, step after the last closing",
             with_more(&LEFT, &["S,ref,0,0,1,0"]),
-            "no,5,16,0,0,0,0",
+            "no,5,16,0,0,0,0,0",
         ),
     ]
 }
@@ -81,16 +81,20 @@ fn split_in_the_second_alternative() -> Vec<Case> {
     ];
     let last = |line| with_lines(&LEFT, &[&right[..], &[(15, line)]].concat());
     vec![
-        case("tree: right", with_lines(&LEFT, &right), "yes,0,0,6,4,5,3"),
+        case(
+            "tree: right",
+            with_lines(&LEFT, &right),
+            "yes,0,0,6,4,5,3,0",
+        ),
         case(
             "tree: right, place 5 is no alternative",
             last("S,cls,5,4,0,0"),
-            "no,12,15,0,0,0,0",
+            "no,12,15,0,0,0,0,0",
         ),
         case(
             "tree: right, no place 7",
             last("S,cls,7,4,0,0"),
-            "no,11,15,0,0,0,0",
+            "no,11,15,0,0,0,0,0",
         ),
     ]
 }
@@ -117,16 +121,16 @@ fn splits_in_img() -> Vec<Case> {
         )
     };
     vec![
-        case("tree: img", lines(&file), "yes,0,0,9,4,8,5"),
-        changed(17, "S,cls,3,5,0,0", "no,12,17,0,0,0,0"), // the cut isn't done
-        changed(18, "S,cls,5,4,0,0", "no,12,18,0,0,0,0"), // third before second
-        changed(20, "S,cls,5,4,0,0", "no,12,20,0,0,0,0"), // the cut isn't done
-        changed(21, "S,cls,1,6,0,0", "no,11,21,0,0,0,0"), // no place 6 now
-        changed(21, "S,cls,3,5,0,0", "no,12,21,0,0,0,0"), // second is closed
+        case("tree: img", lines(&file), "yes,0,0,9,4,8,5,0"),
+        changed(17, "S,cls,3,5,0,0", "no,12,17,0,0,0,0,0"), // the cut isn't done
+        changed(18, "S,cls,5,4,0,0", "no,12,18,0,0,0,0,0"), // third before second
+        changed(20, "S,cls,5,4,0,0", "no,12,20,0,0,0,0,0"), // the cut isn't done
+        changed(21, "S,cls,1,6,0,0", "no,11,21,0,0,0,0,0"), // no place 6 now
+        changed(21, "S,cls,3,5,0,0", "no,12,21,0,0,0,0,0"), // second is closed
         case(
             "tree: img, alternatives from the right",
             with_lines(&IMG, &[(16, "S,cls,5,4,0,0"), (17, "S,cls,3,5,0,0")]),
-            "no,12,16,0,0,0,0",
+            "no,12,16,0,0,0,0,0",
         ),
     ]
 }
@@ -137,17 +141,17 @@ fn second_alternative_checked() -> Vec<Case> {
         case(
             "tree: G, first closing twice",
             with_line(&G, 10, "S,cls,4,2,0,0"),
-            "no,12,10,0,0,0,0",
+            "no,12,10,0,0,0,0,0",
         ),
         case(
             "tree: G, second closing on no place",
             with_line(&G, 10, "S,cls,5,3,0,0"),
-            "no,11,10,0,0,0,0",
+            "no,11,10,0,0,0,0,0",
         ),
         case(
             "tree: G, second closing first",
             with_lines(&G, &[(9, "S,cls,4,3,0,0"), (10, "S,cls,4,2,0,0")]),
-            "no,12,9,0,0,0,0",
+            "no,12,9,0,0,0,0,0",
         ),
     ]
 }
@@ -192,40 +196,45 @@ fn fresh_again() -> Vec<Case> {
     ]
     .concat();
     vec![
-        case("tree: w fresh again", lines(&file), "yes,0,0,4,1,7,4"),
+        case("tree: w fresh again", lines(&file), "yes,0,0,4,1,7,4,0"),
+        // 3: w in r
         changed(
             "w used twice in an alternative",
             8,
             "S,ext,1,0,0,2",
-            "no,13,8,0,0,0,0",
+            "no,13,8,0,0,0,0,3",
         ),
+        // 3: w ni r
         changed(
             "w used again in the second alternative of ext",
             9,
             "S,ext,1,0,0,2",
-            "no,13,9,0,0,0,0",
+            "no,13,9,0,0,0,0,3",
         ),
+        // 3: w in r
         changed(
             "w used twice in the second alternative",
             11,
             "S,ext,1,0,0,2",
-            "no,13,11,0,0,0,0",
+            "no,13,11,0,0,0,0,3",
         ),
+        // 2: u ni s
         changed(
             "u of the cut in the second alternative",
             10,
             "S,ext,1,0,0,1",
-            "no,13,10,0,0,0,0",
+            "no,13,10,0,0,0,0,2",
         ),
+        // 2: w in r, here and after the closing
         case(
             "tree: w used before the split",
             lines(&before),
-            "no,13,8,0,0,0,0",
+            "no,13,8,0,0,0,0,2",
         ),
         case(
             "tree: w used before the split, second alternative",
             lines(&closed_once),
-            "no,13,9,0,0,0,0",
+            "no,13,9,0,0,0,0,2",
         ),
     ]
 }
@@ -261,28 +270,29 @@ fn fresh_again_after_a_larger_term() -> Vec<Case> {
         )
     };
     vec![
-        case("tree: sin(w) closed", lines(&file), "yes,0,0,5,2,11,6"),
+        case("tree: sin(w) closed", lines(&file), "yes,0,0,5,2,11,6,0"),
         // Then line 9 adds w in r, w ni r, and line 12 leads to w ni r, w in r.
         changed(
             "ext in place of its cut",
             9,
             "S,ext,2,0,0,2",
-            "yes,0,0,5,2,11,6",
+            "yes,0,0,5,2,11,6,0",
         ),
+        // 4: u in sin(w); 5: z in r; 4: u ni sin(w); 3: u ni r
         changed(
             "w in the first alternative",
             10,
             "S,ext,2,0,0,2",
-            "no,13,10,0,0,0,0",
+            "no,13,10,0,0,0,0,4",
         ),
-        changed("z twice", 11, "S,ext,2,0,0,5", "no,13,11,0,0,0,0"),
+        changed("z twice", 11, "S,ext,2,0,0,5", "no,13,11,0,0,0,0,5"),
         changed(
             "w in the second alternative",
             13,
             "S,ext,2,0,0,2",
-            "no,13,13,0,0,0,0",
+            "no,13,13,0,0,0,0,4",
         ),
-        changed("u not fresh", 16, "S,ext,2,0,0,1", "no,13,16,0,0,0,0"),
+        changed("u not fresh", 16, "S,ext,2,0,0,1", "no,13,16,0,0,0,0,3"),
     ]
 }
 
@@ -320,21 +330,23 @@ fn fresh_beside_a_waiting_alternative() -> Vec<Case> {
         case(
             "tree: w only in a waiting alternative",
             lines(&file),
-            "yes,0,0,11,1,7,4",
+            "yes,0,0,11,1,7,4,0",
         ),
         changed(
             "z in both alternatives",
             14,
             "S,ext,1,0,0,11",
-            "yes,0,0,11,1,7,4",
+            "yes,0,0,11,1,7,4,0",
         ),
+        // 2: term 8, which holds w, eq term 9
         changed(
             "w not waiting any more",
             17,
             "S,ext,1,0,0,2",
-            "no,13,17,0,0,0,0",
+            "no,13,17,0,0,0,0,2",
         ),
-        changed("u on the branch", 14, "S,ext,1,0,0,1", "no,13,14,0,0,0,0"),
-        changed("y on the branch", 14, "S,ext,1,0,0,3", "no,13,14,0,0,0,0"),
+        // 2: u eq y
+        changed("u on the branch", 14, "S,ext,1,0,0,1", "no,13,14,0,0,0,0,2"),
+        changed("y on the branch", 14, "S,ext,1,0,0,3", "no,13,14,0,0,0,0,2"),
     ]
 }

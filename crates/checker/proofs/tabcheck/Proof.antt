@@ -1,7 +1,7 @@
 -- `tabcheck` meets its contract: the number, the buffer, and demand 3.
 use mathlib.Core.Path.{_≡_, sym, _∙_, ap}
 use native.Mathlib.Omega.{arith}
-use Rattle.tableau.specs.Reply.{Reply, reply, reasonNumber, Call, replyBytes}
+use Rattle.tableau.specs.Reply.{Reply, reply, refusalOf, Call, replyBytes}
 use Rattle.reply.specs.Verdict.{replyRecord}
 use Rattle.checker.proofs.Whole.{replied, number-small, no-heap, buffer-right, buffer-wrong}
 use borrow.Author.Needs.{needs}
@@ -17,11 +17,11 @@ answered c =
 
 -- a buffer of another length
 cast-result : tie.Need-cast-result
-unfolding reasonNumber
+unfolding refusalOf
 cast-result c = omega arith
 
 returns : tie.Need-returns
-unfolding reasonNumber
+unfolding refusalOf
 returns c =
     let a = c .before .before .before .before .args in
     let w = buffer-wrong (a .file .now) (a .reply .now) (λ e. omega (arith, e)) in (

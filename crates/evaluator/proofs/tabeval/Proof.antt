@@ -1,7 +1,7 @@
 -- The number, the buffer, and the meaning.
 use mathlib.Core.Path.{_≡_, refl, sym, _∙_, ap}
 use native.Mathlib.Omega.{arith}
-use Rattle.tableau.specs.Reply.{reasonNumber, Call}
+use Rattle.tableau.specs.Reply.{refusalOf, Call}
 use Rattle.evaluation.specs.Evaluation.{Evaluation, evaluation, evaluationBytes}
 use Rattle.evaluation_reply.specs.Evaluation.{evaluationRecord}
 use Rattle.evaluator.proofs.CallLaws.{number-small, buffer-right, buffer-wrong, means}
@@ -11,11 +11,11 @@ use Rattle.evaluator.proofs.tabeval.Tie as tie
 
 -- a buffer of another length
 cast-result : tie.Need-cast-result
-unfolding reasonNumber
+unfolding refusalOf
 cast-result c = omega arith
 
 returns : tie.Need-returns
-unfolding reasonNumber
+unfolding refusalOf
 returns c =
     let a = c .before .before .before .before .before .args in
     let w = buffer-wrong (a .file .now) (a .heap .now) (a .reply .now) (λ e. omega (arith, e)) in (

@@ -1,11 +1,11 @@
 -- Each arm is the number of its reason.
 use borrow.Author.Needs.{needs}
-use Rattle.tableau.specs.Reply.{reasonNumber}
+use Rattle.tableau.specs.Reply.{refusalOf}
 use Rattle.reply.proofs.reason_number.Statement.{statement}
 use Rattle.reply.proofs.reason_number.Tie as tie
 
 pub reason-number-spec : {M : Type 1} → statement M
-unfolding reasonNumber
+unfolding refusalOf
 reason-number-spec =
     tie.close
     (tie.spec

@@ -1,4 +1,3 @@
-use borrow.Author.Tests.{not-true, not-false}
 use mathlib.Core.Path.{refl, sym, subst, _∙_}
 use Rattle.tableau.specs.declared.Relation.{Relation}
 use Rattle.tableau.specs.Terms.{at}
@@ -14,18 +13,18 @@ use Rattle.heap_rules.proofs.images.wit.Tie as tie
 returns-3 : tie.Need-returns-3
 unfolding computing
 returns-3 c =
-    let i = c .before .before in
+    let i = c .before .before .before .before in
     let p = i .before .before .before .before in
     record {
       room = tt;
       answers = λ table h.
           let K = is-img (at table _) _ _ _ (i .before .before .view .ensures table (h .entries) .is ∙ i .h .given .1) in
-          rw (p .p .given .1, K .1, not-true (p .before .before .args .fresh) (c .if1 .taken));
+          rw (p .p .given .1, K .1, c .before .fresh .given .1);
     }
 
 find-access-requires : tie.Need-find-access-requires
 find-access-requires c κs =
-    let i = c .before .before in
+    let i = c .before .before .before in
     let s = i .before .before .before .before .before .before .pre in
     let v = view-small (s .0) (λ table h. i .before .before .view .ensures table (h .entries)) (i .h .given .1) in
     (s .0, (v .0, s .1 .1, v .2))
@@ -36,21 +35,21 @@ unfolding computing
 returns-4 c =
     let m = c .before .before in
     let e = m .before in
-    let i = e .before .before in
+    let i = e .before .before .before in
     let p = i .before .before .before .before in
     record {
       room = tt;
       answers = λ table h.
           let K = is-img (at table _) _ _ _ (i .before .before .view .ensures table (h .entries) .is ∙ i .h .given .1) in
-          rw (p .p .given .1, K .1, not-false (p .before .before .args .fresh) (e .if1 .left))
-          (one-missing (m .find-access .ensures) table h (c .enum-told .given .1) (λ q. rw q) (λ k q s. rw (q, s)) (λ k l q s o. rw (q, s, o)));
+          rw (p .p .given .1, K .1, e .enum-told .given .1)
+          (one-missing (m .find-access .ensures) table h (c .enum-told2 .given .1) (λ q. rw q) (λ k q s. rw (q, s)) (λ k l q s o. rw (q, s, o)));
     }
 
 adds-three-requires : tie.Need-adds-three-requires
 adds-three-requires c κs =
     let x = c .before .before .before .before in
     let m = x .before .before in
-    let i = m .before .before .before in
+    let i = m .before .before .before .before in
     let p = i .before .before .before .before in
     let s = p .before .before .pre in
     let v = view-small (s .0) (λ table h. i .before .before .view .ensures table (h .entries)) (i .h .given .1) in
@@ -65,7 +64,7 @@ returns-5 c =
     let x = c .before .before .before .before .before in
     let m = x .before .before in
     let e = m .before in
-    let i = e .before .before in
+    let i = e .before .before .before in
     let p = i .before .before .before .before in
     let l = c .before in
     let b = rw (l .before .before .literal .ensures, l .before .literal2 .ensures, l .literal3 .ensures) at (c .adds-three .ensures) in
@@ -74,7 +73,7 @@ returns-5 c =
       answers = λ table h.
           let K = is-img (at table _) _ _ _ (i .before .before .view .ensures table (h .entries) .is ∙ i .h .given .1) in
           let A = all-made (m .find-access .ensures) table h (x .c .given .1) in
-          rw (p .p .given .1, K .1, not-false (p .before .before .args .fresh) (e .if1 .left), A .0, A .1, A .2) (sym (b .adds));
+          rw (p .p .given .1, K .1, e .enum-told .given .1, A .0, A .1, A .2) (sym (b .adds));
     }
 
 pub wit-spec : {M : Type 1} → statement M
@@ -92,10 +91,12 @@ wit-spec =
     -- s is not img(h,r,f)
     (λ c.
     fresh-or-not (other-region refl refl (c .before .before .before .p .given .1) (λ table h. c .before .view .ensures table (h .entries)) (c .match2 .keys2)))
-    returns-3
-    find-access-requires
     (λ c. c .match3 .keys1)
+    returns-3
     (λ c. c .match3 .keys2)
+    find-access-requires
+    (λ c. c .match4 .keys1)
+    (λ c. c .match4 .keys2)
     returns-4
     (λ c κs. tt)
     (λ c κs. tt)

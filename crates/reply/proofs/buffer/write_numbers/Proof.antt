@@ -1,4 +1,4 @@
--- The six numbers fill the buffer.
+-- The numbers fill the buffer.
 use mathlib.Core.Path.{_∙_, ap}
 use borrow.Author.Needs.{needs}
 use Rattle.tableau.specs.Reply.{numberBytes, replyBytes}
@@ -9,7 +9,7 @@ returns : tie.Need-returns
 unfolding replyBytes
 returns c =
     let p = c .before .before in
-    p .put-numbers .ensures ∙ ap numberBytes (p .before .before .six-numbers .ensures)
+    p .put-numbers .ensures ∙ ap numberBytes (p .before .before .numbers .ensures)
 
 pub write-numbers-spec : {M : Type 1} → statement M
 write-numbers-spec =

@@ -1,4 +1,4 @@
--- The six numbers are put behind the answer.
+-- The numbers are put behind the answer.
 use mathlib.Core.Path.{_∙_}
 use borrow.Author.Needs.{needs}
 use Rattle.tableau.specs.Reply.{replyLine}
@@ -12,7 +12,7 @@ returns c =
     let fields = c .put-fields .ensures in
     let n = c .before .before in
     let answer = n .before .before .put-answer .ensures .1 in
-    ((fields .0, fields .1 .size), two-texts answer (fields .1) ∙ rw (n .six-numbers .ensures))
+    ((fields .0, fields .1 .size), two-texts answer (fields .1) ∙ rw (n .numbers .ensures))
 
 pub write-line-spec : {M : Type 1} → statement M
 write-line-spec =

@@ -1,9 +1,8 @@
--- Where the rule does not ask, its answer does not depend on the flag; where it does, the rows are filled up to the branch's length.
+-- Where the rule does not ask, its answer does not depend on freshness; where it does, the rows are filled up to the branch's length.
 use mathlib.Core.Path.{sym, _∙_, ap}
-use mathlib.Core.Bool.{Bool, false}
 use native.Mathlib.Omega.{arith}
-use denote.Ref.{now}
 use borrow.Author.Tests.{not-true}
+use Rattle.tableau.specs.declared.Freshness.{Freshness}
 use Rattle.tableau.specs.Tree.{answer}
 use Rattle.steps.proofs.FreshLaws.{unasked-answer}
 use borrow.Author.Needs.{needs}
@@ -16,7 +15,7 @@ returns c = (
   λ table C E M q P.
       let s = c .before .before .before .args in
       record {
-        fresh = λ L R D t. unasked-answer table L R D t (s .step .w .0) (s .step .rule) (sym (c .before .asks-fresh .ensures) ∙ not-true _ (c .if1 .taken)) false _;
+        fresh = λ L R D t. unasked-answer table L R D t (s .step .w .0) (s .step .rule) (sym (c .before .asks-fresh .ensures) ∙ not-true _ (c .if1 .taken)) _ _;
         rows = P;
       },
 )
@@ -28,7 +27,7 @@ returns-2 c =
       λ table C E M q P.
           let rows = c .before .before .note .ensures table C M q P in
           record {
-            fresh = λ L R D t. ap (λ (f : Bool). answer table f L R D t (s .args .step .w .0) (s .args .step .rule)) (c .is-fresh .ensures table C (now (s .args .branch)) E q rows);
+            fresh = λ L R D t. ap (λ (f : Freshness). answer table f L R D t (s .args .step .w .0) (s .args .step .rule)) (c .test .ensures table C E M q rows);
             rows = rows;
           },
     )
