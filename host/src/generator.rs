@@ -50,8 +50,8 @@ pub fn refusal(number: u32, line: usize) -> Expected {
     Expected::Reply([number, line as u32, 0, 0, 0, 0, 0])
 }
 
-/// The reply that refuses a file since w is not fresh. It stands on this place
-/// of the branch first, or on none: 0.
+/// The reply that refuses a file since w is not fresh, with its place: 0 where
+/// w is no reference variable, or in a clause only.
 pub fn not_fresh(line: usize, place: usize) -> Expected {
     Expected::Reply([13, line as u32, 0, 0, 0, 0, place as u32])
 }

@@ -250,8 +250,8 @@ fn take_line(rest: &[u8]) -> Option<(&[u8], &[u8])> {
     Some((&rest[..end], &rest[end + 1..]))
 }
 
-/// "Checks on a line run in the order of the numbers below." Where an `Err`
-/// holds a number only, it is the refusal number.
+/// "Checks on a line run in the order of the numbers below." A check that gives
+/// no place has the refusal number alone in its `Err`.
 fn check_line(state: &mut State, text: &[u8]) -> Result<(), LineRefusal> {
     // 2: "line not shaped as above"
     let Some(line) = shape(text) else {

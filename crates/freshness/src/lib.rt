@@ -1,4 +1,4 @@
-// The freshness test: does a clause or a literal on the branch mention w? Row i of an array that the caller lends, ROW words from i * ROW on, has a bit for each term, set where a
+// The freshness test: does a clause or a literal on the branch mention w, and which first? Row i of an array that the caller lends, ROW words from i * ROW on, has a bit for each term, set where a
 // clause or one of the first i literals mentions it, so that a test reads one bit. Rows are filled when they are asked for; the caller keeps the number of those that still hold.
 use mentions::ROW;
 use packing::TermView;
@@ -125,7 +125,8 @@ fn has_bit(word: u64, w: TermNumber) -> bool
     (word >> (w.0 % 64)) % 2 == 1
 }
 
-fn mentions(rows: &[u64; mentions::WORDS], n: usize, literal: u32, w: TermNumber) -> bool
+// Does the literal mention w, by the rows of its two sides?
+fn literal_mentions(rows: &[u64; mentions::WORDS], n: usize, literal: u32, w: TermNumber) -> bool
     requires { ⌜ (n ≤ maxTerms) × (w .0 ≤ n) ⌝ }
     ensures { λ r. ⌜ ((table : Table) → MentionRows table (now (rows .entry)) → length table ≡ n → 0 < w .0 → r ≡ mentionedIn (at table) (w .0) (unpackLiteral literal)) ⌝ }
 {
@@ -150,7 +151,7 @@ fn first_place(
 {
     let mut i = 0;
     while i < len {
-        if mentions(rows, n, branch[i], w) {
+        if literal_mentions(rows, n, branch[i], w) {
             return Place(i + 1);
         }
         i += 1;

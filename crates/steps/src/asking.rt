@@ -1,7 +1,6 @@
 // Is w fresh? Asked only where the rule asks it.
 use syntax::Step;
 use tableau::Freshness;
-use tableau::Place;
 use tableau::Rule;
 use tree::Tree;
 ghost use mathlib.Core.Path.{_≡_};
@@ -30,7 +29,7 @@ fn asks_fresh(rule: Rule) -> bool
     }
 }
 
-// The first `noted` of the branch's len literals have their rows.
+// The first `noted` of the branch's len literals have their rows. A rule that does not ask looks at no answer: any serves.
 pub fn ask_fresh(
     step: Step,
     branch: &[u32; Tree::PLACES],
@@ -52,7 +51,7 @@ pub fn ask_fresh(
     let w = step.w;
     if !asks_fresh(rule) {
         return Asked {
-            fresh: Freshness::NotFresh(Place(0)),
+            fresh: Freshness::Fresh,
             noted,
         };
     }

@@ -3,7 +3,7 @@ use mathlib.Core.Path.{_≡_, refl, sym, _∙_, ap}
 use mathlib.Core.Bool.{Bool, true, false, _&&_, _||_, cond, true≢false}
 use mathlib.Core.List.{List, [], _∷_}
 use mathlib.Core.Logic.{_⊎_, inl, inr}
-use mathlib.Core.Option.{Option, none, some}
+use mathlib.Core.Option.{Option, some}
 use Prim.Native.Nat.{ℕ, suc, _+_, _≤_}
 use native.Mathlib.Omega.{arith}
 use lib.Dec.{eqb, leb}
@@ -17,7 +17,7 @@ use Rattle.tableau.specs.File.{Line, rank, shape, letters, split, LF}
 use Rattle.tableau.specs.Words.{words, relations, ruleNames, Command, make, assume, disjoin, infer, commandOf}
 use Rattle.tableau.specs.Terms.{lastClause}
 use Rattle.tableau.specs.Rules.{rule}
-use Rattle.tableau.specs.Tree.{Checked, refused, passed, _>>=_, _>>_, require, requireSome, Tree, Status, isOpen, isClosed, requireFresh, answer, alternatives, grown}
+use Rattle.tableau.specs.Tree.{Checked, refused, passed, Tree, Status, isOpen, isClosed, requireFresh, answer, alternatives, grown}
 use Rattle.tableau.specs.Reply.{refusalOf, reasonNumber, Counts, State, start, termLine, literalLine, assumed, disjoined, stepLine, isClosing, counted}
 use Rattle.tableau.specs.Reply.{runOpen, runRead, runLine, runLines, Verdict, accept, refuse, atEnd, verdictOn, verdict, replyOf, reply}
 use Rattle.tableau.specs.Claims.{hasLetter, closesBranch, countIf, countClauses, CountsOf, RightCounts}

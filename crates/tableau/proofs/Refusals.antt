@@ -40,9 +40,9 @@ OfReason Q (refused r) = Q r
 OfReason Q (passed x) = Unit {0}
 
 module _ (Q : Reason → Type 0) where
-  pub bind-reason : {A B : Type 0} (m : Checked A) (k : A → Checked B) → OfReason Q m → ((x : A) → OfReason Q (k x)) → OfReason Q (m >>= k)
+  pub bind-reason : {A B : Type 0} (m : Checked A) (k : A → Checked B) → OfReason Q m → ((x : A) → m ≡ passed x → OfReason Q (k x)) → OfReason Q (m >>= k)
   bind-reason (refused r) k h t = h
-  bind-reason (passed x) k h t = t x
+  bind-reason (passed x) k h t = t x refl
 
   pub next-reason : {B : Type 0} (l : Checked (Unit {0})) (m : Checked B) → OfReason Q l → OfReason Q m → OfReason Q (l >> m)
   next-reason (refused r) m h t = h

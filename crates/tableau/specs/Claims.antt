@@ -3,15 +3,17 @@ use mathlib.Core.Path.{_≡_}
 use mathlib.Core.Bool.{Bool, true, false, _&&_, _||_, cond}
 use mathlib.Core.List.{List, [], _∷_, _++_}
 use mathlib.Core.Option.{Option, none, some}
-use Prim.Native.Nat.{ℕ, suc, _+_, _<_}
+use mathlib.Core.Logic.{_⊎_}
+use Prim.Native.Nat.{ℕ, zero, suc, _+_, _<_}
 use lib.Dec.{eqb}
 use lib.ListN.{length, take}
 use Rattle.tableau.specs.declared.Letter.{Letter}
 use Rattle.tableau.specs.Basics.{Four, bytes, sameBytes}
 use Rattle.tableau.specs.File.{Line, sameLetter, shape, letters, split, LF}
 use Rattle.tableau.specs.Words.{Command, make, assume, disjoin, infer, commandOf}
-use Rattle.tableau.specs.Terms.{Place, TermNo, ClauseNo, Table, Literal, literal, Clauses, at, mentionedIn, written}
+use Rattle.tableau.specs.Terms.{Place, TermNo, ClauseNo, Table, Literal, literal, Clauses, disjuncts, at, mentionedIn, mentioned, written}
 use Rattle.tableau.specs.Meaning.{FiniteHeap, Values, AllTrue, EveryClauseTrue}
+use Rattle.tableau.specs.Steps.{isRfv}
 use Rattle.tableau.specs.Tree.{Checked, passed, _>>=_, Tree, isOpen, literalAt}
 use Rattle.tableau.specs.Reply.{State, start, runLine, Reply, reply}
 
@@ -155,6 +157,20 @@ pub record FirstMention (table : Table) (B : List Literal) (w : TermNo) (p : Pla
   pub here : MentionsAt table B w p
   pub noneBefore : (q : Place) → q < p → ¬ MentionsAt table B w q
 
+-- What the place says of a w that is not fresh; it is 0 "for a w that isn't an `rfv`, and for a w found only in a clause".
+abbrev pub PlaceSays : Table → Clauses → List Literal → TermNo → Place → Type 0
+PlaceSays table C B w zero = (isRfv (at table w) ≡ false) ⊎ ((mentioned (at table) w (disjuncts C) ≡ true) × ((q : Place) → ¬ MentionsAt table B w q))
+PlaceSays table C B w (suc p) = (isRfv (at table w) ≡ true) × FirstMention table B w (suc p)
+
+-- In this state the line is a step, and the place says this of its w.
+pub record StepPlace (σ : State) (text : List ℕ) (p : Place) : Type 0 where
+  pub tree : Tree
+  pub treeOpen : σ .status ≡ isOpen tree
+  pub line : Line Letter
+  pub shaped : shape letters text ≡ some line
+  pub isStep : line .letter ≡ Letter.S
+  pub says : PlaceSays (σ .table) (σ .clauses) (tree .branch) (line .fields .d) p
+
 -- the state after lines that pass, one after the other
 unfoldable pub after : State → List (List ℕ) → Checked State
 after σ [] = passed σ
@@ -162,17 +178,8 @@ after σ (l ∷ ls) = do
   σ′ ← runLine σ l
   after σ′ ls
 
--- In this state the line is a step, and the branch mentions its w, first at place p.
-pub record Uses (σ : State) (text : List ℕ) (p : Place) : Type 0 where
-  pub tree : Tree
-  pub treeOpen : σ .status ≡ isOpen tree
-  pub line : Line Letter
-  pub shaped : shape letters text ≡ some line
-  pub isStep : line .letter ≡ Letter.S
-  pub first : FirstMention (σ .table) (tree .branch) (line .fields .d) p
-
--- Of these lines the i-th is such a step, in the state that those before it lead to.
-pub record UsedAt (σ : State) (ls : List (List ℕ)) (i : ℕ) (p : Place) : Type 0 where
+-- Of these lines the i-th is such a step, in the state to which those before it lead.
+pub record LinePlace (σ : State) (ls : List (List ℕ)) (i : ℕ) (p : Place) : Type 0 where
   pub earlier : List (List ℕ)
   pub text : List ℕ
   pub later : List (List ℕ)
@@ -180,11 +187,12 @@ pub record UsedAt (σ : State) (ls : List (List ℕ)) (i : ℕ) (p : Place) : Ty
   pub number : i ≡ suc (length earlier)
   pub state : State
   pub reached : after σ earlier ≡ passed state
-  pub uses : Uses state text p
+  pub step : StepPlace state text p
 
--- A reply with a place has the number 13, and its line is such a step of the file.
+-- With 13 the place is that of the refused line's w; "it is 0 for every other reply".
 unfoldable pub RightPlaces : Checker → Type 0
-RightPlaces checker = (file : List ℕ) → ¬ (checker file .place ≡ 0) → (checker file .number ≡ 13) × UsedAt start (linesOf file) (checker file .line) (checker file .place)
+RightPlaces checker = (file : List ℕ) → (checker file .number ≡ 13 → LinePlace start (linesOf file) (checker file .line) (checker file .place))
+    × (¬ (checker file .number ≡ 13) → checker file .place ≡ 0)
 
 -- "A file is accepted when the checker says yes: its reply line begins with `yes`, or the call returns 0."
 abbrev pub BeginsWithYes : List ℕ → Type 0

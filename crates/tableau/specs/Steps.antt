@@ -1,5 +1,5 @@
 -- What a rule concludes on a branch: its needs (check 12), whether it asks for a fresh w, and what is fresh (check 13), the literals it adds (check 14).
-use mathlib.Core.Bool.{Bool, true, false, _&&_, _||_, not, cond}
+use mathlib.Core.Bool.{Bool, true, false, _&&_, _||_, cond}
 use mathlib.Core.List.{List, [], _∷_, map}
 use mathlib.Core.Option.{Option, none, some}
 use Prim.Native.Nat.{ℕ}

@@ -97,7 +97,7 @@ pub enum Reason {
     TermRepeated,
     NoSuchPlace,
     NeedNotMet,
-    // With the first place that mentions w, 0 where none does.
+    // With the first place that mentions w; 0 where w is no `rfv`, or only a clause mentions it.
     NotFresh(Place),
     TermNotMade,
     BranchFull,
@@ -109,7 +109,7 @@ pub enum Reason {
     BadClause,
 }
 
-// Whether w is fresh; where it isn't, the first place that mentions it, 0 where none does.
+// Whether w is fresh; where it isn't, the same place.
 pub enum Freshness {
     Fresh,
     NotFresh(Place),

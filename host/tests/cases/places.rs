@@ -217,6 +217,16 @@ fn after_closings() -> Vec<Case> {
         .collect()
 }
 
+/// The step of each row, behind so many of the file's lines.
+fn stepped(name: &str, file: &[&str], rows: &[(usize, &str, &'static str)]) -> Vec<Case> {
+    let mut cases = Vec::new();
+    for &(count, step, reply) in rows {
+        let name = format!("places: {name}{step} after {count} lines");
+        cases.push(case(&name, with_more(&file[..count], &[step]), reply));
+    }
+    cases
+}
+
 /// In the first alternative z is taken as fresh, so that all places have been
 /// looked at before they are cut back. The step follows the first so many lines.
 fn after_a_test_and_closings() -> Vec<Case> {
@@ -252,12 +262,7 @@ fn after_a_test_and_closings() -> Vec<Case> {
         (14, ext_w, "no,13,15,0,0,0,0,6"),
         (14, ext_z, "no,13,15,0,0,0,0,5"),
     ];
-    rows.into_iter()
-        .map(|(count, step, reply)| {
-            let name = format!("places: z tried, {step} after {count} lines");
-            case(&name, with_more(&file[..count], &[step]), reply)
-        })
-        .collect()
+    stepped("z tried, ", &file, &rows)
 }
 
 /// w comes in with the second of three nested splits, u with the first. The
@@ -290,12 +295,7 @@ fn between_splits() -> Vec<Case> {
         (10, "S,ext,1,0,0,1", "no,13,11,0,0,0,0,3"),
         (11, "S,ext,1,0,0,1", "no,13,12,0,0,0,0,3"),
     ];
-    rows.into_iter()
-        .map(|(count, step, reply)| {
-            let name = format!("places: {step} after {count} lines");
-            case(&name, with_more(&file[..count], &[step]), reply)
-        })
-        .collect()
+    stepped("", &file, &rows)
 }
 
 /// The second alternative of `rdm` holds w, the reference written, and waits.
@@ -471,7 +471,7 @@ fn no_rfv() -> Vec<Case> {
     cases
 }
 
-/// The place stays 0 where a check before 13 is broken, and comes before 14.
+/// The place is 0 where a check before 13 is broken; 13 comes before 14.
 fn other_numbers() -> Vec<Case> {
     let file = [
         U,               // 1
@@ -561,10 +561,7 @@ fn used_again_by_ext() -> Vec<Case> {
         lines(&file),
         "yes,0,0,3,1,7,4,0",
     )];
-    for (count, step, reply) in rows {
-        let name = format!("places: two witnesses, {step} after {count} lines");
-        cases.push(case(&name, with_more(&file[..count], &[step]), reply));
-    }
+    cases.extend(stepped("two witnesses, ", &file, &rows));
     cases
 }
 

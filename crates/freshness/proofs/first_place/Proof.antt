@@ -30,7 +30,7 @@ returns c table R e first =
     let s = l .before in
     let z : l .loop .i + 1 ≡ 1 + l .loop .i = omega arith in
     z ∙ sym (ap placeOrZero (first-at unpackLiteral (at table) (s .args .w .0) (s .args .branch .now) 1 (l .loop .i) (s .args .len) (omega arith) (omega (arith, s .pre))
-    (l .loop .inv .1 table R e first) (sym (m .mentions .ensures table R e first) ∙ c .if1 .taken)))
+    (l .loop .inv .1 table R e first) (sym (m .literal-mentions .ensures table R e first) ∙ c .if1 .taken)))
 
 loop-again : tie.Need-loop-again Inv-loop μ-loop
 loop-again c =
@@ -38,7 +38,7 @@ loop-again c =
     let l = m .before .before .before in (
       omega arith,
       λ table R e first. rw (add-one (l .loop .i)) (mentioned-one-more unpackLiteral (at table) (l .before .args .w .0) (l .before .args .branch .now) (l .loop .i) (omega (arith, l .before .pre))
-          ∙ (λ p. l .loop .inv .1 table R e first p || (sym (m .mentions .ensures table R e first) ∙ c .if1 .left) p)),
+          ∙ (λ p. l .loop .inv .1 table R e first p || (sym (m .literal-mentions .ensures table R e first) ∙ c .if1 .left) p)),
     )
 
 returns-2 : tie.Need-returns-2 Inv-loop μ-loop

@@ -1,6 +1,6 @@
 -- w is no `rfv`; or it is one, and its bit decides.
 use mathlib.Core.Path.{_≡_, sym, _∙_, ap}
-use mathlib.Core.Bool.{true, false, _||_}
+use mathlib.Core.Bool.{true, _||_}
 use mathlib.Core.List.{map}
 use Prim.Native.Nat.{_≤_}
 use native.Mathlib.Omega.{arith}

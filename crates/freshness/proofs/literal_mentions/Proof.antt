@@ -6,8 +6,8 @@ use lib.ListN.{length}
 use Rattle.packing.specs.Packing.{unpackLiteral, leftIn, rightIn}
 use Rattle.freshness.specs.Prefixes.{SideRow}
 use Rattle.freshness.proofs.PrefixLaws.{sides-bit}
-use Rattle.freshness.proofs.mentions.Statement.{statement}
-use Rattle.freshness.proofs.mentions.Tie as tie
+use Rattle.freshness.proofs.literal_mentions.Statement.{statement}
+use Rattle.freshness.proofs.literal_mentions.Tie as tie
 
 left-read : tie.Need-element-copy-out-has-bit
 left-read c = omega (arith, c .before .before .side-row .ensures .made, c .before .before .before .before .before .pre)
@@ -25,8 +25,8 @@ returns c table R e first =
     let M : SideRow (length table) (rightIn x) (r .side-row2 .result) = rw (e, ← r .before .packed-right .ensures .0) (r .side-row2 .ensures) in
     c .has-bit .ensures ∙ sides-bit table _ x _ _ R L M (s .args .w .0) first (omega (arith, s .pre)) (omega (arith, s .pre))
 
-pub mentions-spec : {M : Type 1} → statement M
-mentions-spec =
+pub literal-mentions-spec : {M : Type 1} → statement M
+literal-mentions-spec =
     tie.close
     (tie.spec
     (λ c κs. search needs)
