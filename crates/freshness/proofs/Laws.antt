@@ -1,11 +1,12 @@
 -- When a term or a branch mentions w, and where first.
 use mathlib.Core.Path.{_≡_, refl, sym, _∙_, ap}
-use mathlib.Core.Bool.{Bool, true, false, _||_, or-false, or-assoc, true≢false, false≢true}
-use mathlib.Core.List.{List, [], _∷_, _++_, map}
+use mathlib.Core.Bool.{Bool, true, false, _||_, true≢false, false≢true}
+use mathlib.Core.List.{List, [], _∷_, _++_, map, map-append}
 use mathlib.Core.Option.{Option, none, some}
 use Prim.Native.Nat.{ℕ, zero, suc, _+_, _<_, _≤_}
 use native.Mathlib.Omega.{arith}
 use lib.ListN.{length, take, getD}
+use lib.Seq.{take-suc}
 use borrow.Author.Tests.{ne-eqb}
 use Rattle.tableau.specs.declared.Freshness.{Freshness}
 use Rattle.tableau.specs.Basics.{isSome}
@@ -13,7 +14,7 @@ use Rattle.tableau.specs.Fields.{arguments}
 use Rattle.tableau.specs.Terms.{Place, TermNo, Table, Term, Literal, literal, Disjunct, Clauses, disjuncts, at, layer, toDepth, fold, mentions, mentionedIn, placeFrom, firstPlace, mentioned}
 use Rattle.tableau.specs.Steps.{isRfv, notFresh, freshIf, freshness}
 use Rattle.tableau.proofs.Bools.{clash}
-use Rattle.tableau.proofs.FirstPlace.{mentioned-more, not-mentioned}
+use Rattle.tableau.proofs.FirstPlace.{not-mentioned, mentioned-last}
 use Rattle.tableau.proofs.TableGrowth.{at-zero, at-beyond}
 use Rattle.packing.specs.Packing.{leftIn, rightIn}
 use Rattle.mentions.proofs.MentionLaws.{mentions-zero}
@@ -42,22 +43,12 @@ in-sides table w (literal R m n) = refl
 -- a literal more on the branch
 pub mentioned-one-more : (f : ℕ → Literal) (table : TermNo → Term) (w : TermNo) (b : List ℕ) (i : ℕ) → i < length b
     → mentioned table w (map f (take (suc i) b)) ≡ mentioned table w (map f (take i b)) || mentionedIn table w (f (getD b i 0))
-unfolding placeFrom
-mentioned-one-more f table w [] i h = absurd (omega arith)
-mentioned-one-more f table w (x ∷ b) zero h = mentioned-more table w (f x) [] ∙ or-false (mentionedIn table w (f x))
-mentioned-one-more f table w (x ∷ b) (suc i) h =
-    let m = mentionedIn table w (f x) in
-    mentioned-more table w (f x) (map f (take (suc i) b)) ∙ ap (λ r. m || r) (mentioned-one-more f table w b i (omega arith)) ∙ sym (or-assoc m _ _)
-    ∙ ap (λ r. r || mentionedIn table w (f (getD b i 0))) (sym (mentioned-more table w (f x) (map f (take i b))))
+mentioned-one-more f table w b i h =
+    ap (λ (ls : List Literal). mentioned table w ls) (ap (map f) (take-suc b i 0 h) ∙ map-append f (take i b) (getD b i 0 ∷ [])) ∙ mentioned-last table w (map f (take i b)) (f (getD b i 0))
 
 -- a literal more in the clauses
 pub mentioned-after : (table : TermNo → Term) (w : TermNo) (C : Clauses) (d : Disjunct) → mentioned table w (disjuncts (C ++ (d ∷ []))) ≡ (mentioned table w (disjuncts C) || mentionedIn table w (d .is))
-unfolding placeFrom
-mentioned-after table w [] d = mentioned-more table w (d .is) [] ∙ or-false (mentionedIn table w (d .is))
-mentioned-after table w (x ∷ C) d =
-    let m = mentionedIn table w (x .is) in
-    mentioned-more table w (x .is) (disjuncts (C ++ (d ∷ []))) ∙ ap (λ r. m || r) (mentioned-after table w C d) ∙ sym (or-assoc m _ _)
-    ∙ ap (λ r. r || mentionedIn table w (d .is)) (sym (mentioned-more table w (x .is) (disjuncts C)))
+mentioned-after table w C d = ap (λ (ls : List Literal). mentioned table w ls) (map-append (λ x. x .is) C (d ∷ [])) ∙ mentioned-last table w (disjuncts C) (d .is)
 
 -- THE FIRST PLACE, counted from k: that of literal i, which mentions w, where none of the i before it does
 pub first-at : (f : ℕ → Literal) (table : TermNo → Term) (w : TermNo) (b : List ℕ) (k : Place) (i n : ℕ) → i < n → i < length b

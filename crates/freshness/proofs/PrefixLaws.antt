@@ -1,16 +1,16 @@
 -- The rows of a branch's first literals: where they begin, what keeps them, and the row of one literal more.
 use mathlib.Core.Path.{_≡_, refl, sym, _∙_, ap}
-use mathlib.Core.Bool.{Bool, true, false, _||_, not, or-assoc}
+use mathlib.Core.Bool.{Bool, true, false, _||_, or-assoc}
 use mathlib.Core.List.{List, [], _∷_, _++_}
 use mathlib.Core.Logic.{⊎-elim}
-use Prim.Native.Nat.{ℕ, zero, _+_, _*_, _/_, _%_, _<_, _≤_}
+use Prim.Native.Nat.{ℕ, _+_, _*_, _/_, _%_, _<_, _≤_}
 use native.Mathlib.Nat.{eq-or-lt-of-le}
 use native.Mathlib.Numerals.{add-one}
 use native.Mathlib.Omega.{arith}
 use lib.Bits.{bitOr}
 use lib.ListN.{length, take, getD, set, replicate, length-append, length-replicate, getD-replicate}
 use lib.Seq.{take-take, getD-set-other}
-use Rattle.tableau.specs.Terms.{TermNo, ClauseNo, Table, Literal, Clauses, disjuncts, at, mentions, mentionedIn, placeFrom, mentioned, maxTerms}
+use Rattle.tableau.specs.Terms.{TermNo, ClauseNo, Table, Literal, Clauses, disjuncts, at, mentionedIn, placeFrom, mentioned, maxTerms}
 use Rattle.packing.specs.Packing.{unpackLiteral, leftIn, rightIn}
 use Rattle.mentions.specs.Mentions.{row, bitAt, rowBit, MentionRows, Filled}
 use Rattle.mentions.proofs.BitLaws.{bit-or, bit-zero}

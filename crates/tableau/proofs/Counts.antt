@@ -17,13 +17,13 @@ use Rattle.tableau.specs.File.{Line, rank, shape, letters, split, LF}
 use Rattle.tableau.specs.Words.{words, relations, ruleNames, Command, make, assume, disjoin, infer, commandOf}
 use Rattle.tableau.specs.Terms.{lastClause}
 use Rattle.tableau.specs.Rules.{rule}
-use Rattle.tableau.specs.Tree.{Checked, refused, passed, Tree, Status, isOpen, isClosed, requireFresh, answer, alternatives, grown}
+use Rattle.tableau.specs.Tree.{Checked, refused, passed, Tree, requireFresh, answer, alternatives, grown}
 use Rattle.tableau.specs.Reply.{refusalOf, reasonNumber, Counts, State, start, termLine, literalLine, assumed, disjoined, stepLine, isClosing, counted}
-use Rattle.tableau.specs.Reply.{runOpen, runRead, runLine, runLines, Verdict, accept, refuse, atEnd, verdictOn, verdict, replyOf, reply}
+use Rattle.tableau.specs.Reply.{runOpen, runRead, runLine, runLines, Verdict, accept, refuse, verdictOn, verdict, replyOf, reply}
 use Rattle.tableau.specs.Claims.{hasLetter, closesBranch, countIf, countClauses, CountsOf, RightCounts}
 use Rattle.tableau.proofs.Bools.{both-true, one-true}
 use Rattle.tableau.proofs.Checks.{lookup-agree, some-of-some, LinePassed, Run, done, next, Accepted, verdict-cases, file-accepted}
-use Rattle.tableau.proofs.Refusals.{OfReason, reasons, reason-fits}
+use Rattle.tableau.proofs.Refusals.{reason-fits, OfReason, OfVerdict, end-reason, reasons}
 use Rattle.tableau.proofs.ClauseLaws.{no-clauses, run-in-sequence, run-clauses}
 
 -- THE COUNTS
@@ -95,8 +95,7 @@ abbrev InRange : Reason → Type 0
 InRange r = (eqb (reasonNumber r) 21 || (leb 1 (reasonNumber r) && leb (reasonNumber r) 17)) ≡ true
 
 abbrev VerdictInRange : Verdict → Type 0
-VerdictInRange (accept c) = Unit {0}
-VerdictInRange (refuse r i) = InRange r
+VerdictInRange = OfVerdict (λ i. InRange)
 
 fresh-range : (b : Bool) (f : Freshness) → OfReason InRange (requireFresh b f)
 unfolding refusalOf
@@ -115,17 +114,12 @@ line-range : (σ : State) (bs : List ℕ) → OfReason InRange (runLine σ bs)
 unfolding runRead refusalOf
 line-range σ bs = search (reasons, step-range) depth 12
 
-end-range : (σ : State) (s : Status) (i : ℕ) → VerdictInRange (atEnd σ s i)
-unfolding refusalOf
-end-range σ (isOpen τ) i = refl
-end-range σ isClosed i = tt
-
 lines-range : (ls : List (List ℕ)) (i : ℕ) (m : Checked State) → OfReason InRange m → VerdictInRange (verdictOn (runLines runLine ls i m))
 unfolding runLines refusalOf
 lines-range [] i (refused r) h = h
-lines-range [] i (passed σ) h = end-range σ (σ .status) i
+lines-range [] i (passed σ) h = end-reason (λ i. InRange) (λ i. refl) σ (σ .status) i
 lines-range (l ∷ ls) i (refused r) h = h
-lines-range ([] ∷ []) i (passed σ) h = end-range σ (σ .status) i
+lines-range ([] ∷ []) i (passed σ) h = end-reason (λ i. InRange) (λ i. refl) σ (σ .status) i
 lines-range ((b ∷ bs) ∷ []) i (passed σ) h = refl
 lines-range (l ∷ m ∷ ls) i (passed σ) h = lines-range (m ∷ ls) (suc i) (runLine σ l) (line-range σ l)
 

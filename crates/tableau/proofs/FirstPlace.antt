@@ -1,7 +1,7 @@
 -- The first place whose literal mentions w: there w is mentioned, and at none before.
 use mathlib.Core.Path.{_≡_, refl, sym, _∙_, ap, subst}
-use mathlib.Core.Bool.{Bool, true, false, _||_, cond}
-use mathlib.Core.List.{List, [], _∷_}
+use mathlib.Core.Bool.{Bool, true, false, _||_, cond, or-false, or-assoc}
+use mathlib.Core.List.{List, [], _∷_, _++_}
 use mathlib.Core.Logic.{⊎-elim}
 use mathlib.Core.Option.{none, some}
 use Prim.Native.Nat.{ℕ, zero, suc, _+_, _<_}
@@ -27,19 +27,31 @@ module _ (table : TermNo → Term) (w : TermNo) where
   pub not-mentioned : (l : Literal) (ls : List Literal) → mentioned table w (l ∷ ls) ≡ false → (mentionedIn table w l ≡ false) × (mentioned table w ls ≡ false)
   not-mentioned l ls h = both-false (mentionedIn table w l) _ (sym (mentioned-more l ls) ∙ h)
 
+  -- or if those but the last do, or the last does
+  pub mentioned-last : (ls : List Literal) (l : Literal) → mentioned table w (ls ++ (l ∷ [])) ≡ (mentioned table w ls || mentionedIn table w l)
+  unfolding placeFrom
+  mentioned-last [] l = mentioned-more l [] ∙ or-false (mentionedIn table w l)
+  mentioned-last (x ∷ ls) l =
+      let m = mentionedIn table w x in
+      mentioned-more x (ls ++ (l ∷ [])) ∙ ap (λ r. m || r) (mentioned-last ls l) ∙ sym (or-assoc m _ _) ∙ ap (λ r. r || mentionedIn table w l) (sym (mentioned-more x ls))
+
   pub mentioned-none : mentioned table w [] ≡ false
   unfolding placeFrom
   mentioned-none = refl
 
 module _ (table : Table) (w : TermNo) where
-  -- the first place of a branch with one literal more before it, which does not mention w
+  -- behind a literal that does not mention w, a place that does is one of the others'
+  of-others : (l : Literal) (B : List Literal) → mentionedIn (at table) w l ≡ false → (q : Place) → MentionsAt table (l ∷ B) w q → (k : Place) × (q ≡ suc k) × MentionsAt table B w k
+  of-others l B h zero u = none≢some (u .1)
+  of-others l B h (suc zero) u = clash (u .2) (ap (mentionedIn (at table) w) (sym (some-inj (u .1))) ∙ h)
+  of-others l B h (suc (suc k)) u = (suc k, refl, u)
+
+  -- so the first of them is the next one of the whole
   before-others : (l : Literal) (B : List Literal) (k : ℕ) → mentionedIn (at table) w l ≡ false → FirstMention table B w (suc k) → FirstMention table (l ∷ B) w (suc (suc k))
-  before-others l B k h f = record { here = f .here; noneBefore = none-before }
-    where
-      none-before : (q : Place) → q < suc (suc k) → ¬ MentionsAt table (l ∷ B) w q
-      none-before zero m u = none≢some (u .1)
-      none-before (suc zero) m u = clash (u .2) (ap (mentionedIn (at table) w) (sym (some-inj (u .1))) ∙ h)
-      none-before (suc (suc q)) m u = f .noneBefore (suc q) (omega arith) u
+  before-others l B k h f = record {
+    here = f .here;
+    noneBefore = λ q m u. let v = of-others l B h q u in f .noneBefore (v .0) (omega (arith, v .1)) (v .2);
+  }
 
   -- the place that is found, where they count from i
   place-from : (i : Place) (B : List Literal) (p : Place) → placeFrom i (at table) w B ≡ some p → (k : ℕ) × (p ≡ i + k) × FirstMention table B w (suc k)
@@ -76,10 +88,8 @@ module _ (table : Table) (w : TermNo) where
     where
       go : (b : Bool) → mentionedIn (at table) w l ≡ b → cond b (some i) (placeFrom (suc i) (at table) w B) ≡ none
           → (placeFrom (suc i) (at table) w B ≡ none → (q : Place) → ¬ MentionsAt table B w q) → (q : Place) → ¬ MentionsAt table (l ∷ B) w q
-      go b h e later zero u = none≢some (u .1)
-      go true h e later (suc q) u = none≢some (sym e)
-      go false h e later (suc zero) u = clash (u .2) (ap (mentionedIn (at table) w) (sym (some-inj (u .1))) ∙ h)
-      go false h e later (suc (suc q)) u = later e (suc q) u
+      go true h e later q u = none≢some (sym e)
+      go false h e later q u = let v = of-others l B h q u in later e (v .0) (v .2)
 
   pub no-mention : (B : List Literal) → firstPlace (at table) w B ≡ none → (q : Place) → ¬ MentionsAt table B w q
   no-mention = no-place-from 1

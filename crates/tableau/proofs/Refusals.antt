@@ -3,12 +3,12 @@ use mathlib.Core.Path.{_≡_, refl}
 use mathlib.Core.Bool.{Bool, true, false}
 use mathlib.Core.Logic.{_⊎_, inl, inr}
 use mathlib.Core.Option.{Option, none, some}
-use Prim.Native.Nat.{_≤_}
+use Prim.Native.Nat.{ℕ, suc, _≤_}
 use native.Mathlib.Omega.{arith}
 use Rattle.tableau.specs.declared.Place.{Place}
 use Rattle.tableau.specs.declared.Reason.{Reason}
 use Rattle.tableau.specs.Tree.{Checked, refused, passed, _>>=_, _>>_, require, requireSome, Status, isOpen, isClosed}
-use Rattle.tableau.specs.Reply.{refusalOf, reasonNumber, requireOpen}
+use Rattle.tableau.specs.Reply.{refusalOf, reasonNumber, State, requireOpen, Verdict, accept, refuse, atEnd}
 
 pub reason-fits : (r : Reason) → (1 ≤ reasonNumber r) × (reasonNumber r ≤ 21) × ((refusalOf r .place ≡ 0) ⊎ ((p : Place) × (r ≡ Reason.NotFresh p)))
 unfolding refusalOf
@@ -59,5 +59,14 @@ module _ (Q : Reason → Type 0) where
   pub requireOpen-reason : (s : Status) → Q Reason.TreeClosed → OfReason Q (requireOpen s)
   requireOpen-reason (isOpen τ) h = tt
   requireOpen-reason isClosed h = h
+
+-- the same of a verdict, with its line
+abbrev pub OfVerdict : (ℕ → Reason → Type 0) → Verdict → Type 0
+OfVerdict Q (accept c) = Unit {0}
+OfVerdict Q (refuse r i) = Q i r
+
+pub end-reason : (Q : ℕ → Reason → Type 0) → ((i : ℕ) → Q i Reason.BranchOpen) → (σ : State) (s : Status) (i : ℕ) → OfVerdict Q (atEnd σ s i)
+end-reason Q h σ (isOpen τ) i = h (suc i)
+end-reason Q h σ isClosed i = tt
 
 pub ruleset reasons = (bind-reason, next-reason, require-reason, requireSome-reason, requireOpen-reason)

@@ -12,16 +12,16 @@ use Rattle.tableau.specs.declared.Letter.{Letter}
 use Rattle.tableau.specs.declared.Reason.{Reason}
 use Rattle.tableau.specs.declared.Rule.{Rule}
 use Rattle.tableau.specs.Basics.{Four}
-use Rattle.tableau.specs.File.{Line, inOrder, shape, letters, split, LF}
+use Rattle.tableau.specs.File.{Line, shape, letters, split, LF}
 use Rattle.tableau.specs.Words.{Command, make, assume, disjoin, infer, commandOf}
 use Rattle.tableau.specs.Terms.{Place, TermNo, Table, Literal, at, firstPlace, mentioned, Clauses, disjuncts}
 use Rattle.tableau.specs.Steps.{isRfv, freshIf, freshness}
-use Rattle.tableau.specs.Tree.{Checked, refused, passed, _>>=_, _>>_, require, requireSome, Tree, Status, isOpen, isClosed, requireFresh, answer, alternatives, grown}
-use Rattle.tableau.specs.Reply.{refusalOf, State, start, requireOpen, termLine, literalLine, assumed, disjoined, stepLine, runOpen, runRead, runLine, runLines, Verdict, accept, refuse, atEnd, verdictOn, verdict, replyOf, reply}
+use Rattle.tableau.specs.Tree.{Checked, refused, passed, requireSome, Tree, requireFresh, answer, alternatives, grown}
+use Rattle.tableau.specs.Reply.{refusalOf, State, start, requireOpen, termLine, literalLine, assumed, disjoined, stepLine, runOpen, runRead, runLine, runLines, Verdict, accept, refuse, verdictOn, verdict, replyOf, reply}
 use Rattle.tableau.specs.Claims.{allButLast, linesOf, FirstMention, PlaceSays, StepPlace, after, LinePlace, RightPlaces}
 use Rattle.tableau.proofs.Bools.{none≢some}
 use Rattle.tableau.proofs.Checks.{requireSome-is, requireOpen-passed, letterOf, command-letter, verdict-cases}
-use Rattle.tableau.proofs.Refusals.{reason-fits, OfReason, reasons}
+use Rattle.tableau.proofs.Refusals.{reason-fits, OfReason, OfVerdict, end-reason, reasons}
 use Rattle.tableau.proofs.FirstPlace.{first-mention, no-mention}
 
 -- what a reason says of its place, where its number is 13
@@ -98,16 +98,10 @@ line-says σ text = search (reasons, open-place) depth 12
 
 -- THE LINES, behind i others
 abbrev VerdictSays : (ℕ → Place → Type 0) → Verdict → Type 0
-VerdictSays U (accept c) = Unit {0}
-VerdictSays U (refuse r i) = ReasonSays (U i) r
+VerdictSays U = OfVerdict (λ i. ReasonSays (U i))
 
 abbrev PlaceBehind : ℕ → State → List (List ℕ) → ℕ → Place → Type 0
 PlaceBehind i σ ls j p = (k : ℕ) × (j ≡ i + k) × LinePlace σ ls k p
-
-end-says : (U : ℕ → Place → Type 0) (σ : State) (s : Status) (i : ℕ) → VerdictSays U (atEnd σ s i)
-unfolding refusalOf
-end-says U σ (isOpen τ) i = tt
-end-says U σ isClosed i = tt
 
 place-here : (i : ℕ) (σ : State) (l : List ℕ) (ls : List (List ℕ)) (p : Place) → StepPlace σ l p → PlaceBehind i σ (l ∷ ls) (suc i) p
 unfolding after
@@ -132,8 +126,8 @@ place-later i σ σ′ l ls h j p (k, e, u) = (
 
 lines-say : (ls : List (List ℕ)) (i : ℕ) (σ : State) → VerdictSays (PlaceBehind i σ (allButLast ls)) (verdictOn (runLines runLine ls i (passed σ)))
 unfolding runLines refusalOf
-lines-say [] i σ = end-says (PlaceBehind i σ []) σ (σ .status) i
-lines-say ([] ∷ []) i σ = end-says (PlaceBehind i σ []) σ (σ .status) i
+lines-say [] i σ = end-reason (λ j. ReasonSays (PlaceBehind i σ [] j)) (λ j. tt) σ (σ .status) i
+lines-say ([] ∷ []) i σ = end-reason (λ j. ReasonSays (PlaceBehind i σ [] j)) (λ j. tt) σ (σ .status) i
 lines-say ((b ∷ bs) ∷ []) i σ = tt
 lines-say (l ∷ m ∷ ls) i σ = go (runLine σ l) refl (line-says σ l) (lines-say (m ∷ ls) (suc i))
   where

@@ -109,7 +109,7 @@ pub enum Reason {
     BadClause,
 }
 
-// Whether w is fresh; where it isn't, the same place.
+// Whether w is fresh; where it isn't, with the place that the reason `NotFresh` has.
 pub enum Freshness {
     Fresh,
     NotFresh(Place),
