@@ -8,6 +8,7 @@ mod clause_damage;
 mod clause_limits;
 mod clauses;
 mod closable;
+mod counting_damage;
 mod damage;
 mod derivations;
 mod draft;

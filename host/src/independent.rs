@@ -2,7 +2,8 @@
 //! plainness only. Sentences in quotes are the document's. Its rule `fir` is
 //! struck; clauses and the rule `cla` come from the request "Assumptions with
 //! an or in them", the reply's field `place` and the length of the buffer from
-//! "Where is that witness already used?".
+//! "Where is that witness already used?", the rule `fin` from "Finite heaps have
+//! a counting argument".
 
 use LiteralWord::*;
 
@@ -899,6 +900,7 @@ enum Rule {
     Cls,
     Emp,
     Cla,
+    Fin,
 }
 
 fn rule_of_word(word: &[u8]) -> Option<Rule> {
@@ -933,12 +935,13 @@ fn rule_of_word(word: &[u8]) -> Option<Rule> {
         b"cls" => Some(Rule::Cls),
         b"emp" => Some(Rule::Emp),
         b"cla" => Some(Rule::Cla),
+        b"fin" => Some(Rule::Fin),
         _ => None,
     }
 }
 
 /// The column "Uses": "Which fields each rule uses is one fixed table", of
-/// thirty rows without `fir` and with `cla`.
+/// thirty-one rows without `fir` and with `cla` and `fin`.
 fn uses(rule: Rule) -> &'static str {
     match rule {
         Rule::Eqr => "pq",
@@ -971,6 +974,7 @@ fn uses(rule: Rule) -> &'static str {
         Rule::Cls => "pq",
         Rule::Emp => "p",
         Rule::Cla => "t",
+        Rule::Fin => "p",
     }
 }
 
@@ -1174,7 +1178,7 @@ fn close(state: &mut State) {
 }
 
 // ---------------------------------------------------------------------------
-// The thirty rules
+// The thirty-one rules
 // ---------------------------------------------------------------------------
 
 /// What a step adds, or `None` when what its rule needs is not so. Freshness
@@ -1212,6 +1216,7 @@ fn conclude(state: &State, step: &Step) -> Option<Conclusion> {
         Rule::Cls => cls(state, p, q),
         Rule::Emp => emp(state, p),
         Rule::Cla => cla(state, t),
+        Rule::Fin => fin(state, p),
     }
 }
 
@@ -1534,4 +1539,15 @@ fn cla(state: &State, t: u32) -> Option<Conclusion> {
         alternatives.push(vec![lit(literal.left, literal.word, literal.right)]);
     }
     splits(alternatives)
+}
+
+/// "place p holds cup(r,i) eq i with i = img(h,r,f), and cup(i,r) eq r is added"
+fn fin(state: &State, p: u32) -> Option<Conclusion> {
+    let (union, i) = state.sides(p, Eq)?;
+    let (r, i_again) = state.two(union, TermWord::Cup)?;
+    let (_, r_again, _) = state.three(i, TermWord::Img)?;
+    need(i_again == i)?;
+    need(r_again == r)?;
+    let turned = state.find(TermWord::Cup, &[i, r]);
+    adds(vec![maybe(turned, Eq, Some(r))])
 }

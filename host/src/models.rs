@@ -74,6 +74,17 @@ pub struct Search {
     pub first: Option<Model>,
 }
 
+impl Search {
+    fn new() -> Search {
+        Search {
+            found: 0,
+            tried: 0,
+            complete: true,
+            first: None,
+        }
+    }
+}
+
 /// The terms and assumptions of a file.
 pub struct Question {
     assumed: Assumed,
@@ -113,12 +124,7 @@ impl Question {
     /// of them for each number of references and classes. Of two classes in
     /// order class 0 is the lower: their names make no difference.
     pub fn all_models(&self, most: usize) -> Search {
-        let mut search = Search {
-            found: 0,
-            tried: 0,
-            complete: true,
-            first: None,
-        };
+        let mut search = Search::new();
         for references in 1..=2 {
             for classes in 1..=2 {
                 let size = Size {
@@ -129,6 +135,20 @@ impl Question {
                 self.search(&size, most, &mut search);
             }
         }
+        search
+    }
+
+    /// Goes through all heaps with just so many references, fields and classes,
+    /// and all values, but no more than `most` of them.
+    pub fn models_of_size(&self, size: [usize; 3], most: usize) -> Search {
+        let [references, fields, classes] = size;
+        let size = Size {
+            references,
+            fields,
+            classes,
+        };
+        let mut search = Search::new();
+        self.search(&size, most, &mut search);
         search
     }
 

@@ -5,10 +5,10 @@ mod cases;
 use cases::{all, Case};
 use std::collections::{BTreeMap, HashSet};
 
-const RULES: [&str; 30] = [
+const RULES: [&str; 31] = [
     "eqr", "eql", "ext", "cpe", "cpi", "cue", "cui", "dfe", "dfi", "sge", "sgi", "cut", "all",
     "nul", "sep", "img", "wit", "ref", "sym", "trn", "sub", "rep", "ler", "let", "lea", "rdh",
-    "rdm", "cls", "emp", "cla",
+    "rdm", "cls", "emp", "cla", "fin",
 ];
 
 /// The refusals that a file can get.
@@ -56,8 +56,8 @@ fn count(file: &[u8], start: &str) -> usize {
 
 /// The count that the documents give.
 #[test]
-fn there_are_2_780_files() {
-    assert_eq!(all().len(), 2_780);
+fn there_are_3_039_files() {
+    assert_eq!(all().len(), 3_039);
 }
 
 #[test]
@@ -185,7 +185,7 @@ fn numbers_of(rule: &str) -> Vec<usize> {
         (11, !uses_no_place),
         (12, !is(&["cut", "ref", "ler", "cla"])),
         (13, is(&["ext", "wit"])),
-        (14, is(&["sgi", "all", "nul", "img", "wit", "rdm"])),
+        (14, is(&["sgi", "all", "nul", "img", "wit", "rdm", "fin"])),
         (15, !is(&["cls", "emp"])),
         (16, is(&["ext", "cue", "sgi", "cut", "img", "rdm", "cla"])),
     ];

@@ -18,7 +18,7 @@ const BATCHES: u64 = 300;
 const WITHOUT_NEEDS: [&str; 4] = ["cut", "ref", "ler", "cla"];
 const WITH_FRESH: [&str; 2] = ["ext", "wit"];
 /// The rules that add a term which no field or premise names.
-const WITH_LOOKUP: [&str; 6] = ["sgi", "all", "nul", "img", "wit", "rdm"];
+const WITH_LOOKUP: [&str; 7] = ["sgi", "all", "nul", "img", "wit", "rdm", "fin"];
 
 #[test]
 fn checkers_agree() {
@@ -44,6 +44,11 @@ fn checkers_agree() {
     assert_eq!(summary.never_refused(&WITH_LOOKUP, 14), Vec::<&str>::new());
     assert!(summary.refused_steps[&(FORMER_RULE, 4)] >= FILES / 200);
     assert!(summary.refused_steps[&("cla", 11)] >= FILES / 400);
+    assert!(summary.rules["fin"] >= FILES / 20);
+    for (number, least) in [(11, 1_000), (12, 40), (14, 1_000), (15, 2_000)] {
+        let count = summary.refused_steps[&("fin", number)];
+        assert!(count >= FILES / least, "{count} with {number}");
+    }
     for places in [0..1, 1..2, 2..10, 10..1_001] {
         let count = summary.with_places(places.clone());
         assert!(count >= FILES / 400, "{count} with places {places:?}");
@@ -65,16 +70,24 @@ const SMALL: &[u8] = b"T,rfv,1,0,0,0\nT,rgv,20,0,0,0\nA,in,1,2,0,0\nA,ni,1,2,0,0
     C,in,1,2,1,0\nC,ni,1,2,1,0\nC,eq,1,1,2,0\n\
     S,ref,0,0,1,0\nS,cla,0,0,1,0\nS,cls,1,2,0,0\nS,cls,1,4,0,0\nS,cut,0,0,1,2\n";
 
+/// A region inside its image, and u in the image alone.
+const COUNTING: &[u8] = b"T,rfv,1,0,0,0\nT,rgv,1,0,0,0\nT,arv,1,0,0,0\nT,fnv,1,0,0,0\n\
+    T,img,3,2,4,0\nT,cup,2,5,0,0\nT,cup,5,2,0,0\nA,eq,6,5,0,0\nA,in,1,5,0,0\nA,ni,1,2,0,0\n\
+    S,fin,1,0,0,0\nS,cui,2,0,7,0\nS,eqr,4,5,0,0\nS,cls,6,3,0,0\n";
+
 /// Every byte of a small file made every other, and every byte put in.
 #[test]
 fn checkers_agree_whatever_the_byte() {
-    for position in 0..=SMALL.len() {
-        for byte in 0..=u8::MAX {
-            let (before, after) = SMALL.split_at(position);
-            expect_agreement(&[before, &[byte], after].concat());
-            expect_agreement(&[before, &[byte], after.get(1..).unwrap_or(&[])].concat());
+    assert_eq!(plain_rust(COUNTING), [0, 0, 7, 3, 4, 1, 0]);
+    for file in [SMALL, COUNTING] {
+        for position in 0..=file.len() {
+            for byte in 0..=u8::MAX {
+                let (before, after) = file.split_at(position);
+                expect_agreement(&[before, &[byte], after].concat());
+                expect_agreement(&[before, &[byte], after.get(1..).unwrap_or(&[])].concat());
+            }
+            expect_agreement(&file[..position]);
         }
-        expect_agreement(&SMALL[..position]);
     }
 }
 
@@ -284,7 +297,59 @@ fn place_beside_another_number(file: &[u8]) -> Numbers {
     reply
 }
 
-const WRONG: [Checker; 16] = [
+/// Where `fin` is refused since the assumption that it names does not fit, what
+/// the file gets with another assumption there.
+fn with_other_premise(file: &[u8], change: fn(&mut [&str])) -> Numbers {
+    let reply = plain_rust(file);
+    let Some(assumption) = misfit_of_fin(file, reply) else {
+        return reply;
+    };
+    let text = String::from_utf8_lossy(file);
+    let changed = text.lines().enumerate().map(|(index, line)| {
+        let mut fields: Vec<&str> = line.split(',').collect();
+        if index == assumption {
+            change(&mut fields);
+        }
+        fields.join(",") + "\n"
+    });
+    plain_rust(changed.collect::<String>().as_bytes())
+}
+
+/// The line of the assumption, from 0, if that is why a file is refused.
+fn misfit_of_fin(file: &[u8], reply: Numbers) -> Option<usize> {
+    let [12, line, ..] = reply else {
+        return None;
+    };
+    let step = lines(file).nth(line as usize - 1)?;
+    let text = std::str::from_utf8(step.strip_prefix(b"S,fin,")?).ok()?;
+    let place: usize = text.split(',').next()?.parse().ok()?;
+    let is_assumption = |(_, line): &(usize, &[u8])| line.starts_with(b"A,");
+    let mut assumptions = lines(file).enumerate().filter(is_assumption);
+    let (index, _) = assumptions.nth(place - 1)?;
+    Some(index)
+}
+
+/// `fin` takes i eq cup(r,i) too.
+fn fin_either_way(file: &[u8]) -> Numbers {
+    with_other_premise(file, |fields| fields.swap(2, 3))
+}
+
+/// `fin` takes cup(r,i) ne i too.
+fn fin_on_a_denial(file: &[u8]) -> Numbers {
+    with_other_premise(file, |fields| fields[1] = "eq")
+}
+
+/// The union that `fin` adds belongs to what it needs.
+fn fin_needs_its_union(file: &[u8]) -> Numbers {
+    let mut reply = plain_rust(file);
+    let step = |line: u32| lines(file).nth(line as usize - 1);
+    if reply[0] == 14 && step(reply[1]).is_some_and(|line| line.starts_with(b"S,fin,")) {
+        reply[0] = 12;
+    }
+    reply
+}
+
+const WRONG: [Checker; 19] = [
     ("yes to all", yes_to_all),
     ("no to all", no_to_all),
     ("60,000 bytes are too many", too_long_early),
@@ -301,6 +366,9 @@ const WRONG: [Checker; 16] = [
     ("places of derived literals", place_among_derived),
     ("always a place", place_never_0),
     ("a place beside 12", place_beside_another_number),
+    ("the sides of fin exchanged", fin_either_way),
+    ("a denial for fin", fin_on_a_denial),
+    ("12 for 14 at fin", fin_needs_its_union),
 ];
 
 /// Alone against what is known beforehand, and beside the plain checker.
@@ -317,4 +385,5 @@ fn wrong_checkers_are_found() {
 fn a_checker_that_accepts_too_much_is_found_by_the_meaning() {
     assert!(try_meaning(("yes to all", yes_to_all), SMALL_TABLEAUX, SEED).is_err());
     assert!(try_meaning(("open trees", open_accepted), SMALL_TABLEAUX, SEED).is_err());
+    assert!(try_meaning(("a denial for fin", fin_on_a_denial), SMALL_TABLEAUX, SEED).is_err());
 }

@@ -2,11 +2,19 @@
 //! text of the files; no checker is run.
 
 use std::collections::{BTreeMap, BTreeSet, HashSet};
+use std::sync::LazyLock;
 
 use host::generator::{batch, not_fresh, refusal, Expected, Sample, FORMER_RULE};
 
-const BATCHES: u64 = 300;
+const BATCHES: u64 = 800;
 const SEED: u64 = 7;
+
+/// The samples of all batches, made once for all tests.
+static SAMPLES: LazyLock<Vec<Sample>> = LazyLock::new(|| {
+    (0..BATCHES)
+        .flat_map(|number| batch(SEED, number))
+        .collect()
+});
 
 /// A line's letter, word and numbers.
 type Line = (String, String, [usize; 4]);
@@ -24,8 +32,8 @@ fn lines(file: &[u8]) -> Vec<Line> {
 }
 
 fn accepted_files() -> Vec<Vec<Line>> {
-    let samples = (0..BATCHES).flat_map(|number| batch(SEED, number));
-    samples
+    SAMPLES
+        .iter()
         .filter(|sample| matches!(sample.expected, Expected::Reply([0, ..])))
         .map(|sample| lines(&sample.bytes))
         .collect()
@@ -173,8 +181,7 @@ fn names_and_places_of_every_length() {
 /// Every kind of damage, of noise and of file at a limit.
 #[test]
 fn every_kind_is_made() {
-    let samples = (0..BATCHES).flat_map(|number| batch(SEED, number));
-    let kinds: BTreeSet<&str> = samples.map(|sample| sample.kind).collect();
+    let kinds: BTreeSet<&str> = SAMPLES.iter().map(|sample| sample.kind).collect();
     for kind in [
         "closed tableau",
         "an alternative left out",
@@ -193,6 +200,11 @@ fn every_kind_is_made() {
         "a clause before an A line",
         "a split of no clause",
         "a clause without its last alternative",
+        "an assumption for fin changed",
+        "fin on its own conclusion",
+        "a fitting step",
+        "a near miss",
+        "a step without its terms",
         "a term looked up left out",
         "a number changed",
         "a line dropped",
@@ -233,10 +245,8 @@ fn every_kind_is_made() {
 /// the steps or after the last, and whatever its fields hold.
 #[test]
 fn the_former_rule_stands_anywhere() {
-    let samples = (0..BATCHES).flat_map(|number| batch(SEED, number));
     let (mut among, mut after, mut as_before, mut changed) = (0, 0, 0, 0);
-    for sample in samples.filter(|sample| sample.kind == "a step by fir") {
-        let file = lines(&sample.bytes);
+    for (sample, file) in samples_of("a step by fir") {
         let is_it = |line: &Line| line.0 == "S" && line.1 == FORMER_RULE;
         let index = file.iter().position(is_it).expect("the step");
         assert_eq!(sample.expected, refusal(4, index + 1));
@@ -256,11 +266,10 @@ fn the_former_rule_stands_anywhere() {
 }
 
 /// The samples of one kind, each with its lines.
-fn samples_of(kind: &str) -> Vec<(Sample, Vec<Line>)> {
-    let samples = (0..BATCHES).flat_map(|number| batch(SEED, number));
+fn samples_of(kind: &str) -> Vec<(&'static Sample, Vec<Line>)> {
+    let samples = SAMPLES.iter().filter(|sample| sample.kind == kind);
     samples
-        .filter(|sample| sample.kind == kind)
-        .map(|sample| (sample.clone(), lines(&sample.bytes)))
+        .map(|sample| (sample, lines(&sample.bytes)))
         .collect()
 }
 
@@ -298,7 +307,7 @@ fn lines_with(file: &[Line], letter: &str, w: usize) -> Vec<usize> {
 fn w_stands_in_several_assumptions() {
     let (mut several, mut first, mut later) = (0, 0, 0);
     for (sample, file) in samples_of("w in assumptions") {
-        let line = refused_line(&sample);
+        let line = refused_line(sample);
         let places = lines_with(&file, "A", file[line - 1].2[3]);
         assert_eq!(sample.expected, not_fresh(line, places[0]));
         several += usize::from(places.len() > 1);
@@ -318,7 +327,7 @@ fn w_stands_in_a_clause_only_or_too() {
         let samples = samples_of(kind);
         assert!(samples.len() >= 5, "{kind}: {}", samples.len());
         for (sample, file) in samples {
-            let line = refused_line(&sample);
+            let line = refused_line(sample);
             let w = file[line - 1].2[3];
             assert_ne!(lines_with(&file, "C", w), [], "{kind}");
             assert_eq!(lines_with(&file, "A", w), [], "{kind}");
@@ -333,7 +342,7 @@ fn w_stands_in_a_clause_only_or_too() {
 fn a_variable_is_taken_again_at_any_time() {
     let (mut at_once, mut later, mut after_closing) = (0, 0, 0);
     for (sample, file) in samples_of("a fresh variable taken twice") {
-        let again = refused_line(&sample) - 1;
+        let again = refused_line(sample) - 1;
         let before = &file[..again];
         let taken = before.iter().rposition(|line| *line == file[again]);
         let between = &before[taken.expect("the first taking") + 1..];
@@ -344,6 +353,102 @@ fn a_variable_is_taken_again_at_any_time() {
     }
     for count in [at_once, later, after_closing] {
         assert!(count >= 5, "{at_once} {later} {after_closing}");
+    }
+}
+
+/// `fin` takes assumptions and derived literals, and helps to close small files
+/// and large ones.
+#[test]
+fn fin_is_varied() {
+    let (mut assumed, mut derived, mut small, mut large) = (0, 0, 0, 0);
+    for file in accepted_files() {
+        let assumptions = file.iter().filter(|line| line.0 == "A").count();
+        let steps = file.iter().filter(|line| line.1 == "fin");
+        let places: Vec<usize> = steps.map(|(_, _, numbers)| numbers[0]).collect();
+        let of_assumptions = places.iter().filter(|place| **place <= assumptions).count();
+        assumed += of_assumptions;
+        derived += places.len() - of_assumptions;
+        small += usize::from(!places.is_empty() && file.len() < 30);
+        large += usize::from(!places.is_empty() && file.len() > 100);
+    }
+    for count in [assumed, derived, small, large] {
+        assert!(count >= 10, "{assumed} {derived} {small} {large}");
+    }
+}
+
+/// The words of a literal and of its sides, whether the left side begins with
+/// what the right side is an image of, and whether it ends with the right side.
+type Premise = (String, String, String, bool, bool);
+
+/// What a single step by `fin` names.
+fn premise_of_fin(file: &[Line]) -> Premise {
+    let term = |number: usize| &file[number - 1];
+    let (_, word, [left, right, ..]) = file.iter().find(|line| line.0 == "A").unwrap();
+    let ((_, left_word, of_left), (_, right_word, of_right)) = (term(*left), term(*right));
+    let begins = of_left[0] == of_right[1];
+    let ends = of_left[1] == *right;
+    (
+        left_word.clone(),
+        word.clone(),
+        right_word.clone(),
+        begins,
+        ends,
+    )
+}
+
+/// Single steps by `fin`, which fit, which lack the union to be added, or whose
+/// premises fail to fit in each way.
+#[test]
+fn fin_nearly_fits_in_every_way() {
+    let premises = |kind: &str| -> BTreeSet<Premise> {
+        let samples = samples_of(kind).into_iter();
+        let by_fin = samples.filter(|(_, file)| file.last().unwrap().1 == "fin");
+        by_fin.map(|(_, file)| premise_of_fin(&file)).collect()
+    };
+    let shape = |left: &str, word: &str, right: &str, begins, ends| {
+        (left.into(), word.into(), right.into(), begins, ends)
+    };
+    let fitting = BTreeSet::from([shape("cup", "eq", "img", true, true)]);
+    assert_eq!(premises("a fitting step"), fitting);
+    assert_eq!(premises("a step without its terms"), fitting);
+    let near = premises("a near miss");
+    assert!(near.is_disjoint(&fitting));
+    for shape in [
+        shape("cup", "ne", "img", true, true),
+        shape("cup", "eq", "img", true, false),
+        shape("cup", "eq", "img", false, true),
+        shape("cup", "eq", "img", false, false),
+        shape("cap", "eq", "img", true, true),
+        shape("img", "eq", "cup", false, false),
+        shape("cup", "eq", "rgv", false, true),
+    ] {
+        assert!(near.contains(&shape), "{shape:?} {near:?}");
+    }
+}
+
+/// An assumption for `fin` is changed in each way, and is refused at the step.
+#[test]
+fn an_assumption_for_fin_is_changed_in_every_way() {
+    let mut changed = BTreeSet::new();
+    for (sample, file) in samples_of("an assumption for fin changed") {
+        let Expected::Reply([12, line, ..]) = sample.expected else {
+            panic!("{:?}", sample.expected);
+        };
+        let (_, rule, [place, ..]) = &file[line as usize - 1];
+        assert_eq!(rule, "fin");
+        let mut assumptions = file.iter().filter(|line| line.0 == "A");
+        let (_, word, [left, right, ..]) = assumptions.nth(*place - 1).unwrap();
+        let term = |number: usize| file[number - 1].1.as_str();
+        changed.insert((term(*left) == "cup", word.clone(), term(*right) == "img"));
+    }
+    let row = |union, word: &str, image| (union, word.to_string(), image);
+    for expected in [
+        row(false, "eq", false),
+        row(true, "ne", true),
+        row(true, "eq", true),
+        row(true, "eq", false),
+    ] {
+        assert!(changed.contains(&expected), "{expected:?} {changed:?}");
     }
 }
 

@@ -1,17 +1,17 @@
 //! The cases of document 01 with a stated reply, and their neighbours. Expected
 //! replies are worked out by hand from the document, its rule `fir` struck, and
-//! from the requests "Assumptions with an or in them" and "Where is that witness
-//! already used?".
+//! from the requests "Assumptions with an or in them", "Where is that witness
+//! already used?" and "Finite heaps have a counting argument".
 
 mod examples;
 
 use examples::{file, rule_files, ALLOCATED, F, G, IMG, OR, RDM, STRUCK, WIT};
 use host::independent::{call, check, reply_line, Reply};
 
-const RULES: [&str; 30] = [
+const RULES: [&str; 31] = [
     "eqr", "eql", "ext", "cpe", "cpi", "cue", "cui", "dfe", "dfi", "sge", "sgi", "cut", "all",
     "nul", "sep", "img", "wit", "ref", "sym", "trn", "sub", "rep", "ler", "let", "lea", "rdh",
-    "rdm", "cls", "emp", "cla",
+    "rdm", "cls", "emp", "cla", "fin",
 ];
 
 fn yes(terms: u32, assumptions: u32, steps: u32, closings: u32) -> Reply {
@@ -604,7 +604,8 @@ fn every_rule_uses_its_fields() {
     // The column "Uses" of the document, written out a second time.
     let table = "eqr pq, eql pq, ext pw, cpe p, cpi pqt, cue p, cui pt, dfe p, dfi pqt, sge p,
                  sgi t, cut tw, all p, nul p, sep pq, img pt, wit pw, ref t, sym p, trn pq,
-                 sub ptw, rep pqt, ler t, let pq, lea pq, rdh t, rdm t, cls pq, emp p, cla t";
+                 sub ptw, rep pqt, ler t, let pq, lea pq, rdh t, rdm t, cls pq, emp p, cla t,
+                 fin p";
     let mut rows = 0;
     for row in table.split(',') {
         let words: Vec<&str> = row.split_whitespace().collect();
@@ -622,7 +623,7 @@ fn every_rule_uses_its_fields() {
             assert_eq!(reply.line, 1);
         }
     }
-    assert_eq!(rows, 30);
+    assert_eq!(rows, 31);
 }
 
 #[test]
@@ -641,7 +642,7 @@ fn no_other_word_is_a_rule() {
             }
         }
     }
-    assert_eq!(rules, 30);
+    assert_eq!(rules, 31);
 }
 
 #[test]
@@ -824,8 +825,11 @@ fn words_of_other_letters() {
         "A,inn,0,0,0,0",
         "A,cla,0,0,0,0",
         "T,cla,0,0,0,0",
+        "A,fin,0,0,0,0",
+        "T,fin,0,0,0,0",
         "C,nul,0,0,0,0",
         "C,cla,0,0,1,0",
+        "C,fin,0,0,1,0",
         "C,inn,0,0,0,0",
         "S,rfv,0,0,0,0",
         "S,in,0,0,0,0",
@@ -1417,6 +1421,312 @@ fn no_place_beside_other_numbers() {
     assert_eq!(check_text(&base), no(17, 12));
     let later = format!("{base} S,cut,0,0,1,3");
     assert_eq!(check_text(&later), no(17, 13));
+}
+
+// ---------------------------------------------------------------------------
+// The rule `fin`
+// ---------------------------------------------------------------------------
+
+/// r is inside its image i, and u is in i alone. Terms: 1 u, 2 r, 3 h, 4 f, 5 i,
+/// 6 cup(r,i), 7 cup(i,r). `fin` is line 11 and adds place 4.
+const INSIDE: [&str; 14] = [
+    "T,rfv,1,0,0,0",
+    "T,rgv,1,0,0,0",
+    "T,arv,1,0,0,0",
+    "T,fnv,1,0,0,0",
+    "T,img,3,2,4,0",
+    "T,cup,2,5,0,0",
+    "T,cup,5,2,0,0",
+    "A,eq,6,5,0,0",  // 1 cup(r,i) eq i
+    "A,in,1,5,0,0",  // 2 u in i
+    "A,ni,1,2,0,0",  // 3 u ni r
+    "S,fin,1,0,0,0", // 4 cup(i,r) eq r
+    "S,cui,2,0,7,0", // 5 u in cup(i,r)
+    "S,eqr,4,5,0,0", // 6 u in r
+    "S,cls,6,3,0,0",
+];
+
+#[test]
+fn a_region_inside_its_image() {
+    assert_eq!(check_lines(&INSIDE), yes(7, 3, 4, 1));
+    assert_eq!(reply_line(&check_lines(&INSIDE)), "yes,0,0,7,3,4,1,0\n");
+    assert_eq!(check_lines(&INSIDE[..11]), no(17, 12));
+    // Without `fin` place 4 holds u in cup(i,r), and nothing is in place 5.
+    assert_eq!(check_lines(&without_line(&INSIDE, 11)), no(11, 12));
+    // r ne i. After `ext`: 3 w in r, 4 w ni i, then 3 w ni r, 4 w in i.
+    let mut lines = INSIDE[..8].to_vec();
+    lines.extend(["A,ne,2,5,0,0", "S,ext,2,0,0,1"]);
+    lines.extend(["S,cui,3,0,6,0", "S,eqr,1,5,0,0", "S,cls,6,4,0,0"]);
+    lines.extend(["S,fin,1,0,0,0", "S,cui,4,0,7,0", "S,eqr,5,6,0,0"]);
+    lines.push("S,cls,7,3,0,0");
+    assert_eq!(check_lines(&lines), yes(7, 2, 8, 2));
+}
+
+#[test]
+fn fin_adds_one_literal() {
+    // It stands on place 4 as cup(i,r) eq r, not with its sides exchanged.
+    let mut lines = INSIDE[..10].to_vec();
+    lines.extend(["A,ne,7,2,0,0", "A,ne,2,7,0,0", "S,fin,1,0,0,0"]);
+    assert_eq!(
+        check_lines(&with_more(&lines, &["S,cls,6,4,0,0"])),
+        yes(7, 5, 2, 1)
+    );
+    assert_eq!(
+        check_lines(&with_more(&lines, &["S,cls,6,5,0,0"])),
+        no(12, 14)
+    );
+    assert_eq!(
+        check_lines(&with_more(&lines, &["S,sym,7,0,0,0"])),
+        no(11, 14)
+    );
+    // Nothing waits: one closing closes the tree, and a second is too many.
+    let closed = with_more(&lines, &["S,cls,6,4,0,0", "S,cls,6,4,0,0"]);
+    assert_eq!(check_lines(&closed), no(5, 15));
+    // Again, and the literal takes another place.
+    let again = with_more(&lines, &["S,fin,1,0,0,0", "S,cls,7,4,0,0"]);
+    assert_eq!(check_lines(&again), yes(7, 5, 3, 1));
+}
+
+#[test]
+fn fin_on_a_derived_place() {
+    // i eq cup(r,i) is turned by `sym`: places 4 and 5, so `cui` adds 6.
+    let mut lines = with_line(&INSIDE[..10], 8, "A,eq,5,6,0,0");
+    assert_eq!(
+        check_lines(&with_more(&lines, &["S,fin,1,0,0,0"])),
+        no(12, 11)
+    );
+    lines.extend(["S,sym,1,0,0,0", "S,fin,4,0,0,0", "S,cui,2,0,7,0"]);
+    lines.extend(["S,eqr,5,6,0,0", "S,cls,7,3,0,0"]);
+    assert_eq!(check_lines(&lines), yes(7, 3, 5, 1));
+    // By a clause, which has no place before it is split.
+    let mut lines = without_line(&INSIDE[..10], 8);
+    lines.extend(["C,eq,6,5,1,0", "S,fin,1,0,0,0"]);
+    assert_eq!(check_lines(&lines), no(12, 11));
+    assert_eq!(
+        check_lines(&with_line(&lines, 11, "S,fin,3,0,0,0")),
+        no(11, 11)
+    );
+    lines.pop();
+    lines.extend(["S,cla,0,0,1,0", "S,fin,3,0,0,0", "S,cui,1,0,7,0"]);
+    lines.extend(["S,eqr,4,5,0,0", "S,cls,6,2,0,0"]);
+    assert_eq!(check_lines(&lines), yes(7, 3, 5, 1));
+    // On what it has added, cup(i,r) eq r.
+    let own = with_line(&INSIDE, 12, "S,fin,4,0,0,0");
+    assert_eq!(check_lines(&own), no(12, 12));
+}
+
+#[test]
+fn fin_in_the_order_of_the_numbers() {
+    for (line, number) in [
+        ("S,fin,1,0,0", 2),
+        ("S,fin,01,0,0,0", 2),
+        ("S,fi,1,0,0,0", 4),
+        // 6 before 11: places and terms in fields that it doesn't use.
+        ("S,fin,1,1,0,0", 6),
+        ("S,fin,1,0,5,0", 6),
+        ("S,fin,1,0,0,1", 6),
+        ("S,fin,0,0,9999,0", 6),
+        ("S,fin,0,0,0,0", 11),
+        ("S,fin,4,0,0,0", 11),
+        ("S,fin,9999,0,0,0", 11),
+        // u in i, u ni r.
+        ("S,fin,2,0,0,0", 12),
+        ("S,fin,3,0,0,0", 12),
+    ] {
+        let reply = check_lines(&with_line(&INSIDE, 11, line));
+        assert_eq!(reply, no(number, 11), "{line}");
+    }
+    // On a closed tree 2 and 4 come first, then 5.
+    for (line, number) in [
+        ("S,fin,1,0,0", 2),
+        ("S,fim,1,0,0,0", 4),
+        ("S,fin,1,0,0,0", 5),
+        ("S,fin,0,9,9,9", 5),
+    ] {
+        let reply = check_lines(&with_more(&INSIDE, &[line]));
+        assert_eq!(reply, no(number, 15), "{line}");
+    }
+}
+
+/// Terms: 1 u, 2 r, 3 s, 4 h, 5 k, 6 f, 7 g, 8 i = img(h,r,f), 9 cup(r,i),
+/// 10 cup(i,r), 11 img(h,s,f), 12 img(k,r,f), 13 img(h,r,g), 14 cup(r,11),
+/// 15 cup(r,12), 16 cup(r,13), 17 cup(s,i), 18 cap(r,i), 19 dif(r,i), 20 emp,
+/// 21 cup(r,s), 22 cup(r,r), 23 cup(i,i), 24 cup(11,r), 25 typ(u), 26 img(h,i,f),
+/// 27 cup(r,26), 28 cup(i,26).
+const IMAGES: &str = "T,rfv,1,0,0,0 T,rgv,1,0,0,0 T,rgv,2,0,0,0 T,arv,1,0,0,0 T,arv,2,0,0,0
+                      T,fnv,1,0,0,0 T,fnv,2,0,0,0 T,img,4,2,6,0 T,cup,2,8,0,0 T,cup,8,2,0,0
+                      T,img,4,3,6,0 T,img,5,2,6,0 T,img,4,2,7,0 T,cup,2,11,0,0
+                      T,cup,2,12,0,0 T,cup,2,13,0,0 T,cup,3,8,0,0 T,cap,2,8,0,0
+                      T,dif,2,8,0,0 T,emp,0,0,0,0 T,cup,2,3,0,0 T,cup,2,2,0,0
+                      T,cup,8,8,0,0 T,cup,11,2,0,0 T,typ,1,0,0,0 T,img,4,8,6,0
+                      T,cup,2,26,0,0 T,cup,8,26,0,0";
+
+#[test]
+fn what_fin_needs() {
+    for (literal, number) in [
+        // Another word, or the sides exchanged.
+        ("A,ne,9,8,0,0", 12),
+        ("A,eq,8,9,0,0", 12),
+        ("A,in,1,8,0,0", 12),
+        ("A,ni,1,9,0,0", 12),
+        ("A,le,25,25,0,0", 12),
+        ("A,eq,1,1,0,0", 12),
+        ("A,eq,4,4,0,0", 12),
+        // Another union on the left: cup(i,r), cup(s,i), cup(i,i), cup(r,r).
+        ("A,eq,10,8,0,0", 12),
+        ("A,eq,17,8,0,0", 12),
+        ("A,eq,23,8,0,0", 12),
+        ("A,eq,22,8,0,0", 12),
+        // No union there, though cap(r,i) eq r and dif(r,i) eq emp mean it.
+        ("A,eq,18,8,0,0", 12),
+        ("A,eq,18,2,0,0", 12),
+        ("A,eq,19,20,0,0", 12),
+        ("A,eq,2,8,0,0", 12),
+        ("A,eq,8,8,0,0", 12),
+        // No image on the right, or not the one in the union: another region,
+        // heap or field.
+        ("A,eq,9,2,0,0", 12),
+        ("A,eq,9,9,0,0", 12),
+        ("A,eq,10,2,0,0", 12),
+        ("A,eq,21,3,0,0", 12),
+        ("A,eq,22,2,0,0", 12),
+        ("A,eq,9,11,0,0", 12),
+        ("A,eq,9,12,0,0", 12),
+        ("A,eq,9,13,0,0", 12),
+        ("A,eq,14,8,0,0", 12),
+        ("A,eq,15,8,0,0", 12),
+        ("A,eq,16,8,0,0", 12),
+        // The same image twice, but that of s, or of i.
+        ("A,eq,14,11,0,0", 12),
+        ("A,eq,27,26,0,0", 12),
+        // All fits, of another heap, another field or i, but no cup(12,r),
+        // cup(13,r) or cup(26,i) stands in the table.
+        ("A,eq,15,12,0,0", 14),
+        ("A,eq,16,13,0,0", 14),
+        ("A,eq,28,26,0,0", 14),
+    ] {
+        let text = format!("{IMAGES} {literal} S,fin,1,0,0,0");
+        assert_eq!(check_text(&text), no(number, 30), "{literal}");
+    }
+    let fits = format!("{IMAGES} A,eq,9,8,0,0 S,fin,1,0,0,0");
+    assert_eq!(check_text(&fits), no(17, 31));
+}
+
+/// Equal terms are not the same term: r eq s is on the branch.
+#[test]
+fn fin_asks_for_the_same_terms() {
+    let base = format!("{IMAGES} A,eq,14,11,0,0 A,eq,2,3,0,0 A,eq,11,8,0,0");
+    assert_eq!(check_text(&format!("{base} S,fin,1,0,0,0")), no(12, 32));
+    // cup(r,img(h,s,f)) eq cup(r,i) by `sub`, and so on: 4 cup(r,11) eq
+    // cup(r,i), 5 its sides exchanged, 6 cup(r,i) eq 11, 7 cup(r,i) eq i.
+    let steps = "S,sub,3,0,14,9 S,sym,4,0,0,0 S,trn,5,1,0,0 S,trn,6,3,0,0";
+    assert_eq!(
+        check_text(&format!("{base} {steps} S,fin,6,0,0,0")),
+        no(12, 36)
+    );
+    assert_eq!(
+        check_text(&format!("{base} {steps} S,fin,7,0,0,0")),
+        no(17, 37)
+    );
+}
+
+#[test]
+fn fin_for_any_region_and_heap() {
+    for (text, terms) in [
+        // r is emp, all, cup(s,s).
+        (
+            "T,emp,0,0,0,0 T,arv,1,0,0,0 T,fnv,1,0,0,0 T,img,2,1,3,0
+             T,cup,1,4,0,0 T,cup,4,1,0,0
+             A,eq,5,4,0,0 A,ne,6,1,0,0",
+            6,
+        ),
+        (
+            "T,all,0,0,0,0 T,arv,1,0,0,0 T,fnv,1,0,0,0 T,img,2,1,3,0
+             T,cup,1,4,0,0 T,cup,4,1,0,0
+             A,eq,5,4,0,0 A,ne,6,1,0,0",
+            6,
+        ),
+        (
+            "T,rgv,1,0,0,0 T,cup,1,1,0,0 T,arv,1,0,0,0 T,fnv,1,0,0,0 T,img,3,2,4,0
+             T,cup,2,5,0,0 T,cup,5,2,0,0
+             A,eq,6,5,0,0 A,ne,7,2,0,0",
+            7,
+        ),
+        // r is img(h,s,f), term 4, and i its image.
+        (
+            "T,rgv,1,0,0,0 T,arv,1,0,0,0 T,fnv,1,0,0,0 T,img,2,1,3,0 T,img,2,4,3,0
+             T,cup,4,5,0,0 T,cup,5,4,0,0
+             A,eq,6,5,0,0 A,ne,7,4,0,0",
+            7,
+        ),
+        // The heap is wri(h,u,f,u), term 5.
+        (
+            "T,rgv,1,0,0,0 T,arv,1,0,0,0 T,fnv,1,0,0,0 T,rfv,1,0,0,0 T,wri,2,4,3,4
+             T,img,5,1,3,0 T,cup,1,6,0,0 T,cup,6,1,0,0
+             A,eq,7,6,0,0 A,ne,8,1,0,0",
+            8,
+        ),
+        // cup(i,r) stands before cup(r,i).
+        (
+            "T,rgv,1,0,0,0 T,arv,1,0,0,0 T,fnv,1,0,0,0 T,img,2,1,3,0
+             T,cup,4,1,0,0 T,cup,1,4,0,0
+             A,eq,6,4,0,0 A,ne,5,1,0,0",
+            6,
+        ),
+    ] {
+        let closed = format!("{text} S,fin,1,0,0,0 S,cls,3,2,0,0");
+        assert_eq!(check_text(&closed), yes(terms, 2, 2, 1), "{text}");
+    }
+}
+
+#[test]
+fn the_union_that_fin_adds_must_stand() {
+    // Without cup(i,r), the last term.
+    let missing = without_line(&INSIDE[..11], 7);
+    assert_eq!(check_lines(&missing), no(14, 10));
+    // 12 before 14.
+    assert_eq!(
+        check_lines(&with_line(&missing, 10, "S,fin,2,0,0,0")),
+        no(12, 10)
+    );
+    // cap(i,r), cup(i,i) and cup(r,r) do not stand in for it.
+    for term in ["T,cap,5,2,0,0", "T,cup,5,5,0,0", "T,cup,2,2,0,0"] {
+        let other = with_line(&INSIDE, 7, term);
+        assert_eq!(check_lines(&other), no(14, 11), "{term}");
+    }
+    // 14 before 15.
+    assert_eq!(check(&filled(&missing, 6, 3, 1_000)), no(14, 6 + 1_000 + 1));
+}
+
+#[test]
+fn limits_beside_fin() {
+    let step = &INSIDE[..11];
+    assert_eq!(check(&filled(step, 7, 3, 999)), no(17, 7 + 999 + 2));
+    assert_eq!(check(&filled(step, 7, 3, 1_000)), no(15, 7 + 1_000 + 1));
+    // 12 before 15.
+    let misfit = with_line(step, 11, "S,fin,2,0,0,0");
+    assert_eq!(check(&filled(&misfit, 7, 3, 1_000)), no(12, 7 + 1_000 + 1));
+    // 200 may wait: it leaves none waiting.
+    let mut text = file(&INSIDE[..10]);
+    text.extend(b"S,cut,0,0,1,2\n".repeat(200));
+    text.extend(b"S,fin,1,0,0,0\n");
+    assert_eq!(check(&text), no(17, 10 + 200 + 2));
+}
+
+/// What `fin` adds mentions what place p does, so it spoils no fresh w anew.
+#[test]
+fn place_beside_fin() {
+    // Terms: 1 w, 2 sin(w), 3 h, 4 f, 5 img(h,2,f), 6 cup(2,5), 7 cup(5,2),
+    // 8 all. Place 1: all ne all.
+    let base = "T,rfv,1,0,0,0 T,sin,1,0,0,0 T,arv,1,0,0,0 T,fnv,1,0,0,0 T,img,3,2,4,0
+                T,cup,2,5,0,0 T,cup,5,2,0,0 T,all,0,0,0,0 A,ne,8,8,0,0";
+    let inside = format!("{base} A,eq,6,5,0,0 S,fin,2,0,0,0 S,ext,1,0,0,1");
+    assert_eq!(check_text(&inside), not_fresh(12, 2));
+    // By a clause: w is on places 2 and 3.
+    let clause = format!("{base} C,eq,6,5,1,0 S,cla,0,0,1,0 S,fin,2,0,0,0 S,ext,1,0,0,1");
+    assert_eq!(check_text(&clause), not_fresh(13, 2));
+    // The terms alone do not spoil it.
+    assert_eq!(check_text(&format!("{base} S,ext,1,0,0,1")), no(17, 11));
 }
 
 // ---------------------------------------------------------------------------

@@ -807,3 +807,141 @@ fn random_heaps_are_of_each_kind() {
         assert!(found > 300, "{found}");
     }
 }
+
+// ---------------------------------------------------------------------------
+// A region inside its image, in all small heaps
+// ---------------------------------------------------------------------------
+
+/// Terms: 1 r, 2 h, 3 f, 4 i = img(h,r,f), 5 cup(r,i), 6 cup(i,r), 7 emp.
+const IMAGE: &str = "T,rgv,1,0,0,0 T,arv,1,0,0,0 T,fnv,1,0,0,0 T,img,2,1,3,0
+                     T,cup,1,4,0,0 T,cup,4,1,0,0 T,emp,0,0,0,0";
+
+/// What `fin` needs and what it adds, each with its denial.
+const INSIDE: &str = "A,eq,5,4,0,0";
+const NOT_INSIDE: &str = "A,ne,5,4,0,0";
+const NOT_LARGER: &str = "A,eq,6,1,0,0";
+const LARGER: &str = "A,ne,6,1,0,0";
+
+/// References with `nul`, fields, classes.
+const SIZES: [[usize; 3]; 8] = [
+    [1, 1, 1],
+    [1, 1, 2],
+    [2, 1, 1],
+    [2, 1, 2],
+    [3, 1, 1],
+    [3, 1, 2],
+    [3, 2, 1],
+    [4, 1, 1],
+];
+
+/// The models among all heaps of these sizes.
+fn models_of_sizes(sizes: &[[usize; 3]], text: &str) -> usize {
+    let lines: Vec<&str> = text.split_whitespace().collect();
+    let question = Question::of_file(&file(&lines)).unwrap();
+    let searches = sizes.iter().map(|size| {
+        let search = question.models_of_size(*size, 100_000);
+        assert!(search.complete, "{size:?}");
+        search.found
+    });
+    searches.sum()
+}
+
+#[test]
+fn all_heaps_of_a_size_are_tried() {
+    // One class and one field. A reference beside `nul` is not allocated, or it
+    // is, and then in r or not: 3 choices. h has 2 times 2 values, or 3 times 3
+    // times 3.
+    assert_eq!(models_of_sizes(&[[2, 1, 1]], IMAGE), 3 * 4);
+    assert_eq!(models_of_sizes(&[[3, 1, 1]], IMAGE), 9 * 27);
+    // Two classes: two orders, dty, and typ of each reference.
+    assert_eq!(models_of_sizes(&[[3, 1, 2]], IMAGE), 9 * 27 * 2 * 2 * 8);
+}
+
+#[test]
+fn a_region_inside_its_image_is_no_smaller() {
+    let count = |literals: &str| models_of_sizes(&SIZES, &format!("{IMAGE} {literals}"));
+    assert_eq!(count(&format!("{INSIDE} {LARGER}")), 0);
+    let inside = count(INSIDE);
+    assert_eq!(count(&format!("{INSIDE} {NOT_LARGER}")), inside);
+    // Also where the region has members.
+    let empty = count(&format!("{INSIDE} A,eq,1,7,0,0"));
+    assert!(empty > 0 && inside > empty, "{empty} {inside}");
+}
+
+/// What `fin` adds isn't so without what it needs, and doesn't give it back.
+#[test]
+fn what_fin_adds_breaks_without_its_need() {
+    let count = |literals: &str| models_of_sizes(&[[3, 1, 1]], &format!("{IMAGE} {literals}"));
+    assert!(count(LARGER) > 0);
+    assert!(count(&format!("{NOT_LARGER} {NOT_INSIDE}")) > 0);
+    // An image needs a second reference to be larger: with `nul` and one more
+    // it never is, so those heaps alone would say nothing of `fin`.
+    let small = |literals: &str| models_of_sizes(&SIZES[..4], &format!("{IMAGE} {literals}"));
+    assert_eq!(small(LARGER), 0);
+    assert!(small(&format!("{NOT_LARGER} {NOT_INSIDE}")) > 0);
+}
+
+/// r inside another region, which may then be larger than r.
+#[test]
+fn another_region_than_the_image_may_be_larger() {
+    for text in [
+        // s. Terms: 1 r, 2 s, 3 cup(r,s), 4 cup(s,r).
+        "T,rgv,1,0,0,0 T,rgv,2,0,0,0 T,cup,1,2,0,0 T,cup,2,1,0,0
+         A,eq,3,2,0,0 A,ne,4,1,0,0",
+        // img(h,s,f), for s. Terms: 5 img, 6 cup(r,5), 7 cup(5,r).
+        "T,rgv,1,0,0,0 T,rgv,2,0,0,0 T,arv,1,0,0,0 T,fnv,1,0,0,0 T,img,3,2,4,0
+         T,cup,1,5,0,0 T,cup,5,1,0,0
+         A,eq,6,5,0,0 A,ne,7,1,0,0",
+        // img(k,r,f) for img(h,r,f). Terms: 5 img(h,r,f), 6 img(k,r,f),
+        // 7 cup(r,5), 8 cup(6,r).
+        "T,rgv,1,0,0,0 T,arv,1,0,0,0 T,arv,2,0,0,0 T,fnv,1,0,0,0
+         T,img,2,1,4,0 T,img,3,1,4,0 T,cup,1,5,0,0 T,cup,6,1,0,0
+         A,eq,7,5,0,0 A,ne,8,1,0,0",
+        // img(h,r,g) for img(h,r,f), of two fields.
+        "T,rgv,1,0,0,0 T,arv,1,0,0,0 T,fnv,1,0,0,0 T,fnv,2,0,0,0
+         T,img,2,1,3,0 T,img,2,1,4,0 T,cup,1,5,0,0 T,cup,6,1,0,0
+         A,eq,7,5,0,0 A,ne,8,1,0,0",
+    ] {
+        let fields = text.matches("T,fnv,").count().max(1);
+        assert!(models_of_sizes(&[[3, fields, 1]], text) > 0, "{text}");
+    }
+}
+
+/// 1 leads to 2, and both are allocated. The image of {1} is {2}: neither is
+/// inside the other. Where 2 leads to 1 besides, {1, 2} is its own image; where
+/// it leads to `nul`, the image {2} is smaller.
+#[test]
+fn images_worked_out_by_hand() {
+    let heap = Heap {
+        references: 3,
+        fields: 1,
+        classes: 1,
+        order: vec![vec![true]],
+        allocated: vec![false, true, true],
+        typ: vec![0; 3],
+        dty: vec![0],
+    };
+    for (region, last, inside, larger) in [
+        (set(&[1]), 0, false, true),
+        (set(&[1, 2]), 1, true, false),
+        (set(&[1, 2]), 0, false, false),
+        (set(&[]), 1, true, false),
+    ] {
+        let values = Values {
+            given: vec![
+                (variable(TermWord::Rgv, 1), Value::Region(region)),
+                (
+                    variable(TermWord::Arv, 1),
+                    Value::HeapValue(vec![vec![0], vec![2], vec![last]]),
+                ),
+                (variable(TermWord::Fnv, 1), Value::Field(0)),
+            ],
+        };
+        for (literal, truth) in [(INSIDE, inside), (LARGER, larger)] {
+            let text = format!("{IMAGE} {literal}");
+            let lines: Vec<&str> = text.split_whitespace().collect();
+            let answer = assumptions(&file(&lines), &heap, &values);
+            assert_eq!(answer, Some(truth), "{values:?} {literal}");
+        }
+    }
+}

@@ -65,6 +65,7 @@ fn by_rule(
         Rule::Cls => closing::cls(p, q),
         Rule::Emp => closing::emp(p, terms),
         Rule::Cla => Outcome::Refused(Reason::NeedNotMet),
+        Rule::Fin => images::fin(p, terms, chains),
     }
 }
 

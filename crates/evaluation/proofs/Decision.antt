@@ -10,7 +10,8 @@ use Rattle.tableau.specs.Terms.{TermNo, Term, Literal, literal, sortIndex}
 use Rattle.tableau.specs.Meaning.{Below, widen, FiniteHeap, Region, Store, Value, reference, region, heap, field, class, kind, asRef, asRegion, asStore, asField, asClass}
 use Rattle.tableau.specs.Meaning.{Values, value, Holds, True, AnyTrue}
 use Rattle.tableau.proofs.Bools.{and-l, and-r, and-i, eqb-same}
-use Rattle.tableau.proofs.Values.{same-eq, same-refl, region-path, asSort, as-sort}
+use Rattle.tableau.proofs.Numbers.{same-eq, same-refl}
+use Rattle.tableau.proofs.Values.{region-path, asSort, as-sort}
 use Rattle.tableau.proofs.Match.{same-sort}
 use Rattle.evaluation.specs.Orders.{each, each-out}
 use Rattle.evaluation.specs.Evaluation.{sameRegion, sameStore, agrees, isEq, holds, isTrue, anyPasses}

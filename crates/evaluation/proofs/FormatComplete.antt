@@ -16,7 +16,7 @@ use Rattle.tableau.specs.Terms.{Name}
 use Rattle.tableau.specs.Meaning.{_or_, Below, same, FiniteHeap, Ref, Class, Values}
 use Rattle.tableau.specs.Reply.{runLines}
 use Rattle.tableau.proofs.Bools.{dec, clash, both-true, both-i, none≢some, some-inj, then-inv, guard-inv}
-use Rattle.tableau.proofs.Values.{same-eq}
+use Rattle.tableau.proofs.Numbers.{same-eq}
 use Rattle.evaluation.specs.declared.FactWord.{FactWord}
 use Rattle.evaluation.specs.declared.FactField.{FactField}
 use Rattle.evaluation.specs.Facts.{factIndex, factFields, Fact, Facts, subjectPart, subjectOf, speaksOf, find}

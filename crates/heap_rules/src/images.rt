@@ -1,4 +1,4 @@
-// The rules of images: img and wit.
+// The rules of images: img, wit and fin.
 use packing::LiteralView;
 use packing::TermView;
 use rules::outcome;
@@ -110,4 +110,31 @@ pub fn wit(
         literal(Relation::Le, c, d),
         literal(Relation::Eq, v, u),
     )
+}
+
+// cup(r,i) eq i with i = img(h,r,f) gives cup(i,r) eq r.
+pub fn fin(p: LiteralView, terms: &[u64; table::NUMBERS], chains: &[u16; table::LINKS]) -> Outcome
+    requires { ⌜ ((table : Table) × SearchableBy (now terms) (now chains) table) ⌝ }
+    requires { ⌜ SmallLiteral p ⌝ }
+    ensures { λ r. ⌜ Concludes (SearchableBy (now (terms .entry)) (now (chains .entry))) Rule.Fin (some (literalOf p)) none 0 0 r ⌝ }
+{
+    let LiteralView::Eq(k, n) = p else {
+        return Outcome::Refused(Reason::NeedNotMet);
+    };
+    let TermView::Cup(r, i) = table::view(terms, k) else {
+        return Outcome::Refused(Reason::NeedNotMet);
+    };
+    if i.0 != n.0 {
+        return Outcome::Refused(Reason::NeedNotMet);
+    }
+    let TermView::Img(_, s, _) = table::view(terms, i) else {
+        return Outcome::Refused(Reason::NeedNotMet);
+    };
+    if r.0 != s.0 {
+        return Outcome::Refused(Reason::NeedNotMet);
+    }
+    let Found::At(m) = searches::on_three(terms, chains, Operator::Cup, i, r, TermNumber(0)) else {
+        return Outcome::Refused(Reason::TermNotMade);
+    };
+    outcome::adds_one(literal(Relation::Eq, m, r))
 }

@@ -1,3 +1,3 @@
-// The rules of images and of heaps: img, wit, rdh, rdm.
+// The rules of images and of heaps: img, wit, fin, rdh, rdm.
 pub mod images;
 pub mod reads;

@@ -11,7 +11,7 @@ use lib.Bits.{bitAnd, bitOr, bitXor, and-le-l, or-lt, xor-lt, and-lt}
 use borrow.Author.Tests.{eqb-true, eq-eqb, ltb-true, ltb-false}
 use Rattle.tableau.specs.Meaning.{_and_, _or_, same, FiniteHeap, Ref, Field, Region, Store, within, image}
 use Rattle.tableau.proofs.Bools.{dec, clash, and-l, and-r, and-i, both-true, both-i}
-use Rattle.tableau.proofs.Values.{any-in, any-out}
+use Rattle.tableau.proofs.Numbers.{any-in, any-out}
 use Rattle.evaluation.specs.Orders.{each-out}
 use Rattle.evaluation.specs.Evaluation.{sameRegion}
 use Rattle.evaluation.proofs.Decision.{each-in, beq-eq, eq-beq}

@@ -16,6 +16,13 @@ dec false = inr refl
 pub clash : {b : Bool} {A : Type 0} → b ≡ true → b ≡ false → A
 clash p q = absurd (true≢false (sym p ∙ q))
 
+-- two tests, of which neither holds without the other
+pub alike : (a b : Bool) → (a ≡ true) ⊎ (a ≡ false) → (b ≡ true) ⊎ (b ≡ false) → (a ≡ true → b ≡ false → ⊥) → (a ≡ false → b ≡ true → ⊥) → a ≡ b
+alike a b (inl p) (inl q) k l = p ∙ sym q
+alike a b (inl p) (inr q) k l = absurd (k p q)
+alike a b (inr p) (inl q) k l = absurd (l p q)
+alike a b (inr p) (inr q) k l = p ∙ sym q
+
 -- of the meaning's `and` and `or`
 pub and-l : (a b : Bool) → a and b ≡ true → a ≡ true
 unfolding _and_
@@ -30,6 +37,11 @@ and-r false b e = absurd (false≢true e)
 pub and-i : {a b : Bool} → a ≡ true → b ≡ true → a and b ≡ true
 unfolding _and_
 and-i {a} {b} p q = λ i. p i and q i
+
+pub and-true : (a b : Bool) → b ≡ true → a and b ≡ a
+unfolding _and_
+and-true true b e = e
+and-true false b e = refl
 
 pub and-false-r : (a b : Bool) → b ≡ false → a and b ≡ false
 unfolding _and_

@@ -1,4 +1,4 @@
--- The replies that document 01 marks, those to the files of the old checker's failings, to those about start-up, with clauses and with a used w, by computation.
+-- The replies that document 01 marks, those to the files of the old checker's failings, to those about start-up, with clauses, with a used w and with `fin`, by computation.
 use mathlib.Core.Path.{refl}
 use mathlib.Core.List.{[], _∷_}
 use Rattle.tableau.specs.Cases.{cases, AllReplies, _⊢_}
@@ -6,6 +6,7 @@ use Rattle.tableau.specs.Failings.{incident, incidentMended, staleWitnes
 use Rattle.tableau.specs.StartUp.{startUpCases}
 use Rattle.tableau.specs.Disjunctions.{clauseCases}
 use Rattle.tableau.specs.UsedWitnesses.{placeCases}
+use Rattle.tableau.specs.InsideImage.{countingCases}
 use Rattle.tableau.proofs.Evaluate.{evaluate}
 
 -- THE CASES MARKED ◆
@@ -36,3 +37,8 @@ clause-replies = refl
 pub place-replies : AllReplies placeCases
 unfolding AllReplies placeCases evaluate
 place-replies = refl
+
+-- a file closed by `fin`; with the image on a wrong side it is refused
+pub counting-replies : AllReplies countingCases
+unfolding AllReplies countingCases evaluate
+counting-replies = refl

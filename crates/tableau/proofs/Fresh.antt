@@ -13,7 +13,7 @@ use Rattle.tableau.specs.Basics.{Four, four}
 use Rattle.tableau.specs.Fields.{Argument, unused, of, arguments, ifArgument}
 use Rattle.tableau.specs.Terms.{TermNo, Name, Term, variable, apply, Literal, literal, sortOf, sameSort, sameRelation, layer, toDepth, fold, mentions, mentionedIn, mentioned, ClauseNo, Clauses, disjuncts, clauseOf}
 use Rattle.tableau.specs.Meaning.{FiniteHeap, Ref, Value, reference, operation, Values, valueOf, value, Holds, True, AllTrue, AnyTrue, EveryClauseTrue}
-use Rattle.tableau.specs.Rules.{Pattern, letter, operator, –, LiteralPattern, pattern, Need, p∶, q∶, t≐, isRegion, letterT, letterW}
+use Rattle.tableau.specs.Rules.{Pattern, letter, operator, –, LiteralPattern, pattern, Need, p∶, q∶, is, isRegion, letterW}
 use Rattle.tableau.specs.Steps.{Letters, fitsLetter, fits, fitsLiteral, termOf, met}
 use Rattle.tableau.proofs.FirstPlace.{mentioned-none, mentioned-more, not-mentioned}
 use Rattle.tableau.proofs.Bools.{both-false, dec, clash, eqb-same, none≢some, some-inj, then-inv, guard-inv}
@@ -203,10 +203,10 @@ module _ (table : TermNo → Term) (wf : WellFormed table) (w : TermNo) (n : Nam
       let L = then-inv Q _ e in
       let f = then-inv (fitsLiteral table l (L .0) σ) _ (L .2) in
       met-clean P Q cp cq ns (f .0) σ′ (f .2) (literal-clean l (L .0) σ (f .0) (f .1) (subst WithoutAny (L .1) cq) h)
-  met-clean P Q cp cq (t≐ k ∷ ns) σ σ′ e h =
-      let m = then-inv (σ letterT) _ e in
+  met-clean P Q cp cq (is y other k ∷ ns) σ σ′ e h =
+      let m = then-inv (σ y) _ e in
       let f = then-inv (fits table k (m .0) σ) _ (m .2) in
-      met-clean P Q cp cq ns (f .0) σ′ (f .2) (fits-clean k (m .0) σ (f .0) (f .1) (h letterT (m .0) refl (m .1)) h)
+      met-clean P Q cp cq ns (f .0) σ′ (f .2) (fits-clean k (m .0) σ (f .0) (f .1) (h y (m .0) other (m .1)) h)
   met-clean P Q cp cq (isRegion k ∷ ns) σ σ′ e h =
       let m = then-inv (termOf table k σ) _ e in
       met-clean P Q cp cq ns σ σ′ (guard-inv (sameSort Sort.Region (sortOf (table (m .0)))) _ (m .2) .1) h

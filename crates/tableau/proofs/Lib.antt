@@ -4,6 +4,8 @@ pub mod Bools
 pub mod Places
 pub mod WellFormed
 pub mod Fold
+pub mod Numbers
+pub mod Counting
 pub mod Values
 pub mod RowMeaning
 pub mod Match

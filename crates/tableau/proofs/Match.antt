@@ -15,7 +15,7 @@ use Rattle.tableau.specs.Basics.{Four, four}
 use Rattle.tableau.specs.Fields.{Argument, unused, of, argumentUse, arguments, ifArgument}
 use Rattle.tableau.specs.Terms.{TermNo, Term, variable, apply, Literal, literal, result, sortOf, sortIndex, operatorIndex, relationIndex, sameSort, sameOperator, sameRelation, layer}
 use Rattle.tableau.specs.Meaning.{FiniteHeap, Value, reference, operation, Values, valueOf, value, Holds, True, kind}
-use Rattle.tableau.specs.Rules.{Pattern, letter, operator, –, LiteralPattern, pattern, Need, p∶, q∶, t≐, isRegion, letterT}
+use Rattle.tableau.specs.Rules.{Pattern, letter, operator, –, LiteralPattern, pattern, Need, p∶, q∶, is, isRegion}
 use Rattle.tableau.specs.Steps.{Letters, fitsLetter, argumentsOf, fits, fitsLiteral, termOf, met}
 use Rattle.tableau.proofs.Bools.{dec, eqb-same, none≢some, some-inj, then-inv, guard-inv}
 use Rattle.tableau.proofs.WellFormed.{OkArgument, OkTerm, WellFormed}
@@ -296,8 +296,8 @@ module _ (table : TermNo → Term) (wf : WellFormed table) (H : FiniteHeap) (ρ 
         let L = then-inv Q _ e in
         let f = then-inv (fitsLiteral table l (L .0) σ) _ (L .2) in
         met-extends ns (f .0) σ′ (f .2) x m (literal-extends l (L .0) σ (f .0) (f .1) x m b)
-    met-extends (t≐ k ∷ ns) σ σ′ e x m b =
-        let n = then-inv (σ letterT) _ e in
+    met-extends (is y other k ∷ ns) σ σ′ e x m b =
+        let n = then-inv (σ y) _ e in
         let f = then-inv (fits table k (n .0) σ) _ (n .2) in
         met-extends ns (f .0) σ′ (f .2) x m (fits-extends table k (n .0) σ (f .0) (f .1) x m b)
     met-extends (isRegion k ∷ ns) σ σ′ e x m b =
@@ -319,12 +319,12 @@ module _ (table : TermNo → Term) (wf : WellFormed table) (H : FiniteHeap) (ρ 
         let f = then-inv (fitsLiteral table l (L .0) σ) _ (L .2) in
         met-value ns (f .0) σ′ (f .2) φ u hp hq G
         (literal-value l (L .0) σ (f .0) (f .1) φ (λ z j b. u z j (met-extends ns (f .0) σ′ (f .2) z j b)) (any-true Q (L .0) (L .1) hq) _ k)
-    met-value (t≐ l ∷ ns) σ σ′ e φ u hp hq G k =
-        let n = then-inv (σ letterT) _ e in
+    met-value (is y other l ∷ ns) σ σ′ e φ u hp hq G k =
+        let n = then-inv (σ y) _ e in
         let f = then-inv (fits table l (n .0) σ) _ (n .2) in
         let u₁ : Under (f .0) φ = λ z j b. u z j (met-extends ns (f .0) σ′ (f .2) z j b) in
         let X = fits-value l (n .0) σ (f .0) (f .1) φ u₁ in
-        let T : φ letterT ≡ val (n .0) = u₁ letterT (n .0) (fits-extends table l (n .0) σ (f .0) (f .1) letterT (n .0) (n .1)) in
+        let T : φ y ≡ val (n .0) = u₁ y (n .0) (fits-extends table l (n .0) σ (f .0) (f .1) y (n .0) (n .1)) in
         met-value ns (f .0) σ′ (f .2) φ u hp hq G (k (X .1) (T ∙ X .0))
     met-value (isRegion l ∷ ns) σ σ′ e φ u hp hq G k =
         let n = then-inv (termOf table l σ) _ e in

@@ -1,6 +1,6 @@
 -- The meaning is not empty: a finite heap, and values of the variables that make all assumed literals of a file true in it.
 use mathlib.Core.Path.{_≡_, refl, ap, _∙_}
-use mathlib.Core.Bool.{Bool, false, cond, not, false≢true}
+use mathlib.Core.Bool.{Bool, true, false, cond, not, false≢true}
 use mathlib.Core.List.{List, [], _∷_}
 use mathlib.Core.Logic.{inl, inr}
 use Prim.Native.Nat.{ℕ, zero, suc, _<_}
@@ -10,14 +10,16 @@ use native.Mathlib.Omega.{arith}
 use lib.ListN.{length}
 use borrow.Author.Tests.{eqb-true, eq-eqb, ne-eqb}
 use Rattle.tableau.specs.Terms.{Name, ClauseNo, Clauses, clauseOf, at}
-use Rattle.tableau.specs.Meaning.{_and_, _or_, Below, same, any, FiniteHeap, Ref, region, within, asRef, asRegion, operation, Values, valueOf, AllTrue, EveryClauseTrue}
+use Rattle.tableau.specs.Meaning.{_and_, _or_, Below, same, any, FiniteHeap, Ref, Region, region, within, image, asRef, asRegion, operation, Values, valueOf, AllTrue, EveryClauseTrue}
 use Rattle.tableau.specs.Claims.{termsIn, literalsIn, clausesIn, termsOf, assumedOf, clausesOf, Model}
 use Rattle.tableau.specs.Cases.{fileOf}
 use Rattle.tableau.specs.Failings.{incident, staleWitness, namesCompared, literalsKept, outsideAll, failings, AllHaveModels}
 use Rattle.tableau.specs.StartUp.{startUp, allocationUnsaid, StartUpModel, StartUpModels}
 use Rattle.tableau.specs.Disjunctions.{noJog, witnessInClause, gapInNumbers, ClauseModels}
+use Rattle.tableau.specs.InsideImage.{insideImage, imageInside, ImageInsideModel}
 use Rattle.tableau.proofs.Evaluate.{evaluate}
-use Rattle.tableau.proofs.Values.{region-path}
+use Rattle.tableau.proofs.Bools.{and-i}
+use Rattle.tableau.proofs.Values.{region-path, union-with-part}
 
 -- Two references.
 abbrev nul : Below 2
@@ -173,3 +175,17 @@ gap-in-numbers-model = model 1 0 nul (tt, go)
 
 pub clause-models : ClauseModels
 clause-models = (no-jog-model, witness-in-clause-model, gap-in-numbers-model)
+
+-- THE IMAGE INSIDE THE REGION: u is in the region, whose image is empty
+pub image-inside-model : ImageInsideModel
+unfolding AssumedTrue insideImage imageInside
+image-inside-model = model 1 0 nul ((ap region adds-nothing, (refl, (refl, tt))), no-clause)
+  where
+    everything : Region oneAllocated
+    everything = within oneAllocated (λ y. true)
+
+    its-image : Region oneAllocated
+    its-image = within oneAllocated (image oneAllocated (λ y f. nul) everything (oneAllocated .aField))
+
+    adds-nothing : within oneAllocated (λ x. its-image .has x or everything .has x) ≡ everything
+    adds-nothing = union-with-part its-image everything (λ x h. and-i {a = oneAllocated .all x} (its-image .inside x h) refl)

@@ -9,7 +9,7 @@ use Rattle.tableau.specs.declared.Rule.{Rule}
 use Rattle.tableau.specs.Basics.{Four, four}
 use Rattle.tableau.specs.Fields.{Use, unused, place, name, side, clause, term, of, Argument, argumentUse, arguments, ifArgument, ruleUses}
 use Rattle.tableau.specs.Meaning.{FiniteHeap, Ref, Value, reference, operation, Holds, kind}
-use Rattle.tableau.specs.Rules.{Pattern, letter, operator, –, LiteralPattern, pattern, Need, p∶, q∶, t≐, isRegion, Row, Kind, rows, congruence, replacement, disjunction, rule, letterT, letterW}
+use Rattle.tableau.specs.Rules.{Pattern, letter, operator, –, LiteralPattern, pattern, Need, p∶, q∶, is, isRegion, Row, Kind, rows, congruence, replacement, disjunction, rule, letterT, letterW}
 
 module _ (H : FiniteHeap) where
   abbrev pub ⟦_⟧ : Pattern → (ℕ → Value H) → Value H
@@ -49,7 +49,7 @@ module _ (H : FiniteHeap) where
   IfMet φ [] G = G
   IfMet φ (p∶ l ∷ ns) G = IfHolds φ l (IfMet φ ns G)
   IfMet φ (q∶ l ∷ ns) G = IfHolds φ l (IfMet φ ns G)
-  IfMet φ (t≐ k ∷ ns) G = Sorted k φ → φ letterT ≡ ⟦ k ⟧ φ → IfMet φ ns G
+  IfMet φ (is x other k ∷ ns) G = Sorted k φ → φ x ≡ ⟦ k ⟧ φ → IfMet φ ns G
   IfMet φ (isRegion k ∷ ns) G = kind (⟦ k ⟧ φ) ≡ Sort.Region → IfMet φ ns G
 
   -- the literals of an alternative cannot all hold

@@ -8,10 +8,12 @@ use Rattle.tableau.specs.declared.Operator.{Operator}
 use Rattle.tableau.specs.declared.Rule.{Rule}
 use Rattle.tableau.specs.Basics.{four}
 use Rattle.tableau.specs.Fields.{arguments, ruleFields}
-use Rattle.tableau.specs.Meaning.{_and_, same, FiniteHeap, Ref, Value, reference, region, field, class, asRef, asRegion, asStore, asField, asClass, operation, isIn}
-use Rattle.tableau.specs.Rules.{rule, letterA, letterB, letterF, letterG, letterH, letterR, letterS, letterT, letterU, letterV, letterW, letterY}
-use Rattle.tableau.proofs.Bools.{and-l, and-r, and-i, or-e, or-i1, or-i2, and-false-r, and-false-of, dec, clash}
-use Rattle.tableau.proofs.Values.{same-eq, same-refl, any-out, any-in, region-path, is-ref, is-class, as-ref, as-region, as-field, kind-class}
+use Rattle.tableau.specs.Meaning.{_and_, _or_, same, FiniteHeap, Ref, Region, Field, Store, Value, reference, region, field, class, asRef, asRegion, asStore, asField, asClass, within, image, operation, isIn}
+use Rattle.tableau.specs.Rules.{rule, letterA, letterB, letterF, letterG, letterH, letterI, letterR, letterS, letterT, letterU, letterV, letterW, letterY}
+use Rattle.tableau.proofs.Bools.{and-l, and-r, and-i, or-e, or-i1, or-i2, and-false-r, and-false-of, alike, dec, clash}
+use Rattle.tableau.proofs.Numbers.{same-eq, same-refl, any-out, any-in}
+use Rattle.tableau.proofs.Values.{region-path, union-with-part, is-ref, is-class, as-ref, as-region, as-field, kind-class}
+use Rattle.tableau.proofs.Counting.{Onto, onto-no-more, no-more-than-part}
 use Rattle.tableau.proofs.RowMeaning.{RuleSound}
 
 module _ (H : FiniteHeap) where
@@ -22,12 +24,6 @@ module _ (H : FiniteHeap) where
   -- what is in a region is in `all`
   in-all : (φ : ℕ → Value H) (r : Value H) → isIn (φ letterU) r ≡ true → H .all (asRef (φ letterU)) ≡ true
   in-all φ r h = asRegion r .inside (asRef (φ letterU)) (and-r _ _ h)
-
-  alike : (a b : Bool) → (a ≡ true) ⊎ (a ≡ false) → (b ≡ true) ⊎ (b ≡ false) → (a ≡ true → b ≡ false → ⊥) → (a ≡ false → b ≡ true → ⊥) → a ≡ b
-  alike a b (inl p) (inl q) k l = p ∙ sym q
-  alike a b (inl p) (inr q) k l = absurd (k p q)
-  alike a b (inr p) (inl q) k l = absurd (l p q)
-  alike a b (inr p) (inr q) k l = p ∙ sym q
 
   eqr : RuleSound H Rule.Eqr
   unfolding rule ruleFields
@@ -217,6 +213,27 @@ module _ (H : FiniteHeap) where
   unfolding rule ruleFields operation
   emp = (λ φ _ _ _ _ i. false≢true (and-r _ _ (and-r _ _ i)), tt)
 
+  -- every member of the image is what h gives for a member of r, so the image has at most as many members; where r is inside, it is all of the image
+  inside-image : (h : Store H) (r : Region H) (f : Field H) → ((x : Ref H) → r .has x ≡ true → within H (image H h r f) .has x ≡ true)
+      → (x : Ref H) → within H (image H h r f) .has x ≡ true → r .has x ≡ true
+  inside-image h r f inside = no-more-than-part (H .references) (r .has) (within H (image H h r f) .has) inside
+      (onto-no-more (H .references) (λ a. h a f) (r .has) (within H (image H h r f) .has)
+      (λ x i. let a = any-out (H .references) _ (and-r _ _ i) in (a .0, and-l _ _ (and-l _ _ (a .1)), same-eq _ _ (and-r _ _ (a .1)))))
+
+  fin : RuleSound H Rule.Fin
+  unfolding rule ruleFields operation arguments
+  fin = (
+    λ φ _ _ o _ e _ q k.
+        let r = asRegion (φ letterR) in
+        let i = asRegion (φ letterI) in
+        let is-image : (x : Ref H) → i .has x ≡ within H (image H (asStore (φ letterH)) r (asField (φ letterF))) .has x = λ x. ap (λ s. asRegion s .has x) q in
+        let inside : (x : Ref H) → r .has x ≡ true → i .has x ≡ true = λ x h. subst (λ s. asRegion s .has x ≡ true) e (and-i (r .inside x h) (or-i1 _ _ h)) in
+        let back : (x : Ref H) → i .has x ≡ true → r .has x ≡ true
+        = λ x h. inside-image (asStore (φ letterH)) r (asField (φ letterF)) (λ y g. sym (is-image y) ∙ inside y g) x (sym (is-image x) ∙ h) in
+        k (ap region (union-with-part i r back) ∙ sym (as-region (φ letterR) (o .0 .0))),
+    tt,
+  )
+
   -- EVERY RULE (`sub`, `rep` and `cla` are no rows: see StepSound)
   pub rules-sound : (x : Rule) → RuleSound H x
   unfolding rule ruleFields
@@ -250,3 +267,4 @@ module _ (H : FiniteHeap) where
   rules-sound Rule.Cls = cls
   rules-sound Rule.Emp = emp
   rules-sound Rule.Cla = refl
+  rules-sound Rule.Fin = fin

@@ -1,52 +1,11 @@
 -- Facts on values.
-use mathlib.Core.Path.{_≡_, refl, sym, _∙_, ap}
-use mathlib.Core.Bool.{Bool, true, false, Bool-set, false≢true}
+use mathlib.Core.Path.{_≡_, refl, _∙_, ap}
+use mathlib.Core.Bool.{true, Bool-set, false≢true}
 use mathlib.Core.HLevel.{isProp→PathP, Π-prop}
-use mathlib.Core.Logic.{_⊎_, inl, inr}
-use Prim.Native.Nat.{ℕ, zero, suc, _<_}
-use native.Mathlib.Nat.{lt-suc-self, not-suc-le-zero}
-use native.Mathlib.Decide.{Fin·val-path}
-use native.Mathlib.Omega.{arith}
-use lib.Dec.{eqb}
-use borrow.Author.Tests.{eqb-true}
+use mathlib.Core.Logic.{inl, inr}
 use Rattle.tableau.specs.declared.Sort.{Sort}
-use Rattle.tableau.specs.Meaning.{Below, same, widen, any, FiniteHeap, Region, Ref, Value, reference, region, heap, field, class, kind, isRef, isClass, asRef, asRegion, asStore, asField, asClass}
-use Rattle.tableau.proofs.Bools.{or-e, or-i1, or-i2, dec, clash, eqb-same}
-
-pub same-eq : {n : ℕ} (x y : Below n) → same x y ≡ true → x ≡ y
-same-eq {n} x y e = Fin·val-path {n = n} {i = x} {j = y} (eqb-true (x .0) (y .0) e)
-
-pub same-refl : {n : ℕ} (x : Below n) → same x x ≡ true
-same-refl x = eqb-same (x .0)
-
--- `any` finds one, and misses none
-pub any-out : (n : ℕ) (f : Below n → Bool) → any n f ≡ true → (x : Below n) × (f x ≡ true)
-unfolding any
-any-out zero f e = absurd (false≢true e)
-any-out (suc n) f e = go (any-out n (λ x. f (widen x))) (or-e _ _ e)
-  where
-    go : (any n (λ x. f (widen x)) ≡ true → (x : Below n) × (f (widen x) ≡ true))
-        → (f (n, lt-suc-self n) ≡ true) ⊎ (any n (λ x. f (widen x)) ≡ true) → (x : Below (suc n)) × (f x ≡ true)
-    go ih (inl p) = ((n, lt-suc-self n), p)
-    go ih (inr p) = let k = ih p in (widen (k .0), k .1)
-
-below-last : (i n : ℕ) → i < suc n → (i ≡ n → ⊥) → i < n
-below-last i n h k = omega arith
-
-pub any-in : (n : ℕ) (f : Below n → Bool) (x : Below n) → f x ≡ true → any n f ≡ true
-unfolding any
-any-in zero f x e = absurd (not-suc-le-zero (x .1))
-any-in (suc n) f x e = go (any-in n (λ z. f (widen z))) (dec (eqb (x .0) n))
-  where
-    go : ((z : Below n) → f (widen z) ≡ true → any n (λ z. f (widen z)) ≡ true)
-        → (eqb (x .0) n ≡ true) ⊎ (eqb (x .0) n ≡ false) → any (suc n) f ≡ true
-    go ih (inl p) = or-i1 (f (n, lt-suc-self n)) (any n (λ z. f (widen z)))
-        (ap f (Fin·val-path {n = suc n} {i = (n, lt-suc-self n)} {j = x} (sym (eqb-true (x .0) n p))) ∙ e)
-    go ih (inr p) =
-        let low : (x .0 ≡ n → ⊥) = λ q. clash (ap (λ m. eqb m n) q ∙ eqb-same n) p in
-        let l : x .0 < n = below-last (x .0) n (x .1) low in
-        or-i2 (f (n, lt-suc-self n)) (any n (λ z. f (widen z)))
-        (ih (x .0, l) (ap f (Fin·val-path {n = suc n} {i = widen (x .0, l)} {j = x} refl) ∙ e))
+use Rattle.tableau.specs.Meaning.{_or_, FiniteHeap, Region, within, Ref, Value, reference, region, heap, field, class, kind, isRef, isClass, asRef, asRegion, asStore, asField, asClass}
+use Rattle.tableau.proofs.Bools.{and-i, and-r, or-e, or-i2, alike, dec, clash}
 
 -- regions with the same members are equal
 pub region-path : {H : FiniteHeap} (R S : Region H) → ((x : Ref H) → R .has x ≡ S .has x) → R ≡ S
@@ -55,6 +14,12 @@ region-path {H} R S e = λ i. record {
   inside = isProp→PathP (λ j. (x : Ref H) → e x j ≡ true → H .all x ≡ true)
       (λ j. Π-prop (λ x. Π-prop (λ k. Bool-set (H .all x) true))) (R .inside) (S .inside) i;
 }
+
+-- a part of a region adds nothing to it
+pub union-with-part : {H : FiniteHeap} (i r : Region H) → ((x : Ref H) → i .has x ≡ true → r .has x ≡ true) → within H (λ x. i .has x or r .has x) ≡ r
+union-with-part i r part = region-path _ r (λ x. alike _ _ (dec _) (dec _)
+    (λ c d. clash {b = r .has x} (elim (or-e (i .has x) (r .has x) (and-r _ _ c)) [ inl p ↦ part x p | inr p ↦ p ]) d)
+    (λ c d. clash (and-i (r .inside x d) (or-i2 (i .has x) _ d)) c))
 
 -- a value of a sort is that sort's constructor on what it holds
 pub is-ref : {H : FiniteHeap} (a : Value H) → isRef a ≡ true → a ≡ reference (asRef a)

@@ -1,7 +1,9 @@
--- 'The rules': a row for each of the thirty, in the order of document 01, then those of document 02. Nothing here knows of replies.
+-- 'The rules': a row for each of the thirty-one, in the order of document 01, then those of document 02. Nothing here knows of replies.
+use mathlib.Core.Path.{_≡_, refl}
 use mathlib.Core.Bool.{Bool, true, false}
 use mathlib.Core.List.{List, [], _∷_}
 use Prim.Native.Nat.{ℕ}
+use lib.Dec.{eqb}
 use Rattle.tableau.specs.declared.Operator.{Operator}
 use Rattle.tableau.specs.declared.Relation.{Relation}
 use Rattle.tableau.specs.declared.Rule.{Rule}
@@ -14,19 +16,6 @@ pub data Pattern : Type 0 where
 
 pub data LiteralPattern : Type 0 where
   pattern : Relation → Pattern → Pattern → LiteralPattern
-
--- What a row needs: the literal at place p, or at place q; what term t is; that a letter is a region.
-pub data Need : Type 0 where
-  p∶ : LiteralPattern → Need
-  q∶ : LiteralPattern → Need
-  t≐ : Pattern → Need
-  isRegion : Pattern → Need
-
--- A row: its needs, whether it needs a fresh w, and its alternatives; with no alternative it closes.
-pub record Row : Type 0 where
-  pub needs : List Need
-  pub fresh : Bool
-  pub adds : List (List LiteralPattern)
 
 infix 10 _∈_ _∉_ _≈_ _≉_ _⊑_ _⋢_
 infixr 5 _∥_
@@ -105,6 +94,9 @@ letterT = 12
 abbrev pub letterW : ℕ
 letterW = 13
 
+abbrev pub letterI : ℕ
+letterI = 14
+
 abbrev pub u : Pattern
 u = letter letterU
 
@@ -144,6 +136,9 @@ t = letter letterT
 abbrev pub w : Pattern
 w = letter letterW
 
+abbrev pub i : Pattern
+i = letter letterI
+
 -- The operators of the rows.
 abbrev pub nul : Pattern
 nul = operator Operator.Nul – – – –
@@ -180,6 +175,25 @@ typ x = operator Operator.Typ x – – –
 
 abbrev pub dty : Pattern → Pattern
 dty x = operator Operator.Dty x – – –
+
+-- What a row needs: the literal at place p, or at place q; what the term of a letter other than w is; that a letter is a region.
+pub data Need : Type 0 where
+  p∶ : LiteralPattern → Need
+  q∶ : LiteralPattern → Need
+  is : (x : ℕ) → eqb x letterW ≡ false → Pattern → Need
+  isRegion : Pattern → Need
+
+abbrev pub t≐ : Pattern → Need
+t≐ k = is letterT refl k
+
+abbrev pub i≐ : Pattern → Need
+i≐ k = is letterI refl k
+
+-- A row: its needs, whether it needs a fresh w, and its alternatives; with no alternative it closes.
+pub record Row : Type 0 where
+  pub needs : List Need
+  pub fresh : Bool
+  pub adds : List (List LiteralPattern)
 
 -- A rule: one row, several of which the first whose needs are met is taken ("or"), or one of the three that no row says.
 pub data Kind : Type 0 where
@@ -232,5 +246,7 @@ rule Rule.Rdm = rows (t≐ (rea (wri h u f v) y g) ∷ [] ⟶ u ≈ y ﹐ ⟨ f 
 rule Rule.Cls = rows ((p∶ (a ∈ b) ∷ q∶ (a ∉ b) ∷ [] ⟶ closes) or (p∶ (a ≈ b) ∷ q∶ (a ≉ b) ∷ [] ⟶ closes) or (p∶ (a ⊑ b) ∷ q∶ (a ⋢ b) ∷ [] ⟶ closes))
 rule Rule.Emp = rows (p∶ (u ∈ emp) ∷ [] ⟶ closes)
 rule Rule.Cla = disjunction
+-- "place p holds cup(r,i) eq i with i = img(h,r,f), and cup(i,r) eq r is added"
+rule Rule.Fin = rows (p∶ (cup r i ≈ i) ∷ i≐ (img h r f) ∷ [] ⟶ only ⟨ cup i r ≈ r ⟩)
 
 -- What `sub`, `rep` and `cla` need and add is in Steps.antt.

@@ -11,7 +11,7 @@ use Rattle.tableau.specs.declared.Relation.{Relation}
 use Rattle.tableau.specs.Basics.{then, guard, Four, four, every}
 use Rattle.tableau.specs.Fields.{arguments, ifArgument}
 use Rattle.tableau.specs.Terms.{Place, TermNo, Table, Term, variable, apply, Literal, literal, at, numberOf, sortOf, sameSort, sameOperator, sameRelation, firstPlace, mentioned, Clauses, disjuncts}
-use Rattle.tableau.specs.Rules.{Pattern, letter, operator, –, LiteralPattern, pattern, Need, p∶, q∶, t≐, isRegion, Row, Kind, rows, congruence, replacement, disjunction, letterT, letterW}
+use Rattle.tableau.specs.Rules.{Pattern, letter, operator, –, LiteralPattern, pattern, Need, p∶, q∶, is, isRegion, Row, Kind, rows, congruence, replacement, disjunction, letterT, letterW}
 
 -- An instance of a row: the term that each of its letters stands for.
 abbrev pub Letters : Type 0
@@ -59,7 +59,7 @@ module _ (table : TermNo → Term) where
   met [] P Q σ = some σ
   met (p∶ l ∷ ns) P Q σ = then P λ L. then (fitsLiteral l L σ) λ σ₁. met ns P Q σ₁
   met (q∶ l ∷ ns) P Q σ = then Q λ L. then (fitsLiteral l L σ) λ σ₁. met ns P Q σ₁
-  met (t≐ k ∷ ns) P Q σ = then (σ letterT) λ n. then (fits k n σ) λ σ₁. met ns P Q σ₁
+  met (is x other k ∷ ns) P Q σ = then (σ x) λ n. then (fits k n σ) λ σ₁. met ns P Q σ₁
   met (isRegion k ∷ ns) P Q σ = then (termOf k σ) λ n. guard (sameSort Sort.Region (sortOf (table n))) (met ns P Q σ)
 
 -- "Every term in an added literal must stand in the table, in all alternatives."

@@ -76,6 +76,7 @@ ruleNames =
     ("cls" ↣ Rule.Cls) ∷
     ("emp" ↣ Rule.Emp) ∷
     ("cla" ↣ Rule.Cla) ∷
+    ("fin" ↣ Rule.Fin) ∷
     []
 
 -- What a line asks for, by its letter and word: a term, an assumption, a literal of a clause, a step.

@@ -81,6 +81,7 @@ pub enum Rule {
     Cls,
     Emp,
     Cla,
+    Fin,
 }
 
 // Why a file is refused, in the order of the refusal numbers 1 to 21.

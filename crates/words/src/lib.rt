@@ -118,7 +118,7 @@ const RELATIONS: [Relation; RELATION_COUNT] = [
     Relation::Nl,
 ];
 
-const RULE_COUNT: usize = 30;
+const RULE_COUNT: usize = 31;
 
 const RULES: [Rule; RULE_COUNT] = [
     Rule::Eqr,
@@ -151,9 +151,10 @@ const RULES: [Rule; RULE_COUNT] = [
     Rule::Cls,
     Rule::Emp,
     Rule::Cla,
+    Rule::Fin,
 ];
 
-// "Which fields each rule uses is one fixed table of thirty rows."
+// "Which fields each rule uses is one fixed table of [thirty-one] rows."
 const RULE_MASKS: [u8; RULE_COUNT] = [
     Mask::P | Mask::Q, // eqr
     Mask::P | Mask::Q, // eql
@@ -185,6 +186,7 @@ const RULE_MASKS: [u8; RULE_COUNT] = [
     Mask::P | Mask::Q, // cls
     Mask::P, // emp
     Mask::T, // cla
+    Mask::P, // fin
 ];
 
 fn pack(a: u8, b: u8, c: u8) -> usize
@@ -249,7 +251,7 @@ pub fn rule_of(word: usize) -> RuleFound
     let masks = RULE_MASKS;
     let index = search(
         word,
-        b"eqr eql ext cpe cpi cue cui dfe dfi sge sgi cut all nul sep img wit ref sym trn sub rep ler let lea rdh rdm cls emp cla ",
+        b"eqr eql ext cpe cpi cue cui dfe dfi sge sgi cut all nul sep img wit ref sym trn sub rep ler let lea rdh rdm cls emp cla fin ",
     );
     if index < RULE_COUNT {
         let rule = rules[index];

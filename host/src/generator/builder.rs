@@ -151,6 +151,12 @@ impl<'a> Builder<'a> {
         }
     }
 
+    /// An image of this region.
+    pub fn some_image(&mut self, r: TermId) -> TermId {
+        let (h, f) = (self.some(Sort::Heap), self.some(Sort::Field));
+        self.draft.term("img", &[h, r, f])
+    }
+
     pub fn region_variable(&mut self) -> TermId {
         self.variable("rgv")
     }
@@ -258,7 +264,7 @@ impl<'a> Builder<'a> {
     // Steps that help nothing
 
     fn idle_step(&mut self) {
-        match self.random.below(15) {
+        match self.random.below(16) {
             0 => {
                 let t = self.some_term();
                 self.draft.reflexive(t);
@@ -279,6 +285,7 @@ impl<'a> Builder<'a> {
             8 => self.idle_substitution(),
             9 => self.idle_read(),
             10 => clauses::idle_clause(self),
+            11 => self.idle_counting(),
             _ => self.idle_membership(),
         }
     }
@@ -390,6 +397,19 @@ impl<'a> Builder<'a> {
         } else if self.may_split() {
             self.draft.rdm(t);
         }
+    }
+
+    /// `fin` where the branch has what it needs, or where that is assumed.
+    fn idle_counting(&mut self) {
+        let mut places = self.draft.places_with(&["eq"]);
+        places.retain(|place| self.draft.is_inside_image(*place));
+        if places.is_empty() || self.random.chance(1, 3) {
+            let r = self.some(Sort::Region);
+            let image = self.some_image(r);
+            places = vec![derivations::inside_image(self, image, 0)];
+        }
+        let p = self.random.pick(&places);
+        self.draft.fin(p);
     }
 
     fn idle_membership(&mut self) {

@@ -36,7 +36,7 @@ fn obtain_in(builder: &mut Builder, u: TermId, r: TermId, depth: usize) -> Place
     if matches!(word, "cup" | "cap" | "dif" | "all") && builder.random.chance(2, 3) {
         return introduce(builder, u, r, depth);
     }
-    match builder.random.below(7) {
+    match builder.random.below(8) {
         0 | 1 if builder.may_split() => builder.draft.cut(u, r),
         2 => from_intersection(builder, u, r, depth),
         3 => {
@@ -47,6 +47,7 @@ fn obtain_in(builder: &mut Builder, u: TermId, r: TermId, depth: usize) -> Place
         }
         4 => from_equal_region(builder, u, r, depth),
         5 => from_union(builder, u, r, depth),
+        6 => from_image(builder, u, r, depth),
         _ => by_replacement(builder, lit(u, "in", r), depth),
     }
 }
@@ -114,6 +115,30 @@ fn from_union(builder: &mut Builder, u: TermId, r: TermId, depth: usize) -> Plac
     builder.draft.cls(first, denied);
     // The second alternative stands where the first did.
     first
+}
+
+/// u in an image of r, where r is inside that image.
+fn from_image(builder: &mut Builder, u: TermId, r: TermId, depth: usize) -> Place {
+    let image = builder.some_image(r);
+    let inside = inside_image(builder, image, depth);
+    let member = obtain(builder, lit(u, "in", image), depth);
+    by_counting(builder, inside, member)
+}
+
+/// cup(r,i) eq i for an image i of r: r is inside i.
+pub fn inside_image(builder: &mut Builder, image: TermId, depth: usize) -> Place {
+    let r = builder.draft.argument(image, 1);
+    let cup = builder.draft.term("cup", &[r, image]);
+    obtain(builder, lit(cup, "eq", image), depth)
+}
+
+/// u in r, from the place where r is inside its image and that where u is in
+/// the image.
+pub fn by_counting(builder: &mut Builder, inside: Place, member: Place) -> Place {
+    let equation = builder.draft.fin(inside);
+    let (cup, _) = builder.draft.sides(equation, "eq");
+    let in_cup = builder.draft.cui(member, cup);
+    builder.draft.eqr(equation, in_cup)
 }
 
 fn obtain_ni(builder: &mut Builder, u: TermId, r: TermId, depth: usize) -> Place {

@@ -6,6 +6,7 @@ use std::collections::HashSet;
 use crate::random::Random;
 
 use super::clause_damage;
+use super::counting_damage;
 use super::draft::{MOST_PLACES, MOST_TERMS};
 use super::planted;
 use super::tableau::{text, Entry, Line, Tableau};
@@ -14,7 +15,7 @@ use super::{not_fresh, refusal, Expected};
 pub type Damaged = Option<(Vec<u8>, Expected)>;
 pub type Damage = fn(&Tableau, &mut Random) -> Damaged;
 
-pub const EXACT: [(&str, Damage); 38] = [
+pub const EXACT: [(&str, Damage); 40] = [
     ("last closing dropped", last_closing_dropped),
     ("last closing doubled", last_closing_doubled),
     ("a line misshapen", misshapen),
@@ -61,6 +62,14 @@ pub const EXACT: [(&str, Damage); 38] = [
     (
         "a clause without its last alternative",
         clause_damage::last_alternative_left_out,
+    ),
+    (
+        "an assumption for fin changed",
+        counting_damage::premise_changed,
+    ),
+    (
+        "fin on its own conclusion",
+        counting_damage::on_its_conclusion,
     ),
 ];
 
@@ -170,11 +179,11 @@ const TERM_WORDS: [&str; 17] = [
     "fnv", "clv", "typ", "dty",
 ];
 const LITERAL_WORDS: [&str; 6] = ["in", "ni", "eq", "ne", "le", "nl"];
-/// The thirty rules.
-pub const RULES: [&str; 30] = [
+/// The thirty-one rules.
+pub const RULES: [&str; 31] = [
     "eqr", "eql", "ext", "cpe", "cpi", "cue", "cui", "dfe", "dfi", "sge", "sgi", "cut", "all",
     "nul", "sep", "img", "wit", "ref", "sym", "trn", "sub", "rep", "ler", "let", "lea", "rdh",
-    "rdm", "cla", "cls", "emp",
+    "rdm", "cla", "fin", "cls", "emp",
 ];
 /// A rule in older files; now no letter has the word.
 pub const FORMER_RULE: &str = "fir";

@@ -1,7 +1,7 @@
 //! Refutations by the rules about images, reads and writes.
 
 use super::builder::Builder;
-use super::derivations::obtain;
+use super::derivations::{by_counting, inside_image, obtain};
 use super::draft::{lit, Place, Sort, TermId};
 
 fn reference(builder: &mut Builder) -> TermId {
@@ -84,6 +84,57 @@ pub fn wit_class(builder: &mut Builder, depth: usize) {
     let same = builder.draft.sub(equation, typ_w, typ);
     let below = builder.draft.rep(added.after(1), same, 1);
     builder.draft.cls(below, not_below);
+}
+
+// A region inside its image, which has no more members than the region
+
+fn image(builder: &mut Builder) -> TermId {
+    let r = builder.some(Sort::Region);
+    builder.some_image(r)
+}
+
+pub fn fin(builder: &mut Builder, depth: usize) {
+    let image = image(builder);
+    let r = builder.draft.argument(image, 1);
+    let turned = builder.draft.term("cup", &[image, r]);
+    let inside = inside_image(builder, image, depth);
+    let unequal = obtain(builder, lit(turned, "ne", r), depth);
+    let added = builder.draft.fin(inside);
+    builder.draft.cls(added, unequal);
+}
+
+/// Something in the image is outside the region.
+pub fn fin_member(builder: &mut Builder, depth: usize) {
+    let (u, image) = (reference(builder), image(builder));
+    let r = builder.draft.argument(image, 1);
+    let inside = inside_image(builder, image, depth);
+    let member = obtain(builder, lit(u, "in", image), depth);
+    let no_member = obtain(builder, lit(u, "ni", r), depth);
+    let added = by_counting(builder, inside, member);
+    builder.draft.cls(added, no_member);
+}
+
+/// The two are not equal. In one alternative the witness is in the region
+/// alone, in the other in the image alone.
+pub fn fin_unequal(builder: &mut Builder, depth: usize) {
+    let image = image(builder);
+    let r = builder.draft.argument(image, 1);
+    let inside = inside_image(builder, image, depth);
+    let [left, right] = builder.random.pick(&[[r, image], [image, r]]);
+    let unequal = obtain(builder, lit(left, "ne", right), depth);
+    let w = builder.fresh();
+    let first = builder.draft.ext(unequal, w);
+    let second = first.after(1);
+    for (side, member, no_member) in [(left, first, second), (right, second, first)] {
+        let added = if side == image {
+            by_counting(builder, inside, member)
+        } else {
+            let cup = builder.draft.term("cup", &[r, image]);
+            let in_cup = builder.draft.cui(member, cup);
+            builder.draft.eqr(inside, in_cup)
+        };
+        builder.draft.cls(added, no_member);
+    }
 }
 
 // Reads of writes

@@ -146,7 +146,7 @@ fn assumed_places(random: &mut Random, samples: &mut Vec<Sample>) {
 /// Steps that add one, two or three literals, with just room enough and
 /// without.
 fn derived_places(samples: &mut Vec<Sample>) {
-    for (rule, literals) in [("ref", 1), ("cpe", 2), ("rdm", 2), ("wit", 3)] {
+    for (rule, literals) in [("ref", 1), ("cpe", 2), ("rdm", 2), ("wit", 3), ("fin", 1)] {
         for missing in 0..=1 {
             let made = nearly_full(literals - missing);
             let step = step_of(rule);
@@ -161,8 +161,9 @@ fn derived_places(samples: &mut Vec<Sample>) {
 
 /// A draft whose branch has room for so many literals more. Its terms are, in
 /// order: 1 and 2 u and r, 3 w, 4 heap, 5 field, 6 cap(r,r), 7 img, 8 typ(w),
-/// 9 dty, 10 rea(h,w,f), 11 wri, 12 rea of wri, 13 rea(h,u,f). Place 3 is u in
-/// cap(r,r), place 4 u in img.
+/// 9 dty, 10 rea(h,w,f), 11 wri, 12 rea of wri, 13 rea(h,u,f), 14 cup(r,img),
+/// 15 cup(img,r). Place 3 is u in cap(r,r), place 4 u in img, place 5 cup(r,img)
+/// eq img.
 struct NearlyFull {
     closable: Closable,
     w: TermId,
@@ -184,8 +185,11 @@ fn nearly_full(room: usize) -> NearlyFull {
     let wri = draft.term("wri", &[h, u, f, u]);
     let read = draft.term("rea", &[wri, u, f]);
     draft.term("rea", &[h, u, f]);
+    let cup = draft.term("cup", &[r, img]);
+    draft.term("cup", &[img, r]);
     draft.assume(lit(u, "in", cap));
     draft.assume(lit(u, "in", img));
+    draft.assume(lit(cup, "eq", img));
     while draft.length() + room < MOST_PLACES {
         draft.reflexive(u);
     }
@@ -200,6 +204,7 @@ impl NearlyFull {
             "ref" => draft.reflexive(self.w),
             "cpe" => draft.cpe(Place::Assumed(2)),
             "rdm" => draft.rdm(self.read),
+            "fin" => draft.fin(Place::Assumed(4)),
             _ => draft.wit(Place::Assumed(3), self.w),
         };
         assert_eq!(draft.length(), MOST_PLACES);
@@ -213,6 +218,7 @@ fn step_of(rule: &str) -> &'static str {
         "ref" => "S,ref,0,0,3,0\n",
         "cpe" => "S,cpe,3,0,0,0\n",
         "rdm" => "S,rdm,0,0,12,0\n",
+        "fin" => "S,fin,5,0,0,0\n",
         _ => "S,wit,4,0,0,3\n",
     }
 }

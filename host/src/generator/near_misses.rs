@@ -1,6 +1,7 @@
 //! Single steps whose premises fit, or fail to fit in just one spot: a term
 //! that should stand in two places stands in one only, a premise is denied, or
-//! its sides are exchanged.
+//! its sides are exchanged. Where they fit, the terms to be added may be
+//! missing.
 
 use crate::random::Random;
 
@@ -54,7 +55,7 @@ const fn replacing(
     }
 }
 
-const SCHEMAS: [Schema; 33] = [
+const SCHEMAS: [Schema; 41] = [
     schema("eqr", &[("r", "eq", "s"), ("u", "in", "r")], &[]),
     schema("eql", &[("r", "eq", "s"), ("u", "in", "s")], &[]),
     schema("cpi", &[("u", "in", "r"), ("u", "in", "s")], &["cap(r,s)"]),
@@ -96,6 +97,32 @@ const SCHEMAS: [Schema; 33] = [
     schema("cls", &[("a", "le", "b"), ("a", "nl", "b")], &[]),
     misfit("cls", &[("u", "eq", "v"), ("v", "ne", "u")], &[]),
     misfit("cls", &[("a", "le", "b"), ("b", "nl", "a")], &[]),
+    schema("fin", &[("cup(r,img(h,r,f))", "eq", "img(h,r,f)")], &[]),
+    schema(
+        "fin",
+        &[(
+            "cup(img(h,r,f),img(h,img(h,r,f),f))",
+            "eq",
+            "img(h,img(h,r,f),f)",
+        )],
+        &[],
+    ),
+    misfit("fin", &[("img(h,r,f)", "eq", "cup(r,img(h,r,f))")], &[]),
+    misfit("fin", &[("cup(img(h,r,f),r)", "eq", "img(h,r,f)")], &[]),
+    misfit("fin", &[("cup(img(h,r,f),r)", "eq", "r")], &[]),
+    misfit("fin", &[("cup(r,img(h,s,f))", "eq", "img(h,s,f)")], &[]),
+    misfit("fin", &[("cap(r,img(h,r,f))", "eq", "img(h,r,f)")], &[]),
+    misfit("fin", &[("cup(r,s)", "eq", "s")], &[]),
+];
+
+/// The terms that `img` and `fin` find in the table, beside `all`. They are
+/// made whatever the rule.
+const LOOKUPS: [&str; 5] = [
+    "typ(u)",
+    "dty(f)",
+    "rea(h,u,f)",
+    "cup(img(h,r,f),r)",
+    "cup(img(h,img(h,r,f),f),img(h,r,f))",
 ];
 
 pub fn sample(random: &mut Random) -> Sample {
@@ -120,14 +147,32 @@ pub fn sample(random: &mut Random) -> Sample {
         fields[2] = Field::Side(schema.side);
     }
     let fits = schema.fits && victim.is_none() && denied.is_none();
-    finish(schema.rule, fields, instance.with_lookups(), fits, random)
+    let looks_up = matches!(schema.rule, "img" | "fin");
+    let missing = looks_up && random.chance(1, 4);
+    if !missing {
+        instance.make_lookups();
+    }
+    let outcome = match (fits, missing) {
+        (false, _) => Outcome::Misfit,
+        (true, true) => Outcome::Missing,
+        (true, false) => Outcome::Fit,
+    };
+    finish(schema.rule, fields, instance.draft, outcome, random)
+}
+
+/// What a step comes to.
+enum Outcome {
+    Fit,
+    Misfit,
+    /// It fits, but the terms that it adds do not stand in the table.
+    Missing,
 }
 
 fn finish(
     rule: &'static str,
     fields: [Field; 4],
     mut draft: Draft,
-    fits: bool,
+    outcome: Outcome,
     random: &mut Random,
 ) -> Sample {
     if rule == "cls" {
@@ -137,16 +182,17 @@ fn finish(
     }
     let lines = tableau::shuffled_lines(&draft, random);
     let counts = [draft.terms.len() as u32, draft.assumptions.len() as u32];
-    let expected = match (fits, rule) {
-        (false, _) => refusal(12, lines.len()),
-        (true, "cls") => Expected::Reply([0, 0, counts[0], counts[1], 1, 1, 0]),
-        (true, _) => refusal(17, lines.len() + 1),
+    let expected = match outcome {
+        Outcome::Misfit => refusal(12, lines.len()),
+        Outcome::Missing => refusal(14, lines.len()),
+        Outcome::Fit if rule == "cls" => Expected::Reply([0, 0, counts[0], counts[1], 1, 1, 0]),
+        Outcome::Fit => refusal(17, lines.len() + 1),
     };
     Sample {
-        kind: if fits {
-            "a fitting step"
-        } else {
-            "a near miss"
+        kind: match outcome {
+            Outcome::Fit => "a fitting step",
+            Outcome::Misfit => "a near miss",
+            Outcome::Missing => "a step without its terms",
         },
         bytes: text(&lines),
         expected,
@@ -257,14 +303,13 @@ impl Instance {
         self.draft.term(word, &arguments)
     }
 
-    /// The draft, with the terms that `img` looks up.
-    fn with_lookups(mut self) -> Draft {
+    /// Makes the terms that a rule looks up, every letter with its own variable.
+    fn make_lookups(&mut self) {
         self.victim = None;
-        for pattern in ["typ(u)", "dty(f)", "rea(h,u,f)"] {
+        for pattern in LOOKUPS {
             self.term(pattern);
         }
         self.draft.term("all", &[]);
-        self.draft
     }
 }
 

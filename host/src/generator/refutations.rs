@@ -11,7 +11,7 @@ use super::identities;
 
 type Refutation = fn(&mut Builder, usize);
 
-const REFUTATIONS: [Refutation; 34] = [
+const REFUTATIONS: [Refutation; 37] = [
     eqr,
     eql,
     ext_of_all,
@@ -42,6 +42,9 @@ const REFUTATIONS: [Refutation; 34] = [
     heaps::rdm,
     heaps::rdm_by_field,
     clauses::refuted,
+    heaps::fin,
+    heaps::fin_member,
+    heaps::fin_unequal,
     contradiction,
     empty,
     identities::unequal,

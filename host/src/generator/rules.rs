@@ -1,7 +1,7 @@
-//! The thirty rules, as steps of a draft. Who calls one knows that its
+//! The thirty-one rules, as steps of a draft. Who calls one knows that its
 //! needs are met. Each gives the place of the first literal added.
 
-use super::draft::{lit, ClauseId, Draft, Field, Place, TermId};
+use super::draft::{lit, ClauseId, Draft, Field, Literal, Place, TermId};
 
 const NONE: Field = Field::Unused;
 
@@ -230,6 +230,25 @@ impl Draft {
         let alternatives = literals.map(|literal| vec![*literal]).collect();
         let fields = [NONE, NONE, Field::Clause(clause), NONE];
         self.add("cla", fields, alternatives)
+    }
+
+    pub fn fin(&mut self, p: Place) -> Place {
+        let (cup, image) = self.sides(p, "eq");
+        let r = self.argument(cup, 0);
+        let turned = self.term("cup", &[image, r]);
+        let added = vec![lit(turned, "eq", r)];
+        self.add("fin", [at(p), NONE, NONE, NONE], vec![added])
+    }
+
+    /// Whether the literal at a place is what `fin` needs: cup(r,i) eq i, where
+    /// i is an image of r.
+    pub fn is_inside_image(&self, place: Place) -> bool {
+        let Literal { left, word, right } = self.literal(place);
+        word == "eq"
+            && self.word(left) == "cup"
+            && self.word(right) == "img"
+            && self.argument(left, 0) == self.argument(right, 1)
+            && self.argument(left, 1) == right
     }
 
     pub fn cls(&mut self, p: Place, q: Place) {

@@ -111,6 +111,7 @@ impl Checker {
             rule::RDH => self.rdh(fields),
             rule::RDM => self.rdm(fields),
             rule::CLA => self.cla(fields),
+            rule::FIN => self.fin(fields),
             rule::CLS => self.cls(fields),
             rule::EMP => self.empty(fields),
             _ => Err(refused(line.letter, line.word, Refusal::Word)),

@@ -35,7 +35,7 @@ pub mod rule {
         EQR "eqr", EQL "eql", EXT "ext", CPE "cpe", CPI "cpi", CUE "cue", CUI "cui", DFE "dfe",
         DFI "dfi", SGE "sge", SGI "sgi", CUT "cut", ALL "all", NUL "nul", SEP "sep", IMG "img",
         WIT "wit", REF "ref", SYM "sym", TRN "trn", SUB "sub", REP "rep", LER "ler", LET "let",
-        LEA "lea", RDH "rdh", RDM "rdm", CLA "cla", CLS "cls", EMP "emp",
+        LEA "lea", RDH "rdh", RDM "rdm", CLA "cla", FIN "fin", CLS "cls", EMP "emp",
     }
 }
 

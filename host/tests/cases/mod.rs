@@ -1,16 +1,18 @@
 //! Files for the checker, each with the reply that it must get.
 //!
 //! Every reply is worked out by hand from the scope document, its rule `fir`
-//! struck, and from the requests "Assumptions with an or in them" and "Where is
-//! that witness already used?". In comments `3: u in r` says that place 3 of the
-//! branch now holds that literal; beside a closing it is what the next
-//! alternative adds. A number beside a T line is the number of the term.
+//! struck, and from the requests "Assumptions with an or in them", "Where is
+//! that witness already used?" and "Finite heaps have a counting argument". In
+//! comments `3: u in r` says that place 3 of the branch now holds that literal;
+//! beside a closing it is what the next alternative adds. A number beside a T
+//! line is the number of the term.
 
 mod allocated;
 mod clause_freshness;
 mod clause_splits;
 mod clauses;
 mod failings;
+mod fin;
 mod limits;
 mod marked;
 mod numbers;
@@ -40,6 +42,7 @@ pub fn all() -> Vec<Case> {
         clause_splits::cases(),
         clause_freshness::cases(),
         places::cases(),
+        fin::cases(),
     ];
     topics.into_iter().flatten().collect()
 }

@@ -302,9 +302,10 @@ const TERM_WORDS: [&str; 13] = [
 ];
 const TERM_AND_RULE_WORDS: [&str; 4] = ["nul", "emp", "all", "img"];
 const LITERAL_WORDS: [&str; 6] = ["in", "ni", "eq", "ne", "le", "nl"];
-const RULE_WORDS: [&str; 26] = [
+const RULE_WORDS: [&str; 27] = [
     "eqr", "eql", "ext", "cpe", "cpi", "cue", "cui", "dfe", "dfi", "sge", "sgi", "cut", "sep",
     "wit", "ref", "sym", "trn", "sub", "rep", "ler", "let", "lea", "rdh", "rdm", "cls", "cla",
+    "fin",
 ];
 
 /// The words of terms and of rules, none of them a literal's.
@@ -338,7 +339,9 @@ fn words_of_no_letter() -> Vec<Case> {
     ] {
         cases.push(f_with(5, &format!("A,{word},1,4,0,0"), "no,4,5,0,0,0,0,0"));
     }
-    for word in ["xyz", "cp", "pe", "cpx", "cxe", "xpe", "fir", "fi", "ir"] {
+    for word in [
+        "xyz", "cp", "pe", "cpx", "cxe", "xpe", "fir", "fi", "ir", "fim", "fan", "ain",
+    ] {
         cases.push(f_with(7, &format!("S,{word},1,0,0,0"), "no,4,7,0,0,0,0,0"));
     }
     cases
@@ -462,6 +465,7 @@ fn after_the_last_closing() -> Vec<Case> {
         "S,cut,0,0,1,2",
         "S,cpe,1,0,0,0",
         "S,cls,1,2,0,0",
+        "S,fin,1,0,0,0",
     ];
     let mut cases: Vec<Case> = rows
         .iter()
@@ -739,6 +743,8 @@ fn two_checks_broken() -> Vec<Case> {
         f_with(9, "S,emp,0,0,0,0", "no,5,9,0,0,0,0,0"),
         f_with(9, "S,cls,2,3,0,0", "no,5,9,0,0,0,0,0"),
         f_with(9, "S,all,1,0,0,0", "no,5,9,0,0,0,0,0"),
+        f_with(9, "S,fin,1,0,0,1", "no,5,9,0,0,0,0,0"),
+        f_with(9, "S,fin,9,0,0,0", "no,5,9,0,0,0,0,0"),
         // 6 and 8
         f_with(1, "T,rfv,0,0,0,1", "no,6,1,0,0,0,0,0"),
         f_with(5, "A,in,0,4,1,0", "no,6,5,0,0,0,0,0"),
@@ -752,6 +758,8 @@ fn two_checks_broken() -> Vec<Case> {
         f_with(7, "S,cpe,3,1,0,0", "no,6,7,0,0,0,0,0"),
         f_with(8, "S,cls,2,3,0,1", "no,6,8,0,0,0,0,0"),
         f_with(7, "S,all,1,0,1,0", "no,6,7,0,0,0,0,0"),
+        f_with(7, "S,fin,3,1,0,0", "no,6,7,0,0,0,0,0"),
+        f_with(7, "S,fin,1,0,1,0", "no,6,7,0,0,0,0,0"),
         // 8 and 9
         f_with(4, "T,cap,1,4,0,0", "no,8,4,0,0,0,0,0"),
         f_with(4, "T,cap,5,1,0,0", "no,8,4,0,0,0,0,0"),
@@ -770,13 +778,15 @@ fn two_checks_broken() -> Vec<Case> {
         // 11 and 13, 14
         f_with(7, "S,ext,3,0,0,1", "no,11,7,0,0,0,0,0"),
         f_with(7, "S,nul,0,0,0,0", "no,11,7,0,0,0,0,0"),
+        f_with(7, "S,fin,3,0,0,0", "no,11,7,0,0,0,0,0"),
         // 12 and 13
         f_with(7, "S,ext,1,0,0,1", "no,12,7,0,0,0,0,0"),
         f_with(7, "S,wit,1,0,0,1", "no,12,7,0,0,0,0,0"),
-        // 12 and 14: neither nul nor all is in F's table
+        // 12 and 14: neither nul nor all nor a cup is in F's table
         f_with(7, "S,all,2,0,0,0", "no,12,7,0,0,0,0,0"),
         f_with(7, "S,nul,2,0,0,0", "no,12,7,0,0,0,0,0"),
         f_with(7, "S,sgi,0,0,4,0", "no,12,7,0,0,0,0,0"),
+        f_with(7, "S,fin,1,0,0,0", "no,12,7,0,0,0,0,0"),
     ]
 }
 

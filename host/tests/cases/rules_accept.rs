@@ -20,6 +20,8 @@ pub fn cases() -> Vec<Case> {
         writes(),
         closings(),
         one_place_twice(),
+        finite(),
+        finite_for_every_region(),
     ];
     groups.into_iter().flatten().collect()
 }
@@ -641,4 +643,173 @@ fn one_place_twice() -> Vec<Case> {
         case("accept: let, p is q", lines(&let_), "yes,0,0,1,2,2,1,0"),
         case("accept: lea, p is q", lines(&lea), "yes,0,0,1,2,2,1,0"),
     ]
+}
+
+/// A region inside its own image: `fin` adds that the image is inside it.
+fn finite() -> Vec<Case> {
+    let terms = [
+        U,
+        R,
+        HEAP,            // 3
+        FIELD,           // 4
+        "T,img,3,2,4,0", // 5, i = img(h,r,f)
+        "T,cup,2,5,0,0", // 6, cup(r,i)
+        "T,cup,5,2,0,0", // 7, cup(i,r)
+    ];
+    let denied = [
+        "A,eq,6,5,0,0",  // 1: cup(r,i) eq i
+        "A,ne,7,2,0,0",  // 2: cup(i,r) ne r
+        "S,fin,1,0,0,0", // 3: cup(i,r) eq r
+        "S,cls,3,2,0,0",
+    ];
+    let last_place = [
+        "A,ne,7,2,0,0",  // 1: cup(i,r) ne r
+        "A,in,1,5,0,0",  // 2: u in i
+        "A,eq,6,5,0,0",  // 3: cup(r,i) eq i
+        "S,fin,3,0,0,0", // 4: cup(i,r) eq r
+        "S,cls,4,1,0,0",
+    ];
+    let member = [
+        "A,eq,6,5,0,0",  // 1: cup(r,i) eq i
+        "A,in,1,5,0,0",  // 2: u in i
+        "A,ni,1,2,0,0",  // 3: u ni r
+        "S,fin,1,0,0,0", // 4: cup(i,r) eq r
+        "S,cui,2,0,7,0", // 5: u in cup(i,r)
+        "S,eqr,4,5,0,0", // 6: u in r
+        "S,cls,6,3,0,0",
+    ];
+    let equal = [
+        "A,eq,6,5,0,0",  // 1: cup(r,i) eq i
+        "A,ne,5,2,0,0",  // 2: i ne r
+        "S,fin,1,0,0,0", // 3: cup(i,r) eq r
+        "S,ext,2,0,0,1", // 4: u in i, 5: u ni r
+        "S,cui,4,0,7,0", // 6: u in cup(i,r)
+        "S,eqr,3,6,0,0", // 7: u in r
+        "S,cls,7,5,0,0", // 4: u ni i, 5: u in r
+        "S,cui,5,0,6,0", // 6: u in cup(r,i)
+        "S,eqr,1,6,0,0", // 7: u in i
+        "S,cls,7,4,0,0",
+    ];
+    let twice = [
+        "A,eq,6,5,0,0",  // 1: cup(r,i) eq i
+        "A,ne,7,7,0,0",  // 2: cup(i,r) ne cup(i,r)
+        "S,fin,1,0,0,0", // 3: cup(i,r) eq r
+        "S,fin,1,0,0,0", // 4: cup(i,r) eq r
+        "S,sym,4,0,0,0", // 5: r eq cup(i,r)
+        "S,trn,3,5,0,0", // 6: cup(i,r) eq cup(i,r)
+        "S,cls,6,2,0,0",
+    ];
+    // The clause of one literal brings cup(r,i) eq i onto the branch.
+    let by_clause = [
+        "A,ne,7,2,0,0",  // 1: cup(i,r) ne r
+        "C,eq,6,5,1,0",  // cup(r,i) eq i
+        "S,cla,0,0,1,0", // 2: cup(r,i) eq i
+        "S,fin,2,0,0,0", // 3: cup(i,r) eq r
+        "S,cls,3,1,0,0",
+    ];
+    // s stands for i; the rules of equality make cup(r,i) eq i of it.
+    let by_equality = [
+        R,
+        S,
+        HEAP,            // 3
+        FIELD,           // 4
+        "T,img,3,1,4,0", // 5, i = img(h,r,f)
+        "T,cup,1,2,0,0", // 6, cup(r,s)
+        "T,cup,1,5,0,0", // 7, cup(r,i)
+        "T,cup,5,1,0,0", // 8, cup(i,r)
+        "A,eq,6,2,0,0",  // 1: cup(r,s) eq s
+        "A,eq,2,5,0,0",  // 2: s eq i
+        "A,ne,8,1,0,0",  // 3: cup(i,r) ne r
+        "S,sub,2,0,6,7", // 4: cup(r,s) eq cup(r,i)
+        "S,sym,4,0,0,0", // 5: cup(r,i) eq cup(r,s)
+        "S,trn,5,1,0,0", // 6: cup(r,i) eq s
+        "S,trn,6,2,0,0", // 7: cup(r,i) eq i
+        "S,fin,7,0,0,0", // 8: cup(i,r) eq r
+        "S,cls,8,3,0,0",
+    ];
+    // Where sin(u) is inside its image, u is all that the image holds.
+    let itself = [
+        U,
+        ALL,             // 2
+        HEAP,            // 3
+        FIELD,           // 4
+        "T,sin,1,0,0,0", // 5, sin(u)
+        "T,img,3,5,4,0", // 6, i = img(h,sin(u),f)
+        "T,cup,5,6,0,0", // 7, cup(sin(u),i)
+        "T,cup,6,5,0,0", // 8, cup(i,sin(u))
+        V,               // 9
+        "A,eq,7,6,0,0",  // 1: cup(sin(u),i) eq i
+        "A,in,9,6,0,0",  // 2: v in i
+        "A,ne,9,1,0,0",  // 3: v ne u
+        "S,fin,1,0,0,0", // 4: cup(i,sin(u)) eq sin(u)
+        "S,cui,2,0,8,0", // 5: v in cup(i,sin(u))
+        "S,eqr,4,5,0,0", // 6: v in sin(u)
+        "S,sge,6,0,0,0", // 7: v eq u
+        "S,cls,7,3,0,0",
+    ];
+    let with = |what: &str, rest: &[&str], reply| {
+        let file = [&terms[..], rest].concat();
+        case(&format!("accept: fin, {what}"), lines(&file), reply)
+    };
+    vec![
+        with("denied", &denied, "yes,0,0,7,2,2,1,0"),
+        with("on the last place", &last_place, "yes,0,0,7,3,2,1,0"),
+        with("a member of the image", &member, "yes,0,0,7,3,4,1,0"),
+        with("the region is its image", &equal, "yes,0,0,7,2,8,2,0"),
+        with("twice on a place", &twice, "yes,0,0,7,2,5,1,0"),
+        with("by a clause", &by_clause, "yes,0,0,7,2,3,1,0"),
+        case(
+            "accept: fin, by equality",
+            lines(&by_equality),
+            "yes,0,0,8,3,6,1,0",
+        ),
+        case(
+            "accept: fin, one reference",
+            lines(&itself),
+            "yes,0,0,9,3,5,1,0",
+        ),
+    ]
+}
+
+/// The region and the heap value may be any terms.
+fn finite_for_every_region() -> Vec<Case> {
+    let regions = [
+        EMP,
+        ALL,
+        "T,rgv,3,0,0,0",
+        "T,cup,2,3,0,0",
+        "T,cup,3,3,0,0",
+        "T,cap,2,3,0,0",
+        "T,dif,2,3,0,0",
+        "T,sin,1,0,0,0",
+        "T,img,4,2,5,0",
+    ];
+    let heaps = ["T,arv,2,0,0,0", "T,wri,4,1,5,1"];
+    let mut cases = Vec::new();
+    for region in regions {
+        for heap in heaps {
+            let file = [
+                U,
+                R,
+                S,               // 3
+                HEAP,            // 4
+                FIELD,           // 5
+                region,          // 6
+                heap,            // 7
+                "T,img,7,6,5,0", // 8, i, the image of term 6
+                "T,cup,6,8,0,0", // 9
+                "T,cup,8,6,0,0", // 10
+                "A,eq,9,8,0,0",  // 1: cup(term 6,i) eq i
+                "A,ne,10,6,0,0", // 2: cup(i,term 6) ne term 6
+                "S,fin,1,0,0,0", // 3: cup(i,term 6) eq term 6
+                "S,cls,3,2,0,0",
+            ];
+            cases.push(case(
+                &format!("accept: fin for {region} in {heap}"),
+                lines(&file),
+                "yes,0,0,10,2,2,1,0",
+            ));
+        }
+    }
+    cases
 }

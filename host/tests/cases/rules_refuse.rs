@@ -1,5 +1,5 @@
 //! For each rule a refusal by each number that it can give, beside the right
-//! step.
+//! step; `cla` and `fin` have theirs in `clause_splits.rs` and `fin.rs`.
 //!
 //! All steps stand on one bench: a table in which every term to be added is
 //! there, and a branch with literals of every kind. Places 1 and 2 close it,

@@ -112,6 +112,26 @@ pub const OR: [&str; 10] = [
     "S,cls,3,2,0,0",
 ];
 
+/// A region inside its own image: nothing in the image is outside the region.
+/// Terms: 1 u, 2 h, 3 r, 4 f, 5 i = img(h,r,f), 6 cup(r,i), 7 cup(i,r). `fin`
+/// adds 4 cup(i,r) eq r; then 5 u in cup(i,r), 6 u in r.
+pub const FIN: [&str; 14] = [
+    "T,rfv,1,0,0,0",
+    "T,arv,1,0,0,0",
+    "T,rgv,1,0,0,0",
+    "T,fnv,1,0,0,0",
+    "T,img,2,3,4,0",
+    "T,cup,3,5,0,0",
+    "T,cup,5,3,0,0",
+    "A,eq,6,5,0,0",
+    "A,in,1,5,0,0",
+    "A,ni,1,3,0,0",
+    "S,fin,1,0,0,0",
+    "S,cui,2,0,7,0",
+    "S,eqr,4,5,0,0",
+    "S,cls,6,3,0,0",
+];
+
 /// An accepted file that wants an allocated object, so assumes all ne emp: no
 /// region r is empty and leaves nothing of all. Terms: 1 w, 2 all, 3 emp, 4 r,
 /// 5 dif(all,r). What the steps add, and where:
@@ -166,7 +186,7 @@ fn accepted(rule: &'static str, text: &'static str, counts: [u32; 4]) -> Accepte
     }
 }
 
-/// For each of the thirty rules, in the order of docs/FORMAT.md, a file that
+/// For each of the thirty-one rules, in the order of docs/FORMAT.md, a file that
 /// uses it.
 pub fn rule_files() -> Vec<Accepted> {
     vec![
@@ -354,6 +374,11 @@ pub fn rule_files() -> Vec<Accepted> {
             rule: "cla",
             lines: OR.to_vec(),
             counts: [3, 3, 3, 2],
+        },
+        Accepted {
+            rule: "fin",
+            lines: FIN.to_vec(),
+            counts: [7, 3, 4, 1],
         },
         accepted(
             "cls",

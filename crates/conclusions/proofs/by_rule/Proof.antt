@@ -1,6 +1,7 @@
 -- Each arm is the function of its rule.
 use mathlib.Core.Path.{_≡_}
 use denote.Ref.{now}
+use Rattle.tableau.specs.declared.Reason.{Reason}
 use Rattle.tableau.specs.declared.Rule.{Rule}
 use Rattle.tableau.specs.Fields.{ruleFields}
 use Rattle.rules.specs.declared.outcome.Outcome.{Outcome}
@@ -130,6 +131,19 @@ emp : (c : tie.After-emp) → Answers (c .before .before .before) (c .emp .resul
 unfolding ruleFields
 emp c = infers {y = Rule.Emp} (cc) (c .before .before .before .pre .1 .2) (λ table S. S .entries) (c .emp .ensures)
 
+fin : (c : tie.After-fin) → Answers (c .before .before .before) (c .fin .result)
+unfolding ruleFields
+fin c = infers {y = Rule.Fin} (cc) (c .before .before .before .pre .1 .2) (λ table S. S) (c .fin .ensures)
+
+-- these two do not come here
+rep : (c : tie.After-enum-told22) → Answers (c .before .before) (Outcome.Refused Reason.NeedNotMet)
+unfolding ruleFields
+rep c = let s = c .before .before in absurd (not-rep {x = s .args .rule} (s .pre .1 .3) (cc))
+
+cla : (c : tie.After-enum-told30) → Answers (c .before .before) (Outcome.Refused Reason.NeedNotMet)
+unfolding ruleFields
+cla c = let s = c .before .before in absurd (not-cla {x = s .args .rule} (s .pre .1 .3) (cc))
+
 pub by-rule-spec : {M : Type 1} → statement M
 unfolding ruleFields
 by-rule-spec =
@@ -193,6 +207,8 @@ by-rule-spec =
     (λ c. search needs)
     (λ c κs. let s = c .before .before in ((s .pre .0 .0, s .pre .0 .1 .entries), s .pre .1 .0))
     (λ c. search needs)
+    (λ c. search needs)
+    (λ c κs. let s = c .before .before in (s .pre .0, s .pre .1 .0))
     eqr
     eql
     ext
@@ -214,7 +230,7 @@ by-rule-spec =
     sym
     trn
     sub
-    (λ c. let s = c .before .before in absurd (not-rep {x = s .args .rule} (s .pre .1 .3) (cc)))
+    rep
     ler
     transitive
     lea
@@ -222,4 +238,5 @@ by-rule-spec =
     rdm
     cls
     emp
-    (λ c. let s = c .before .before in absurd (not-cla {x = s .args .rule} (s .pre .1 .3) (cc))))
+    cla
+    fin)

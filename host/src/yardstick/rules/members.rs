@@ -1,9 +1,9 @@
-//! Rules about members, from `cut` to `wit`.
+//! Rules about members and images, from `cut` to `wit`, and `fin`.
 
 use super::{arguments, need, sides, Fields, Step};
 use crate::yardstick::literals::literal;
 use crate::yardstick::literals::Relation::{Eq, In, Le, Ne, Ni, Nl};
-use crate::yardstick::packing::{has_sort, Sort, ALL, DTY, IMG, NUL, REA, TYP};
+use crate::yardstick::packing::{has_sort, Sort, ALL, CUP, DTY, IMG, NUL, REA, TYP};
 use crate::yardstick::refusal::{ensure, unused, Refusal};
 use crate::yardstick::steps::Checker;
 
@@ -73,5 +73,16 @@ impl Checker {
             literal(typ, Le, dty),
             literal(rea, Eq, u),
         ])
+    }
+
+    #[inline(always)]
+    pub fn fin(&mut self, [p, q, t, w]: Fields) -> Step {
+        unused([q, t, w])?;
+        let (union, image) = sides(self.tree.at(p)?, Eq)?;
+        let [r, image_again] = arguments(self.terms.get(union), CUP)?;
+        let [_, r_again, _] = arguments(self.terms.get(image), IMG)?;
+        need(image_again == image && r_again == r)?;
+        let turned = self.terms.find(CUP, [image, r])?;
+        self.tree.add([literal(turned, Eq, r)])
     }
 }

@@ -1,0 +1,168 @@
+use borrow.Author.Tests.{eq-eqb, ne-eqb}
+use mathlib.Core.Path.{refl, sym, subst, _∙_}
+use native.Mathlib.Omega.{arith}
+use Rattle.tableau.specs.declared.Operator.{Operator}
+use Rattle.tableau.specs.declared.Relation.{Relation}
+use Rattle.tableau.specs.Terms.{at}
+use Rattle.packing.specs.Packing.{SmallLiteral}
+use Rattle.table.specs.Held.{SmallFound}
+use Rattle.rules.proofs.Laws.{computing, found-at, found-nothing, is-cup, is-img, is-not, no-arguments, view-small}
+use Rattle.rules.proofs.Rows.{other-p}
+use Rattle.heap_rules.proofs.images.fin.Statement.{statement}
+use Rattle.heap_rules.proofs.images.fin.Tie as tie
+
+-- k is not cup(r,i)
+returns-2 : tie.Need-returns-2
+unfolding computing
+returns-2 c =
+    let p = c .before .before .before in
+    record {
+      room = tt;
+      answers = λ table h fresh. rw (p .p .given .1, no-arguments Operator.Cup (at table _) (c .before .view .ensures table (h .entries) .is) (c .match2 .keys2));
+    }
+
+-- i is not n
+returns-3 : tie.Need-returns-3
+unfolding computing
+returns-3 c =
+    let u = c .before .before .before .before in
+    let v = u .before .before in
+    let p = v .before .before in
+    record {
+      room = tt;
+      answers = λ table h fresh.
+          let K = is-cup (at table _) _ _ (v .view .ensures table (h .entries) .is ∙ u .r .given .1) in
+          rw (p .p .given .1, K .2, ne-eqb _ _ (c .if1 .taken));
+    }
+
+view-requires-2 : tie.Need-view-requires-2
+view-requires-2 c κs =
+    let u = c .before .before .before .before in
+    let v = u .before .before in
+    let s = v .before .before .before .before .pre .0 in
+    ((s .0, s .1 .entries), view-small s (λ table h. v .view .ensures table (h .entries)) (u .r .given .1) .1)
+
+-- i is not img(h,s,f)
+returns-4 : tie.Need-returns-4
+unfolding computing
+returns-4 c =
+    let x = c .before in
+    let e = x .before in
+    let u = e .before .before .before .before in
+    let v = u .before .before in
+    let p = v .before .before in
+    record {
+      room = tt;
+      answers = λ table h fresh.
+          let K = is-cup (at table _) _ _ (v .view .ensures table (h .entries) .is ∙ u .r .given .1) in
+          rw (p .p .given .1, K .2, eq-eqb _ _ (e .if1 .left), no-arguments Operator.Img (at table _) (x .view2 .ensures table (h .entries) .is) (c .match3 .keys2));
+    }
+
+-- the regions differ
+returns-5 : tie.Need-returns-5
+unfolding computing
+returns-5 c =
+    let i = c .before .before .before .before in
+    let x = i .before .before in
+    let e = x .before in
+    let u = e .before .before .before .before in
+    let v = u .before .before in
+    let p = v .before .before in
+    record {
+      room = tt;
+      answers = λ table h fresh.
+          let K = is-cup (at table _) _ _ (v .view .ensures table (h .entries) .is ∙ u .r .given .1) in
+          let M = is-img (at table _) _ _ _ (x .view2 .ensures table (h .entries) .is ∙ i .s .given .1) in
+          rw (p .p .given .1, K .2, eq-eqb _ _ (e .if1 .left), M .1, ne-eqb _ _ (c .if2 .taken));
+    }
+
+on-three-requires : tie.Need-on-three-requires
+on-three-requires c κs =
+    let i = c .before .before .before .before in
+    let x = i .before .before in
+    let e = x .before in
+    let u = e .before .before .before .before in
+    let v = u .before .before in
+    let s = v .before .before .before .before .pre .0 in
+    let a = view-small s (λ table h. v .view .ensures table (h .entries)) (u .r .given .1) in
+    (s, (a .1, a .0, omega arith))
+
+-- cup(i,r) is no term
+returns-6 : tie.Need-returns-6
+unfolding computing
+returns-6 c =
+    let m = c .before .before in
+    let d = m .before in
+    let i = d .before .before .before .before in
+    let x = i .before .before in
+    let e = x .before in
+    let u = e .before .before .before .before in
+    let v = u .before .before in
+    let p = v .before .before in
+    record {
+      room = tt;
+      answers = λ table h fresh.
+          let K = is-cup (at table _) _ _ (v .view .ensures table (h .entries) .is ∙ u .r .given .1) in
+          let M = is-img (at table _) _ _ _ (x .view2 .ensures table (h .entries) .is ∙ i .s .given .1) in
+          rw (p .p .given .1, K .2, eq-eqb _ _ (e .if1 .left), M .1, eq-eqb _ _ (d .if2 .left), found-nothing (m .on-three .ensures .found table h) (c .enum-told .given .1));
+    }
+
+adds-one-requires : tie.Need-adds-one-requires
+adds-one-requires c κs =
+    let f = c .before .before in
+    let m = f .before .before in
+    let i = m .before .before .before .before .before in
+    let u = i .before .before .before .before .before .before .before in
+    let v = u .before .before in
+    let s = v .before .before .before .before .pre in
+    rw (c .literal .ensures)
+    (subst SmallFound (f .m .given .1) (m .on-three .ensures .small), view-small (s .0) (λ table h. v .view .ensures table (h .entries)) (u .r .given .1) .0)
+
+-- cup(i,r) eq r
+returns-7 : tie.Need-returns-7
+unfolding computing
+returns-7 c =
+    let f = c .before .before .before in
+    let m = f .before .before in
+    let d = m .before in
+    let i = d .before .before .before .before in
+    let x = i .before .before in
+    let e = x .before in
+    let u = e .before .before .before .before in
+    let v = u .before .before in
+    let p = v .before .before in
+    let b = rw (c .before .literal .ensures) at (c .adds-one .ensures) in
+    record {
+      room = b .room;
+      answers = λ table h fresh.
+          let K = is-cup (at table _) _ _ (v .view .ensures table (h .entries) .is ∙ u .r .given .1) in
+          let M = is-img (at table _) _ _ _ (x .view2 .ensures table (h .entries) .is ∙ i .s .given .1) in
+          rw (p .p .given .1, K .2, eq-eqb _ _ (e .if1 .left), M .1, eq-eqb _ _ (d .if2 .left), found-at (m .on-three .ensures .found table h) (f .m .given .1)) (sym (b .adds));
+    }
+
+pub fin-spec : {M : Type 1} → statement M
+unfolding computing
+fin-spec =
+    tie.close
+    (tie.spec
+    (λ c. c .match .keys1)
+    -- p is not k eq n
+    (λ c. let p = c .before .args .p in other-p p refl (is-not Relation.Eq p (c .match .keys2)))
+    (λ c κs.
+    let p = c .before in
+    let s = p .before .before .pre in
+    ((s .0 .0, s .0 .1 .entries), subst SmallLiteral (p .p .given .1) (s .1) .0))
+    (λ c. c .match2 .keys1)
+    returns-2
+    returns-3
+    view-requires-2
+    (λ c. c .match3 .keys1)
+    returns-4
+    returns-5
+    on-three-requires
+    (λ c. c .match4 .keys1)
+    (λ c. c .match4 .keys2)
+    returns-6
+    (λ c κs. tt)
+    adds-one-requires
+    returns-7)

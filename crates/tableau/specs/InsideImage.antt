@@ -1,0 +1,55 @@
+-- Document 02, 'Finite heaps have a counting argument': "A region inside its own image can't be smaller than that image when heaps are finite, as ours are."
+use mathlib.Core.List.{List, [], _∷_, _++_}
+use Prim.Native.String.{String}
+use lib.ListN.{take}
+use Rattle.tableau.specs.Cases.{fileOf, withLine, Case, _⊢_}
+use Rattle.tableau.specs.Claims.{Model}
+
+-- A region inside its own image has nothing outside it in the image.
+unfoldable pub insideImage : List String
+insideImage =
+    "T,arv,1,0,0,0" ∷  -- 1: h
+    "T,rgv,1,0,0,0" ∷  -- 2: r
+    "T,fnv,1,0,0,0" ∷  -- 3: f
+    "T,img,1,2,3,0" ∷  -- 4: i = img(h,r,f)
+    "T,cup,2,4,0,0" ∷  -- 5: cup(r,i)
+    "T,cup,4,2,0,0" ∷  -- 6: cup(i,r)
+    "T,rfv,1,0,0,0" ∷  -- 7: u
+    "A,eq,5,4,0,0" ∷  -- place 1: cup(r,i) eq i
+    "A,in,7,4,0,0" ∷  -- place 2: u in i
+    "A,ni,7,2,0,0" ∷  -- place 3: u ni r
+    "S,fin,1,0,0,0" ∷  -- place 4: cup(i,r) eq r
+    "S,cui,2,0,6,0" ∷  -- place 5: u in cup(i,r)
+    "S,eqr,4,5,0,0" ∷  -- place 6: u in r
+    "S,cls,6,3,0,0" ∷
+    []
+
+-- The inclusion the other way round: a region with its image inside has nothing outside the image, which is false.
+unfoldable pub imageInside : List String
+unfolding insideImage
+imageInside = take 7 insideImage ++ (
+    "A,eq,6,2,0,0" ∷  -- place 1: cup(i,r) eq r
+    "A,in,7,2,0,0" ∷  -- place 2: u in r
+    "A,ni,7,4,0,0" ∷  -- place 3: u ni i
+    "S,fin,1,0,0,0" ∷
+    [])
+
+unfoldable pub countingCases : List Case
+unfolding insideImage imageInside
+countingCases =
+    (insideImage ⊢ "yes,0,0,7,3,4,1,0") ∷
+    -- the image on the wrong side of `eq`, and of `cup`
+    (withLine 8 "A,eq,4,5,0,0" insideImage ⊢ "no,12,11,0,0,0,0,0") ∷
+    (withLine 8 "A,eq,6,4,0,0" insideImage ⊢ "no,12,11,0,0,0,0,0") ∷
+    (imageInside ⊢ "no,12,11,0,0,0,0,0") ∷
+    -- cup(i,r) is not in the table
+    (withLine 6 "T,cap,4,2,0,0" insideImage ⊢ "no,14,11,0,0,0,0,0") ∷
+    []
+
+-- A heap and values make all that `imageInside` assumes true, so that a yes to it would be wrong.
+--
+-- That `fin` needs finiteness no heap can show here: every heap of the meaning is finite, and in none of them is `insideImage` true, as it is accepted. In an infinite one it would be:
+-- r has the references 1, 2, .., and the field f of each leads to the one before, so that r is inside its image and 0 is in the image alone. The lemma that counts says the same of
+-- all numbers (`no-end` in proofs/Counting.antt).
+abbrev pub ImageInsideModel : Type 0
+ImageInsideModel = Model (fileOf imageInside)
