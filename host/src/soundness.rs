@@ -14,10 +14,6 @@ use crate::random::Random;
 const TRIES: usize = 80;
 /// Heaps tried in turn on each file, for each number of references and classes.
 const MOST_IN_TURN: usize = 400;
-/// References with `nul`, fields and classes of larger heaps that are tried in
-/// turn on accepted files. With one reference less no image has a member outside
-/// its region, so what `fin` adds would be true of itself.
-const LARGER: [usize; 3] = [3, 1, 1];
 const NEIGHBOURS: usize = 6;
 
 /// What was tried.
@@ -92,8 +88,7 @@ fn try_tableau(
             continue;
         }
         trials.changed += 1;
-        let question = Question::of_file(&file);
-        let has_model = question.is_some_and(|question| models(&question, random).found > 0);
+        let has_model = models(&file, random).is_some_and(|search| search.found > 0);
         trials.changed_with_model += usize::from(has_model);
         // An open tree that may have a model: every step in it is right.
         let begun = first_lines(&file, line as usize - 1);
@@ -116,22 +111,22 @@ fn first_lines(file: &[u8], count: usize) -> &[u8] {
 
 /// An accepted file must have readable assumptions and no model.
 fn refute_model(file: &[u8], random: &mut Random, trials: &mut Trials) -> Result<(), Vec<u8>> {
-    let question = Question::of_file(file).ok_or(file)?;
-    let search = models(&question, random);
-    let larger = question.models_of_size(LARGER, MOST_IN_TURN);
-    if search.found + larger.found > 0 {
-        return Err(file.to_vec());
+    match models(file, random) {
+        Some(search) if search.found == 0 => {
+            trials.heaps += search.tried;
+            trials.complete += usize::from(search.complete);
+            trials.with_clauses += usize::from(has_clause(file));
+            Ok(())
+        }
+        _ => Err(file.to_vec()),
     }
-    trials.heaps += search.tried + larger.tried;
-    trials.complete += usize::from(search.complete);
-    trials.with_clauses += usize::from(has_clause(file));
-    Ok(())
 }
 
 /// Tries heaps in turn, then some larger ones at random.
-fn models(question: &Question, random: &mut Random) -> Search {
+fn models(file: &[u8], random: &mut Random) -> Option<Search> {
+    let question = Question::of_file(file)?;
     let mut search = question.all_models(MOST_IN_TURN);
     search.found += question.random_models(TRIES, random);
     search.tried += TRIES;
-    search
+    Some(search)
 }

@@ -9,6 +9,7 @@ use std::path::{Path, PathBuf};
 
 use host::independent::TermWord;
 use host::meaning::{assumptions, Heap, Value, Values, Variable};
+use host::models::Question;
 use host::{call, independent};
 use page::edited;
 
@@ -201,62 +202,24 @@ fn the_routine_can_hit_the_record() {
     assert_eq!(holds("acknowledgement_spares_last_jog.tab"), Some(false));
 }
 
-/// All values of h: references 1 and 2 have fields 0 and 1, and every entry is
-/// nul, 1 or 2.
-fn heap_values() -> impl Iterator<Item = Vec<Vec<usize>>> {
-    (0..81).map(|code| {
-        let entry = |place: u32| code / 3_usize.pow(place) % 3;
-        vec![
-            vec![0, 0],
-            vec![entry(0), entry(1)],
-            vec![entry(2), entry(3)],
-        ]
-    })
+/// The models of a file among all heaps with two references beside nul, two
+/// fields and one class.
+fn models_with_two_objects(file: &str) -> usize {
+    let question = Question::of_file(file.as_bytes()).unwrap();
+    let search = question.models_of_size([3, 2, 1], 400_000);
+    assert!(search.complete);
+    search.found
 }
 
-/// How many values of all variables make the assumptions true, where 1 and 2
-/// are allocated and there is one class.
-fn values_of_two_regions(file: &str) -> usize {
-    let heap = Heap {
-        references: 3,
-        fields: 2,
-        classes: 1,
-        order: vec![vec![true]],
-        allocated: vec![false, true, true],
-        typ: vec![0; 3],
-        dty: vec![0; 2],
-    };
-    let region = |code: usize| {
-        let members = [1, 2].into_iter().filter(|one| code & one != 0);
-        Value::Region(members.collect())
-    };
-    let mut found = 0;
-    for h in heap_values() {
-        for code in 0..2 * 2 * 4 * 4 * 3 {
-            let values = values([
-                (TermWord::Rfv, 1, Value::Reference(code / 64)),
-                (TermWord::Rgv, 1, region(code % 4)),
-                (TermWord::Rgv, 2, region(code / 4 % 4)),
-                (TermWord::Arv, 1, Value::HeapValue(h.clone())),
-                (TermWord::Fnv, 1, Value::Field(code / 16 % 2)),
-                (TermWord::Fnv, 2, Value::Field(code / 32 % 2)),
-            ]);
-            let holds = assumptions(file.as_bytes(), &heap, &values);
-            found += usize::from(holds.unwrap());
-        }
-    }
-    found
-}
-
-/// A claim that no steps close, and no heap with two allocated objects breaks.
-/// Without one of its inclusions it breaks.
+/// A claim that no steps close, and no such heap breaks. Without one of its
+/// inclusions it breaks.
 #[test]
 fn two_objects_do_not_break_the_claim_out_of_reach() {
     let file = example("two_regions_inside_each_others_images.tab");
-    assert_eq!(values_of_two_regions(&file), 0);
+    assert_eq!(models_with_two_objects(&file), 0);
     for without in ["12s/.*/A,eq,9,9,0,0/", "13s/.*/A,eq,10,10,0,0/"] {
         let weaker = edited(&file, without);
-        assert_ne!(values_of_two_regions(&weaker), 0, "{without}");
+        assert_ne!(models_with_two_objects(&weaker), 0, "{without}");
     }
 }
 

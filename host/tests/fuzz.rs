@@ -70,10 +70,8 @@ const SMALL: &[u8] = b"T,rfv,1,0,0,0\nT,rgv,20,0,0,0\nA,in,1,2,0,0\nA,ni,1,2,0,0
     C,in,1,2,1,0\nC,ni,1,2,1,0\nC,eq,1,1,2,0\n\
     S,ref,0,0,1,0\nS,cla,0,0,1,0\nS,cls,1,2,0,0\nS,cls,1,4,0,0\nS,cut,0,0,1,2\n";
 
-/// A region inside its image, and u in the image alone.
-const COUNTING: &[u8] = b"T,rfv,1,0,0,0\nT,rgv,1,0,0,0\nT,arv,1,0,0,0\nT,fnv,1,0,0,0\n\
-    T,img,3,2,4,0\nT,cup,2,5,0,0\nT,cup,5,2,0,0\nA,eq,6,5,0,0\nA,in,1,5,0,0\nA,ni,1,2,0,0\n\
-    S,fin,1,0,0,0\nS,cui,2,0,7,0\nS,eqr,4,5,0,0\nS,cls,6,3,0,0\n";
+/// A file closed by `fin`.
+const COUNTING: &[u8] = include_bytes!("../../examples/region_inside_its_image.tab");
 
 /// Every byte of a small file made every other, and every byte put in.
 #[test]

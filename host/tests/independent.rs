@@ -5,7 +5,7 @@
 
 mod examples;
 
-use examples::{file, rule_files, ALLOCATED, F, G, IMG, OR, RDM, STRUCK, WIT};
+use examples::{file, rule_files, ALLOCATED, F, FIN, G, IMG, OR, RDM, STRUCK, WIT};
 use host::independent::{call, check, reply_line, Reply};
 
 const RULES: [&str; 31] = [
@@ -1424,37 +1424,18 @@ fn no_place_beside_other_numbers() {
 }
 
 // ---------------------------------------------------------------------------
-// The rule `fin`
+// The rule `fin`. In FIN it is line 11 and adds place 4.
 // ---------------------------------------------------------------------------
-
-/// r is inside its image i, and u is in i alone. Terms: 1 u, 2 r, 3 h, 4 f, 5 i,
-/// 6 cup(r,i), 7 cup(i,r). `fin` is line 11 and adds place 4.
-const INSIDE: [&str; 14] = [
-    "T,rfv,1,0,0,0",
-    "T,rgv,1,0,0,0",
-    "T,arv,1,0,0,0",
-    "T,fnv,1,0,0,0",
-    "T,img,3,2,4,0",
-    "T,cup,2,5,0,0",
-    "T,cup,5,2,0,0",
-    "A,eq,6,5,0,0",  // 1 cup(r,i) eq i
-    "A,in,1,5,0,0",  // 2 u in i
-    "A,ni,1,2,0,0",  // 3 u ni r
-    "S,fin,1,0,0,0", // 4 cup(i,r) eq r
-    "S,cui,2,0,7,0", // 5 u in cup(i,r)
-    "S,eqr,4,5,0,0", // 6 u in r
-    "S,cls,6,3,0,0",
-];
 
 #[test]
 fn a_region_inside_its_image() {
-    assert_eq!(check_lines(&INSIDE), yes(7, 3, 4, 1));
-    assert_eq!(reply_line(&check_lines(&INSIDE)), "yes,0,0,7,3,4,1,0\n");
-    assert_eq!(check_lines(&INSIDE[..11]), no(17, 12));
+    assert_eq!(check_lines(&FIN), yes(7, 3, 4, 1));
+    assert_eq!(reply_line(&check_lines(&FIN)), "yes,0,0,7,3,4,1,0\n");
+    assert_eq!(check_lines(&FIN[..11]), no(17, 12));
     // Without `fin` place 4 holds u in cup(i,r), and nothing is in place 5.
-    assert_eq!(check_lines(&without_line(&INSIDE, 11)), no(11, 12));
+    assert_eq!(check_lines(&without_line(&FIN, 11)), no(11, 12));
     // r ne i. After `ext`: 3 w in r, 4 w ni i, then 3 w ni r, 4 w in i.
-    let mut lines = INSIDE[..8].to_vec();
+    let mut lines = FIN[..8].to_vec();
     lines.extend(["A,ne,2,5,0,0", "S,ext,2,0,0,1"]);
     lines.extend(["S,cui,3,0,6,0", "S,eqr,1,5,0,0", "S,cls,6,4,0,0"]);
     lines.extend(["S,fin,1,0,0,0", "S,cui,4,0,7,0", "S,eqr,5,6,0,0"]);
@@ -1465,7 +1446,7 @@ fn a_region_inside_its_image() {
 #[test]
 fn fin_adds_one_literal() {
     // It stands on place 4 as cup(i,r) eq r, not with its sides exchanged.
-    let mut lines = INSIDE[..10].to_vec();
+    let mut lines = FIN[..10].to_vec();
     lines.extend(["A,ne,7,2,0,0", "A,ne,2,7,0,0", "S,fin,1,0,0,0"]);
     assert_eq!(
         check_lines(&with_more(&lines, &["S,cls,6,4,0,0"])),
@@ -1490,7 +1471,7 @@ fn fin_adds_one_literal() {
 #[test]
 fn fin_on_a_derived_place() {
     // i eq cup(r,i) is turned by `sym`: places 4 and 5, so `cui` adds 6.
-    let mut lines = with_line(&INSIDE[..10], 8, "A,eq,5,6,0,0");
+    let mut lines = with_line(&FIN[..10], 8, "A,eq,5,6,0,0");
     assert_eq!(
         check_lines(&with_more(&lines, &["S,fin,1,0,0,0"])),
         no(12, 11)
@@ -1499,7 +1480,7 @@ fn fin_on_a_derived_place() {
     lines.extend(["S,eqr,5,6,0,0", "S,cls,7,3,0,0"]);
     assert_eq!(check_lines(&lines), yes(7, 3, 5, 1));
     // By a clause, which has no place before it is split.
-    let mut lines = without_line(&INSIDE[..10], 8);
+    let mut lines = without_line(&FIN[..10], 8);
     lines.extend(["C,eq,6,5,1,0", "S,fin,1,0,0,0"]);
     assert_eq!(check_lines(&lines), no(12, 11));
     assert_eq!(
@@ -1511,7 +1492,7 @@ fn fin_on_a_derived_place() {
     lines.extend(["S,eqr,4,5,0,0", "S,cls,6,2,0,0"]);
     assert_eq!(check_lines(&lines), yes(7, 3, 5, 1));
     // On what it has added, cup(i,r) eq r.
-    let own = with_line(&INSIDE, 12, "S,fin,4,0,0,0");
+    let own = with_line(&FIN, 12, "S,fin,4,0,0,0");
     assert_eq!(check_lines(&own), no(12, 12));
 }
 
@@ -1533,7 +1514,7 @@ fn fin_in_the_order_of_the_numbers() {
         ("S,fin,2,0,0,0", 12),
         ("S,fin,3,0,0,0", 12),
     ] {
-        let reply = check_lines(&with_line(&INSIDE, 11, line));
+        let reply = check_lines(&with_line(&FIN, 11, line));
         assert_eq!(reply, no(number, 11), "{line}");
     }
     // On a closed tree 2 and 4 come first, then 5.
@@ -1543,7 +1524,7 @@ fn fin_in_the_order_of_the_numbers() {
         ("S,fin,1,0,0,0", 5),
         ("S,fin,0,9,9,9", 5),
     ] {
-        let reply = check_lines(&with_more(&INSIDE, &[line]));
+        let reply = check_lines(&with_more(&FIN, &[line]));
         assert_eq!(reply, no(number, 15), "{line}");
     }
 }
@@ -1682,7 +1663,7 @@ fn fin_for_any_region_and_heap() {
 #[test]
 fn the_union_that_fin_adds_must_stand() {
     // Without cup(i,r), the last term.
-    let missing = without_line(&INSIDE[..11], 7);
+    let missing = without_line(&FIN[..11], 7);
     assert_eq!(check_lines(&missing), no(14, 10));
     // 12 before 14.
     assert_eq!(
@@ -1691,7 +1672,7 @@ fn the_union_that_fin_adds_must_stand() {
     );
     // cap(i,r), cup(i,i) and cup(r,r) do not stand in for it.
     for term in ["T,cap,5,2,0,0", "T,cup,5,5,0,0", "T,cup,2,2,0,0"] {
-        let other = with_line(&INSIDE, 7, term);
+        let other = with_line(&FIN, 7, term);
         assert_eq!(check_lines(&other), no(14, 11), "{term}");
     }
     // 14 before 15.
@@ -1700,14 +1681,14 @@ fn the_union_that_fin_adds_must_stand() {
 
 #[test]
 fn limits_beside_fin() {
-    let step = &INSIDE[..11];
+    let step = &FIN[..11];
     assert_eq!(check(&filled(step, 7, 3, 999)), no(17, 7 + 999 + 2));
     assert_eq!(check(&filled(step, 7, 3, 1_000)), no(15, 7 + 1_000 + 1));
     // 12 before 15.
     let misfit = with_line(step, 11, "S,fin,2,0,0,0");
     assert_eq!(check(&filled(&misfit, 7, 3, 1_000)), no(12, 7 + 1_000 + 1));
     // 200 may wait: it leaves none waiting.
-    let mut text = file(&INSIDE[..10]);
+    let mut text = file(&FIN[..10]);
     text.extend(b"S,cut,0,0,1,2\n".repeat(200));
     text.extend(b"S,fin,1,0,0,0\n");
     assert_eq!(check(&text), no(17, 10 + 200 + 2));

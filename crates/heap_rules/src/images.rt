@@ -130,7 +130,7 @@ pub fn fin(p: LiteralView, terms: &[u64; table::NUMBERS], chains: &[u16; table::
     let TermView::Img(_, s, _) = table::view(terms, i) else {
         return Outcome::Refused(Reason::NeedNotMet);
     };
-    if r.0 != s.0 {
+    if s.0 != r.0 {
         return Outcome::Refused(Reason::NeedNotMet);
     }
     let Found::At(m) = searches::on_three(terms, chains, Operator::Cup, i, r, TermNumber(0)) else {

@@ -38,10 +38,10 @@ pub and-i : {a b : Bool} → a ≡ true → b ≡ true → a and b ≡ true
 unfolding _and_
 and-i {a} {b} p q = λ i. p i and q i
 
-pub and-true : (a b : Bool) → b ≡ true → a and b ≡ a
+pub and-true-r : (a b : Bool) → b ≡ true → a and b ≡ a
 unfolding _and_
-and-true true b e = e
-and-true false b e = refl
+and-true-r true b e = e
+and-true-r false b e = refl
 
 pub and-false-r : (a b : Bool) → b ≡ false → a and b ≡ false
 unfolding _and_

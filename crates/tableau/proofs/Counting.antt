@@ -9,7 +9,7 @@ use native.Mathlib.Decide.{Fin·val-path}
 use native.Mathlib.Omega.{arith}
 use borrow.Author.Tests.{ne-eqb, not-true}
 use Rattle.tableau.specs.Meaning.{_and_, Below, same, widen}
-use Rattle.tableau.proofs.Bools.{and-l, and-r, and-i, and-true, and-false-r, dec, clash, eqb-same}
+use Rattle.tableau.proofs.Bools.{and-l, and-r, and-i, and-true-r, and-false-r, dec, clash, eqb-same}
 use Rattle.tableau.proofs.Numbers.{same-refl, last, last-or}
 
 -- how many members a set has
@@ -40,13 +40,13 @@ without-counts (suc n) A y = go (without-counts n (λ x. A (widen x))) (last-or 
     at-last =
         let gone : one (without (last n) A (last n)) ≡ 0 = ap one (and-false-r (A (last n)) _ (ap not (eqb-same n))) in
         let kept : count n (λ x. without (last n) A (widen x)) ≡ count n (λ x. A (widen x))
-        = ap (count n) (λ i x. and-true (A (widen x)) _ (ap not (ne-eqb (x .0) n (below-not (x .0) n (x .1)))) i) in
+        = ap (count n) (λ i x. and-true-r (A (widen x)) _ (ap not (ne-eqb (x .0) n (below-not (x .0) n (x .1)))) i) in
         omega (arith, gone, kept)
 
     before-last : (z : Below n) → Counts n (λ x. A (widen x)) z → Counts (suc n) A (widen z)
     before-last z ih =
         let kept : one (without (widen z) A (last n)) ≡ one (A (last n))
-        = ap one (and-true (A (last n)) _ (ap not (ne-eqb n (z .0) (λ e. below-not (z .0) n (z .1) (sym e))))) in
+        = ap one (and-true-r (A (last n)) _ (ap not (ne-eqb n (z .0) (λ e. below-not (z .0) n (z .1) (sym e))))) in
         omega (arith, kept, ih)
 
     go : ((z : Below n) → Counts n (λ x. A (widen x)) z) → (last n ≡ y) ⊎ ((z : Below n) × (widen z ≡ y)) → Counts (suc n) A y
@@ -54,10 +54,10 @@ without-counts (suc n) A y = go (without-counts n (λ x. A (widen x))) (last-or 
     go ih (inr z) = subst (Counts (suc n) A) (z .1) (before-last (z .0) (ih (z .0)))
 
 -- a set without members counts nothing
-none : (n : ℕ) (A : Below n → Bool) → ((x : Below n) → A x ≡ true → ⊥) → count n A ≡ 0
+empty-counts : (n : ℕ) (A : Below n → Bool) → ((x : Below n) → A x ≡ true → ⊥) → count n A ≡ 0
 unfolding count
-none zero A h = refl
-none (suc n) A h = go (dec (A (last n))) (none n (λ x. A (widen x)) (λ x. h (widen x)))
+empty-counts zero A h = refl
+empty-counts (suc n) A h = go (dec (A (last n))) (empty-counts n (λ x. A (widen x)) (λ x. h (widen x)))
   where
     go : (A (last n) ≡ true) ⊎ (A (last n) ≡ false) → count n (λ x. A (widen x)) ≡ 0 → count (suc n) A ≡ 0
     go (inl p) e = absurd (h (last n) p)
@@ -74,7 +74,7 @@ one-most false = omega arith
 -- Then B has at most as many members as A.
 pub onto-no-more : (n : ℕ) {m : ℕ} (f : Below n → Below m) (A : Below n → Bool) (B : Below m → Bool) → Onto f A B → count m B ≤ count n A
 unfolding count
-onto-no-more zero {m} f A B h = let e = none m B (λ y p. not-suc-le-zero (h y p .0 .1)) in omega (arith, e)
+onto-no-more zero {m} f A B h = let e = empty-counts m B (λ y p. not-suc-le-zero (h y p .0 .1)) in omega (arith, e)
 onto-no-more (suc n) {m} f A B h = go (onto-no-more n (λ x. f (widen x)) (λ x. A (widen x))) (dec (A (last n)))
   where
     -- a part of B that has no need of the last number

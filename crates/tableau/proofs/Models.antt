@@ -16,7 +16,7 @@ use Rattle.tableau.specs.Cases.{fileOf}
 use Rattle.tableau.specs.Failings.{incident, staleWitness, namesCompared, literalsKept, outsideAll, failings, AllHaveModels}
 use Rattle.tableau.specs.StartUp.{startUp, allocationUnsaid, StartUpModel, StartUpModels}
 use Rattle.tableau.specs.Disjunctions.{noJog, witnessInClause, gapInNumbers, ClauseModels}
-use Rattle.tableau.specs.InsideImage.{insideImage, imageInside, ImageInsideModel}
+use Rattle.tableau.specs.InsideImage.{regionInsideImage, imageInsideRegion, ImageInsideRegionModel}
 use Rattle.tableau.proofs.Evaluate.{evaluate}
 use Rattle.tableau.proofs.Bools.{and-i}
 use Rattle.tableau.proofs.Values.{region-path, union-with-part}
@@ -177,9 +177,9 @@ pub clause-models : ClauseModels
 clause-models = (no-jog-model, witness-in-clause-model, gap-in-numbers-model)
 
 -- THE IMAGE INSIDE THE REGION: u is in the region, whose image is empty
-pub image-inside-model : ImageInsideModel
-unfolding AssumedTrue insideImage imageInside
-image-inside-model = model 1 0 nul ((ap region adds-nothing, (refl, (refl, tt))), no-clause)
+pub image-inside-region-model : ImageInsideRegionModel
+unfolding AssumedTrue regionInsideImage imageInsideRegion
+image-inside-region-model = model 1 0 nul ((ap region adds-nothing, (refl, (refl, tt))), no-clause)
   where
     everything : Region oneAllocated
     everything = within oneAllocated (λ y. true)

@@ -1,19 +1,19 @@
 -- Each row is true of values: where its needs hold, one of its alternatives does.
 use mathlib.Core.Path.{_≡_, refl, sym, _∙_, ap, subst}
-use mathlib.Core.Bool.{Bool, true, false, not, cond, false≢true}
-use mathlib.Core.Logic.{_⊎_, inl, inr}
+use mathlib.Core.Bool.{true, false, not, cond, false≢true}
+use mathlib.Core.Logic.{inl, inr}
 use Prim.Native.Nat.{ℕ}
 use borrow.Author.Tests.{not-true}
 use Rattle.tableau.specs.declared.Operator.{Operator}
 use Rattle.tableau.specs.declared.Rule.{Rule}
 use Rattle.tableau.specs.Basics.{four}
 use Rattle.tableau.specs.Fields.{arguments, ruleFields}
-use Rattle.tableau.specs.Meaning.{_and_, _or_, same, FiniteHeap, Ref, Region, Field, Store, Value, reference, region, field, class, asRef, asRegion, asStore, asField, asClass, within, image, operation, isIn}
+use Rattle.tableau.specs.Meaning.{_and_, same, FiniteHeap, Ref, Region, Field, Store, Value, reference, region, field, class, asRef, asRegion, asStore, asField, asClass, within, image, operation, isIn}
 use Rattle.tableau.specs.Rules.{rule, letterA, letterB, letterF, letterG, letterH, letterI, letterR, letterS, letterT, letterU, letterV, letterW, letterY}
 use Rattle.tableau.proofs.Bools.{and-l, and-r, and-i, or-e, or-i1, or-i2, and-false-r, and-false-of, alike, dec, clash}
 use Rattle.tableau.proofs.Numbers.{same-eq, same-refl, any-out, any-in}
 use Rattle.tableau.proofs.Values.{region-path, union-with-part, is-ref, is-class, as-ref, as-region, as-field, kind-class}
-use Rattle.tableau.proofs.Counting.{Onto, onto-no-more, no-more-than-part}
+use Rattle.tableau.proofs.Counting.{onto-no-more, no-more-than-part}
 use Rattle.tableau.proofs.RowMeaning.{RuleSound}
 
 module _ (H : FiniteHeap) where

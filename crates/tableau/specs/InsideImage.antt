@@ -6,8 +6,8 @@ use Rattle.tableau.specs.Cases.{fileOf, withLine, Case, _⊢_}
 use Rattle.tableau.specs.Claims.{Model}
 
 -- A region inside its own image has nothing outside it in the image.
-unfoldable pub insideImage : List String
-insideImage =
+unfoldable pub regionInsideImage : List String
+regionInsideImage =
     "T,arv,1,0,0,0" ∷  -- 1: h
     "T,rgv,1,0,0,0" ∷  -- 2: r
     "T,fnv,1,0,0,0" ∷  -- 3: f
@@ -25,9 +25,9 @@ insideImage =
     []
 
 -- The inclusion the other way round: a region with its image inside has nothing outside the image, which is false.
-unfoldable pub imageInside : List String
-unfolding insideImage
-imageInside = take 7 insideImage ++ (
+unfoldable pub imageInsideRegion : List String
+unfolding regionInsideImage
+imageInsideRegion = take 7 regionInsideImage ++ (
     "A,eq,6,2,0,0" ∷  -- place 1: cup(i,r) eq r
     "A,in,7,2,0,0" ∷  -- place 2: u in r
     "A,ni,7,4,0,0" ∷  -- place 3: u ni i
@@ -35,21 +35,20 @@ imageInside = take 7 insideImage ++ (
     [])
 
 unfoldable pub countingCases : List Case
-unfolding insideImage imageInside
+unfolding regionInsideImage imageInsideRegion
 countingCases =
-    (insideImage ⊢ "yes,0,0,7,3,4,1,0") ∷
+    (regionInsideImage ⊢ "yes,0,0,7,3,4,1,0") ∷
     -- the image on the wrong side of `eq`, and of `cup`
-    (withLine 8 "A,eq,4,5,0,0" insideImage ⊢ "no,12,11,0,0,0,0,0") ∷
-    (withLine 8 "A,eq,6,4,0,0" insideImage ⊢ "no,12,11,0,0,0,0,0") ∷
-    (imageInside ⊢ "no,12,11,0,0,0,0,0") ∷
+    (withLine 8 "A,eq,4,5,0,0" regionInsideImage ⊢ "no,12,11,0,0,0,0,0") ∷
+    (withLine 8 "A,eq,6,4,0,0" regionInsideImage ⊢ "no,12,11,0,0,0,0,0") ∷
+    (imageInsideRegion ⊢ "no,12,11,0,0,0,0,0") ∷
     -- cup(i,r) is not in the table
-    (withLine 6 "T,cap,4,2,0,0" insideImage ⊢ "no,14,11,0,0,0,0,0") ∷
+    (withLine 6 "T,cap,4,2,0,0" regionInsideImage ⊢ "no,14,11,0,0,0,0,0") ∷
     []
 
--- A heap and values make all that `imageInside` assumes true, so that a yes to it would be wrong.
+-- A heap and values make all that `imageInsideRegion` assumes true, so that a yes to it would be wrong.
 --
--- That `fin` needs finiteness no heap can show here: every heap of the meaning is finite, and in none of them is `insideImage` true, as it is accepted. In an infinite one it would be:
--- r has the references 1, 2, .., and the field f of each leads to the one before, so that r is inside its image and 0 is in the image alone. The lemma that counts says the same of
--- all numbers (`no-end` in proofs/Counting.antt).
-abbrev pub ImageInsideModel : Type 0
-ImageInsideModel = Model (fileOf imageInside)
+-- That `fin` needs finiteness no heap can show here: every heap of the meaning is finite, and none makes all true that `regionInsideImage` assumes, since it is accepted. An infinite one would: r has x₁, x₂, ..,
+-- and the field f leads from each xₙ₊₁ to xₙ, so that r is inside its image, and x₀, allocated too, is in the image alone. `no-end` in proofs/Counting.antt says this of the natural numbers.
+abbrev pub ImageInsideRegionModel : Type 0
+ImageInsideRegionModel = Model (fileOf imageInsideRegion)

@@ -3,7 +3,7 @@
 
 use super::clauses::{or_with, OR};
 use super::rules_accept::IMG;
-use super::{case, lines, runs, with_line, with_lines, with_more, Case};
+use super::{case, lines, runs, with_line, with_line_case, with_lines, with_more, Case};
 use super::{EMP, F, G, R, S, U, V};
 
 pub fn cases() -> Vec<Case> {
@@ -436,10 +436,8 @@ fn premises_of_other_rules() -> Vec<Case> {
         "S,eqr,4,3,0,0", // 17, 5: u in r
         "S,cls,5,1,0,0", // 18
     ];
-    let changed = |number, line, reply| {
-        let name = format!("cla: premises, line {number} {line}");
-        case(&name, with_line(&file, number, line), reply)
-    };
+    let changed =
+        |number, line, reply| with_line_case("cla: premises", &file, (number, line), reply);
     vec![
         case("cla: premises", lines(&file), "yes,0,0,5,4,7,3,0"),
         changed(13, "S,cpe,3,0,0,0", "no,12,13,0,0,0,0,0"), // u in s
@@ -671,10 +669,8 @@ fn among_other_splits() -> Vec<Case> {
         "S,cls,6,4,0,0", // 21, 4: u in r
         "S,cls,4,2,0,0", // 22
     ];
-    let changed = |number, line, reply| {
-        let name = format!("cla: among splits, line {number} {line}");
-        case(&name, with_line(&file, number, line), reply)
-    };
+    let changed =
+        |number, line, reply| with_line_case("cla: among splits", &file, (number, line), reply);
     // `cla` inside the alternatives of a cut.
     let inside = [
         &OR[..7],

@@ -3,10 +3,12 @@
 //! more files that close by it.
 //!
 //! Most steps stand on a bench: a table in which the union that would be added
-//! is there for every literal, and a branch with all literals that are nearly
-//! right. Places 1 and 2 close it.
+//! is there for every literal, and a branch with four literals that are right and
+//! many that are not. Places 1 and 2 close it.
 
-use super::{case, lines, runs, with_line, with_lines, with_more, without_line, Case};
+use super::{
+    case, lines, runs, with_line, with_line_case, with_lines, with_more, without_line, Case,
+};
 use super::{EMP, F, FIELD, HEAP, R, S, U, V};
 
 pub fn cases() -> Vec<Case> {
@@ -657,13 +659,8 @@ fn in_both_alternatives() -> Vec<Case> {
         ],
     ]
     .concat();
-    let changed = |number, line: &str, reply| {
-        case(
-            &format!("fin: in both, line {number} {line}"),
-            with_line(&file, number, line),
-            reply,
-        )
-    };
+    let changed =
+        |number, line, reply| with_line_case("fin: in both", &file, (number, line), reply);
     vec![
         case("fin: in both", lines(&file), "yes,0,0,8,3,9,2,0"),
         changed(17, "S,sym,5,0,0,0", "no,11,17,0,0,0,0,0"),
@@ -732,13 +729,7 @@ fn from_a_clause() -> Vec<Case> {
         ],
     ]
     .concat();
-    let changed = |number, line: &str, reply| {
-        case(
-            &format!("fin: clause, line {number} {line}"),
-            with_line(&file, number, line),
-            reply,
-        )
-    };
+    let changed = |number, line, reply| with_line_case("fin: clause", &file, (number, line), reply);
     vec![
         case("fin: clause", lines(&file), "yes,0,0,7,3,6,2,0"),
         // A clause takes no place.
@@ -807,13 +798,7 @@ fn fresh_beside_it() -> Vec<Case> {
         "S,cls,4,5,0,0", // 14, 4: v ni r, 5: v in r
         "S,cls,5,4,0,0", // 15
     ];
-    let changed = |number, line: &str, reply| {
-        case(
-            &format!("fin: fresh, line {number} {line}"),
-            with_line(&file, number, line),
-            reply,
-        )
-    };
+    let changed = |number, line, reply| with_line_case("fin: fresh", &file, (number, line), reply);
     vec![
         case("fin: fresh", lines(&file), "yes,0,0,9,2,4,2,0"),
         // Place 2 is the first that mentions w.

@@ -78,6 +78,17 @@ fn with_line<L: AsRef<str>>(file: &[L], number: usize, line: &str) -> Vec<u8> {
     with_lines(file, &[(number, line)])
 }
 
+/// The case of a file with one line changed, which its name says.
+fn with_line_case<L: AsRef<str>>(
+    name: &str,
+    file: &[L],
+    (number, line): (usize, &str),
+    reply: &'static str,
+) -> Case {
+    let name = format!("{name}, line {number} {line}");
+    case(&name, with_line(file, number, line), reply)
+}
+
 fn without_line(file: &[&str], number: usize) -> Vec<u8> {
     let mut rest = file.to_vec();
     rest.remove(number - 1);

@@ -2,7 +2,8 @@
 //! and what is fresh.
 
 use super::rules_accept::IMG;
-use super::{case, lines, with_line, with_lines, with_more, Case, FIELD, G, HEAP, R, S, U, V};
+use super::{case, lines, with_line, with_line_case, with_lines, with_more, Case};
+use super::{FIELD, G, HEAP, R, S, U, V};
 
 pub fn cases() -> Vec<Case> {
     let groups = [
@@ -36,13 +37,7 @@ const LEFT: [&str; 15] = [
 ];
 
 fn split_in_the_first_alternative() -> Vec<Case> {
-    let changed = |number, line, reply| {
-        case(
-            &format!("tree: left, line {number} {line}"),
-            with_line(&LEFT, number, line),
-            reply,
-        )
-    };
+    let changed = |number, line, reply| with_line_case("tree: left", &LEFT, (number, line), reply);
     vec![
         case("tree: left", lines(&LEFT), "yes,0,0,6,4,5,3,0"),
         changed(13, "S,cls,6,3,0,0", "no,12,13,0,0,0,0,0"), // b isn't first
@@ -113,13 +108,7 @@ fn splits_in_img() -> Vec<Case> {
         "S,cls,5,4,0,0", // 21
     ];
     let file = [&IMG[..13], &steps].concat();
-    let changed = |number, line, reply| {
-        case(
-            &format!("tree: img, line {number} {line}"),
-            with_line(&file, number, line),
-            reply,
-        )
-    };
+    let changed = |number, line, reply| with_line_case("tree: img", &file, (number, line), reply);
     vec![
         case("tree: img", lines(&file), "yes,0,0,9,4,8,5,0"),
         changed(17, "S,cls,3,5,0,0", "no,12,17,0,0,0,0,0"), // the cut isn't done

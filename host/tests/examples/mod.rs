@@ -113,19 +113,19 @@ pub const OR: [&str; 10] = [
 ];
 
 /// A region inside its own image: nothing in the image is outside the region.
-/// Terms: 1 u, 2 h, 3 r, 4 f, 5 i = img(h,r,f), 6 cup(r,i), 7 cup(i,r). `fin`
+/// Terms: 1 u, 2 r, 3 h, 4 f, 5 i = img(h,r,f), 6 cup(r,i), 7 cup(i,r). `fin`
 /// adds 4 cup(i,r) eq r; then 5 u in cup(i,r), 6 u in r.
 pub const FIN: [&str; 14] = [
     "T,rfv,1,0,0,0",
-    "T,arv,1,0,0,0",
     "T,rgv,1,0,0,0",
+    "T,arv,1,0,0,0",
     "T,fnv,1,0,0,0",
-    "T,img,2,3,4,0",
-    "T,cup,3,5,0,0",
-    "T,cup,5,3,0,0",
+    "T,img,3,2,4,0",
+    "T,cup,2,5,0,0",
+    "T,cup,5,2,0,0",
     "A,eq,6,5,0,0",
     "A,in,1,5,0,0",
-    "A,ni,1,3,0,0",
+    "A,ni,1,2,0,0",
     "S,fin,1,0,0,0",
     "S,cui,2,0,7,0",
     "S,eqr,4,5,0,0",

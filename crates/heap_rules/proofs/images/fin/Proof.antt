@@ -4,58 +4,62 @@ use native.Mathlib.Omega.{arith}
 use Rattle.tableau.specs.declared.Operator.{Operator}
 use Rattle.tableau.specs.declared.Relation.{Relation}
 use Rattle.tableau.specs.Terms.{at}
-use Rattle.packing.specs.Packing.{SmallLiteral}
+use Rattle.packing.specs.Packing.{Small, SmallLiteral}
 use Rattle.table.specs.Held.{SmallFound}
 use Rattle.rules.proofs.Laws.{computing, found-at, found-nothing, is-cup, is-img, is-not, no-arguments, view-small}
 use Rattle.rules.proofs.Rows.{other-p}
 use Rattle.heap_rules.proofs.images.fin.Statement.{statement}
 use Rattle.heap_rules.proofs.images.fin.Tie as tie
 
+-- back from i to its union, and from the union to p
+abbrev union : tie.After-s → tie.After-r
+union i = i .before .before .before .before .before .before .before
+
+abbrev literal : tie.After-r → tie.After-p
+literal u = u .before .before .before .before
+
 -- k is not cup(r,i)
 returns-2 : tie.Need-returns-2
 unfolding computing
-returns-2 c =
-    let p = c .before .before .before in
-    record {
-      room = tt;
-      answers = λ table h fresh. rw (p .p .given .1, no-arguments Operator.Cup (at table _) (c .before .view .ensures table (h .entries) .is) (c .match2 .keys2));
-    }
+returns-2 c = record {
+  room = tt;
+  answers = λ table h fresh.
+      rw (c .before .before .before .p .given .1, no-arguments Operator.Cup (at table _) (c .before .view .ensures table (h .entries) .is) (c .match2 .keys2));
+}
 
 -- i is not n
 returns-3 : tie.Need-returns-3
 unfolding computing
 returns-3 c =
     let u = c .before .before .before .before in
-    let v = u .before .before in
-    let p = v .before .before in
     record {
       room = tt;
       answers = λ table h fresh.
-          let K = is-cup (at table _) _ _ (v .view .ensures table (h .entries) .is ∙ u .r .given .1) in
-          rw (p .p .given .1, K .2, ne-eqb _ _ (c .if1 .taken));
+          let K = is-cup (at table _) _ _ (u .before .before .view .ensures table (h .entries) .is ∙ u .r .given .1) in
+          rw (literal u .p .given .1, K .2, ne-eqb _ _ (c .if1 .taken));
     }
+
+-- r and i are small
+arguments-small : (u : tie.After-r) → Small (u .r .given .0 .0 .0) × Small (u .r .given .0 .1 .0 .0)
+arguments-small u = view-small (literal u .before .before .pre .0) (λ table h. u .before .before .view .ensures table (h .entries)) (u .r .given .1)
 
 view-requires-2 : tie.Need-view-requires-2
 view-requires-2 c κs =
     let u = c .before .before .before .before in
-    let v = u .before .before in
-    let s = v .before .before .before .before .pre .0 in
-    ((s .0, s .1 .entries), view-small s (λ table h. v .view .ensures table (h .entries)) (u .r .given .1) .1)
+    let s = literal u .before .before .pre .0 in
+    ((s .0, s .1 .entries), arguments-small u .1)
 
 -- i is not img(h,s,f)
 returns-4 : tie.Need-returns-4
 unfolding computing
 returns-4 c =
     let x = c .before in
-    let e = x .before in
-    let u = e .before .before .before .before in
-    let v = u .before .before in
-    let p = v .before .before in
+    let u = x .before .before .before .before .before in
     record {
       room = tt;
       answers = λ table h fresh.
-          let K = is-cup (at table _) _ _ (v .view .ensures table (h .entries) .is ∙ u .r .given .1) in
-          rw (p .p .given .1, K .2, eq-eqb _ _ (e .if1 .left), no-arguments Operator.Img (at table _) (x .view2 .ensures table (h .entries) .is) (c .match3 .keys2));
+          let K = is-cup (at table _) _ _ (u .before .before .view .ensures table (h .entries) .is ∙ u .r .given .1) in
+          rw (literal u .p .given .1, K .2, eq-eqb _ _ (x .before .if1 .left), no-arguments Operator.Img (at table _) (x .view2 .ensures table (h .entries) .is) (c .match3 .keys2));
     }
 
 -- the regions differ
@@ -64,59 +68,42 @@ unfolding computing
 returns-5 c =
     let i = c .before .before .before .before in
     let x = i .before .before in
-    let e = x .before in
-    let u = e .before .before .before .before in
-    let v = u .before .before in
-    let p = v .before .before in
+    let u = union i in
     record {
       room = tt;
       answers = λ table h fresh.
-          let K = is-cup (at table _) _ _ (v .view .ensures table (h .entries) .is ∙ u .r .given .1) in
+          let K = is-cup (at table _) _ _ (u .before .before .view .ensures table (h .entries) .is ∙ u .r .given .1) in
           let M = is-img (at table _) _ _ _ (x .view2 .ensures table (h .entries) .is ∙ i .s .given .1) in
-          rw (p .p .given .1, K .2, eq-eqb _ _ (e .if1 .left), M .1, ne-eqb _ _ (c .if2 .taken));
+          rw (literal u .p .given .1, K .2, eq-eqb _ _ (x .before .if1 .left), M .1, ne-eqb _ _ (λ q. c .if2 .taken (sym q)));
     }
 
 on-three-requires : tie.Need-on-three-requires
 on-three-requires c κs =
-    let i = c .before .before .before .before in
-    let x = i .before .before in
-    let e = x .before in
-    let u = e .before .before .before .before in
-    let v = u .before .before in
-    let s = v .before .before .before .before .pre .0 in
-    let a = view-small s (λ table h. v .view .ensures table (h .entries)) (u .r .given .1) in
-    (s, (a .1, a .0, omega arith))
+    let u = union (c .before .before .before .before) in
+    let a = arguments-small u in
+    (literal u .before .before .pre .0, (a .1, a .0, omega arith))
 
 -- cup(i,r) is no term
 returns-6 : tie.Need-returns-6
 unfolding computing
 returns-6 c =
     let m = c .before .before in
-    let d = m .before in
-    let i = d .before .before .before .before in
+    let i = m .before .before .before .before .before in
     let x = i .before .before in
-    let e = x .before in
-    let u = e .before .before .before .before in
-    let v = u .before .before in
-    let p = v .before .before in
+    let u = union i in
     record {
       room = tt;
       answers = λ table h fresh.
-          let K = is-cup (at table _) _ _ (v .view .ensures table (h .entries) .is ∙ u .r .given .1) in
+          let K = is-cup (at table _) _ _ (u .before .before .view .ensures table (h .entries) .is ∙ u .r .given .1) in
           let M = is-img (at table _) _ _ _ (x .view2 .ensures table (h .entries) .is ∙ i .s .given .1) in
-          rw (p .p .given .1, K .2, eq-eqb _ _ (e .if1 .left), M .1, eq-eqb _ _ (d .if2 .left), found-nothing (m .on-three .ensures .found table h) (c .enum-told .given .1));
+          rw (literal u .p .given .1, K .2, eq-eqb _ _ (x .before .if1 .left), M .1, eq-eqb _ _ (sym (m .before .if2 .left)), found-nothing (m .on-three .ensures .found table h) (c .enum-told .given .1));
     }
 
 adds-one-requires : tie.Need-adds-one-requires
 adds-one-requires c κs =
     let f = c .before .before in
     let m = f .before .before in
-    let i = m .before .before .before .before .before in
-    let u = i .before .before .before .before .before .before .before in
-    let v = u .before .before in
-    let s = v .before .before .before .before .pre in
-    rw (c .literal .ensures)
-    (subst SmallFound (f .m .given .1) (m .on-three .ensures .small), view-small (s .0) (λ table h. v .view .ensures table (h .entries)) (u .r .given .1) .0)
+    rw (c .literal .ensures) (subst SmallFound (f .m .given .1) (m .on-three .ensures .small), arguments-small (union (m .before .before .before .before .before)) .0)
 
 -- cup(i,r) eq r
 returns-7 : tie.Need-returns-7
@@ -124,20 +111,16 @@ unfolding computing
 returns-7 c =
     let f = c .before .before .before in
     let m = f .before .before in
-    let d = m .before in
-    let i = d .before .before .before .before in
+    let i = m .before .before .before .before .before in
     let x = i .before .before in
-    let e = x .before in
-    let u = e .before .before .before .before in
-    let v = u .before .before in
-    let p = v .before .before in
+    let u = union i in
     let b = rw (c .before .literal .ensures) at (c .adds-one .ensures) in
     record {
       room = b .room;
       answers = λ table h fresh.
-          let K = is-cup (at table _) _ _ (v .view .ensures table (h .entries) .is ∙ u .r .given .1) in
+          let K = is-cup (at table _) _ _ (u .before .before .view .ensures table (h .entries) .is ∙ u .r .given .1) in
           let M = is-img (at table _) _ _ _ (x .view2 .ensures table (h .entries) .is ∙ i .s .given .1) in
-          rw (p .p .given .1, K .2, eq-eqb _ _ (e .if1 .left), M .1, eq-eqb _ _ (d .if2 .left), found-at (m .on-three .ensures .found table h) (f .m .given .1)) (sym (b .adds));
+          rw (literal u .p .given .1, K .2, eq-eqb _ _ (x .before .if1 .left), M .1, eq-eqb _ _ (sym (m .before .if2 .left)), found-at (m .on-three .ensures .found table h) (f .m .given .1)) (sym (b .adds));
     }
 
 pub fin-spec : {M : Type 1} → statement M
