@@ -1178,7 +1178,7 @@ fn close(state: &mut State) {
 }
 
 // ---------------------------------------------------------------------------
-// The thirty-one rules
+// The rules
 // ---------------------------------------------------------------------------
 
 /// What a step adds, or `None` when what its rule needs is not so. Freshness

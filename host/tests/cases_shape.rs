@@ -56,8 +56,8 @@ fn count(file: &[u8], start: &str) -> usize {
 
 /// The count that the documents give.
 #[test]
-fn there_are_3_039_files() {
-    assert_eq!(all().len(), 3_039);
+fn there_are_3_037_files() {
+    assert_eq!(all().len(), 3_037);
 }
 
 #[test]

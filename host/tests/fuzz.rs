@@ -45,9 +45,9 @@ fn checkers_agree() {
     assert!(summary.refused_steps[&(FORMER_RULE, 4)] >= FILES / 200);
     assert!(summary.refused_steps[&("cla", 11)] >= FILES / 400);
     assert!(summary.rules["fin"] >= FILES / 20);
-    for (number, least) in [(11, 1_000), (12, 40), (14, 1_000), (15, 2_000)] {
+    for (number, one_in) in [(11, 1_000), (12, 40), (14, 1_000), (15, 2_000)] {
         let count = summary.refused_steps[&("fin", number)];
-        assert!(count >= FILES / least, "{count} with {number}");
+        assert!(count >= FILES / one_in, "{count} with {number}");
     }
     for places in [0..1, 1..2, 2..10, 10..1_001] {
         let count = summary.with_places(places.clone());

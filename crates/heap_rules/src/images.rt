@@ -118,13 +118,13 @@ pub fn fin(p: LiteralView, terms: &[u64; table::NUMBERS], chains: &[u16; table::
     requires { ⌜ SmallLiteral p ⌝ }
     ensures { λ r. ⌜ Concludes (SearchableBy (now (terms .entry)) (now (chains .entry))) Rule.Fin (some (literalOf p)) none 0 0 r ⌝ }
 {
-    let LiteralView::Eq(k, n) = p else {
+    let LiteralView::Eq(union, image) = p else {
         return Outcome::Refused(Reason::NeedNotMet);
     };
-    let TermView::Cup(r, i) = table::view(terms, k) else {
+    let TermView::Cup(r, i) = table::view(terms, union) else {
         return Outcome::Refused(Reason::NeedNotMet);
     };
-    if i.0 != n.0 {
+    if i.0 != image.0 {
         return Outcome::Refused(Reason::NeedNotMet);
     }
     let TermView::Img(_, s, _) = table::view(terms, i) else {
@@ -133,8 +133,15 @@ pub fn fin(p: LiteralView, terms: &[u64; table::NUMBERS], chains: &[u16; table::
     if s.0 != r.0 {
         return Outcome::Refused(Reason::NeedNotMet);
     }
-    let Found::At(m) = searches::on_three(terms, chains, Operator::Cup, i, r, TermNumber(0)) else {
+    let Found::At(turned) = searches::on_three(
+        terms,
+        chains,
+        Operator::Cup,
+        i,
+        r,
+        TermNumber(0),
+    ) else {
         return Outcome::Refused(Reason::TermNotMade);
     };
-    outcome::adds_one(literal(Relation::Eq, m, r))
+    outcome::adds_one(literal(Relation::Eq, turned, r))
 }

@@ -1,5 +1,4 @@
--- Sets of numbers below n, counted: a set onto which a map takes another has no more members than that one, and a set that has no more members than a part of it is
--- that part.
+-- Sets of numbers below n, counted. Where a map takes A onto B, B has at most as many members as A; and a set with at most as many members as a part of it is that part.
 use mathlib.Core.Path.{_≡_, refl, sym, _∙_, ap, subst}
 use mathlib.Core.Bool.{Bool, true, false, not, cond}
 use mathlib.Core.Logic.{_⊎_, inl, inr}
@@ -63,7 +62,7 @@ empty-counts (suc n) A h = go (dec (A (last n))) (empty-counts n (λ x. A (widen
     go (inl p) e = absurd (h (last n) p)
     go (inr p) e = let l = ap one p in omega (arith, l, e)
 
--- A MAP FROM ONE FINITE SET ONTO ANOTHER: every member of B is what f gives for a member of A.
+-- A MAP FROM ONE FINITE SET ONTO ANOTHER: every member of B is what f gives for a member of A. For others f may give what is not in B.
 abbrev pub Onto : {n m : ℕ} → (Below n → Below m) → (Below n → Bool) → (Below m → Bool) → Type 0
 Onto {n} {m} f A B = (y : Below m) → B y ≡ true → (x : Below n) × (A x ≡ true) × (f x ≡ y)
 
@@ -110,10 +109,10 @@ no-more-than-part n A B part few x b = go (dec (A x))
         let fewer = onto-no-more n (λ y. y) (without x B) A (λ y a. (y, and-i (part y a) (away y a), refl)) in
         absurd (omega (arith, few, fewer, without-counts n B x, ap one b))
 
--- Without an end this fails: the numbers from 1 on are all what `before` gives for such numbers, and so is 0.
+-- With no bound it need not be: `before` takes the numbers from 1 on onto all numbers. So they are a part of what `before` gives for them, and 0 is not in that part.
 abbrev before : ℕ → ℕ
 before zero = zero
 before (suc n) = n
 
-pub no-end : ((y : ℕ) → 0 < y → (x : ℕ) × (0 < x) × (before x ≡ y)) × (before 1 ≡ 0)
-no-end = (λ y h. (suc y, omega arith, refl), refl)
+pub positive-onto-all : (y : ℕ) → (x : ℕ) × (0 < x) × (before x ≡ y)
+positive-onto-all y = (suc y, omega arith, refl)

@@ -17,22 +17,10 @@ same-eq {n} x y e = Fin·val-path {n = n} {i = x} {j = y} (eqb-true (x .0) (y .0
 pub same-refl : {n : ℕ} (x : Below n) → same x x ≡ true
 same-refl x = eqb-same (x .0)
 
--- the greatest number below n + 1
+-- the greatest number below n + 1; any other is below n
 abbrev pub last : (n : ℕ) → Below (suc n)
 last n = (n, lt-suc-self n)
 
--- `any` finds one, and misses none
-pub any-out : (n : ℕ) (f : Below n → Bool) → any n f ≡ true → (x : Below n) × (f x ≡ true)
-unfolding any
-any-out zero f e = absurd (false≢true e)
-any-out (suc n) f e = go (any-out n (λ x. f (widen x))) (or-e _ _ e)
-  where
-    go : (any n (λ x. f (widen x)) ≡ true → (x : Below n) × (f (widen x) ≡ true))
-        → (f (last n) ≡ true) ⊎ (any n (λ x. f (widen x)) ≡ true) → (x : Below (suc n)) × (f x ≡ true)
-    go ih (inl p) = (last n, p)
-    go ih (inr p) = let k = ih p in (widen (k .0), k .1)
-
--- any other is below n
 below-last : (i n : ℕ) → i < suc n → (i ≡ n → ⊥) → i < n
 below-last i n h k = omega arith
 
@@ -44,6 +32,17 @@ last-or n x = go (dec (eqb (x .0) n))
     go (inr p) =
         let l : x .0 < n = below-last (x .0) n (x .1) (eqb-false (x .0) n p) in
         inr ((x .0, l), Fin·val-path {n = suc n} {i = widen (x .0, l)} {j = x} refl)
+
+-- `any` finds one, and misses none
+pub any-out : (n : ℕ) (f : Below n → Bool) → any n f ≡ true → (x : Below n) × (f x ≡ true)
+unfolding any
+any-out zero f e = absurd (false≢true e)
+any-out (suc n) f e = go (any-out n (λ x. f (widen x))) (or-e _ _ e)
+  where
+    go : (any n (λ x. f (widen x)) ≡ true → (x : Below n) × (f (widen x) ≡ true))
+        → (f (last n) ≡ true) ⊎ (any n (λ x. f (widen x)) ≡ true) → (x : Below (suc n)) × (f x ≡ true)
+    go ih (inl p) = (last n, p)
+    go ih (inr p) = let k = ih p in (widen (k .0), k .1)
 
 pub any-in : (n : ℕ) (f : Below n → Bool) (x : Below n) → f x ≡ true → any n f ≡ true
 unfolding any

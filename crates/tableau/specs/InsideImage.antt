@@ -49,6 +49,6 @@ countingCases =
 -- A heap and values make all that `imageInsideRegion` assumes true, so that a yes to it would be wrong.
 --
 -- That `fin` needs finiteness no heap can show here: every heap of the meaning is finite, and none makes all true that `regionInsideImage` assumes, since it is accepted. An infinite one would: r has x₁, x₂, ..,
--- and the field f leads from each xₙ₊₁ to xₙ, so that r is inside its image, and x₀, allocated too, is in the image alone. `no-end` in proofs/Counting.antt says this of the natural numbers.
+-- and the field f leads from each xₙ₊₁ to xₙ, so that r is inside its image, and x₀, allocated too, is in the image and not in r. `positive-onto-all` in proofs/Counting.antt says this of the natural numbers.
 abbrev pub ImageInsideRegionModel : Type 0
 ImageInsideRegionModel = Model (fileOf imageInsideRegion)

@@ -179,7 +179,7 @@ const TERM_WORDS: [&str; 17] = [
     "fnv", "clv", "typ", "dty",
 ];
 const LITERAL_WORDS: [&str; 6] = ["in", "ni", "eq", "ne", "le", "nl"];
-/// The thirty-one rules.
+/// The rules.
 pub const RULES: [&str; 31] = [
     "eqr", "eql", "ext", "cpe", "cpi", "cue", "cui", "dfe", "dfi", "sge", "sgi", "cut", "all",
     "nul", "sep", "img", "wit", "ref", "sym", "trn", "sub", "rep", "ler", "let", "lea", "rdh",

@@ -35,6 +35,7 @@ const KINDS: &[Kind] = &[
     ("`img`, terms early", lookups::img_early),
     ("`img`, terms late", lookups::img_late),
     ("`rdm`, nested writes", lookups::rdm),
+    ("`fin`", lookups::fin),
     ("`all`, term early", lookups::all_early),
     ("`all`, term late", lookups::all_late),
     ("`nul`, term early", lookups::nul_early),

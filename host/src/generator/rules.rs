@@ -1,4 +1,4 @@
-//! The thirty-one rules, as steps of a draft. Who calls one knows that its
+//! The rules, as steps of a draft. Who calls one knows that its
 //! needs are met. Each gives the place of the first literal added.
 
 use super::draft::{lit, ClauseId, Draft, Field, Literal, Place, TermId};

@@ -1,4 +1,4 @@
-//! The thirty-one rules. Each takes p, q, t and w, and makes its checks in the
+//! The rules. Each takes p, q, t and w, and makes its checks in the
 //! order of their numbers: fields that it doesn't use, terms, sorts, places,
 //! needs, freshness, terms to be added. All are inlined into the loop over the
 //! lines, so that the fields stay in registers.

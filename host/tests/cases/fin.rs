@@ -402,7 +402,6 @@ fn union_missing() -> Vec<Case> {
         "T,cup,2,1,0,0", // cup(s,r)
         "T,cup,7,2,0,0", // cup(i,s)
         "T,cup,2,7,0,0", // cup(s,i)
-        "T,cup,1,1,0,0", // cup(r,r)
         "T,cup,7,7,0,0", // cup(i,i)
         "T,cup,7,8,0,0", // cup(i,cup(r,i))
         "T,cup,8,1,0,0", // cup(cup(r,i),r)

@@ -656,12 +656,6 @@ fn finite() -> Vec<Case> {
         "T,cup,2,5,0,0", // 6, cup(r,i)
         "T,cup,5,2,0,0", // 7, cup(i,r)
     ];
-    let denied = [
-        "A,eq,6,5,0,0",  // 1: cup(r,i) eq i
-        "A,ne,7,2,0,0",  // 2: cup(i,r) ne r
-        "S,fin,1,0,0,0", // 3: cup(i,r) eq r
-        "S,cls,3,2,0,0",
-    ];
     let last_place = [
         "A,ne,7,2,0,0",  // 1: cup(i,r) ne r
         "A,in,1,5,0,0",  // 2: u in i
@@ -752,7 +746,6 @@ fn finite() -> Vec<Case> {
         case(&format!("accept: fin, {what}"), lines(&file), reply)
     };
     vec![
-        with("denied", &denied, "yes,0,0,7,2,2,1,0"),
         with("on the last place", &last_place, "yes,0,0,7,3,2,1,0"),
         with("a member of the image", &member, "yes,0,0,7,3,4,1,0"),
         with("the region is its image", &equal, "yes,0,0,7,2,8,2,0"),

@@ -186,8 +186,7 @@ fn accepted(rule: &'static str, text: &'static str, counts: [u32; 4]) -> Accepte
     }
 }
 
-/// For each of the thirty-one rules, in the order of docs/FORMAT.md, a file that
-/// uses it.
+/// For each rule, in the order of docs/FORMAT.md, a file that uses it.
 pub fn rule_files() -> Vec<Accepted> {
     vec![
         accepted(

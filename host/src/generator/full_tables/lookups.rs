@@ -84,6 +84,25 @@ pub fn rdm() -> Tableau {
     })
 }
 
+/// Regions inside their own images, each in turn. A `fin` looks one term up.
+pub fn fin() -> Tableau {
+    let mut made = Closable::new();
+    let draft = &mut made.draft;
+    let h = draft.variable("arv", 1);
+    let f = draft.variable("fnv", 1);
+    let mut inside = Vec::new();
+    for name in (2..).take(room(draft) / 4) {
+        let r = draft.variable("rgv", name);
+        let image = draft.term("img", &[h, r, f]);
+        let union = draft.term("cup", &[r, image]);
+        draft.term("cup", &[image, r]);
+        inside.push(draft.assume(lit(union, "eq", image)));
+    }
+    made.fill_with(Round::of(1, 1), |made, number| {
+        made.draft.fin(inside[number % inside.len()]);
+    })
+}
+
 pub fn all_early() -> Tableau {
     all(with_early("all"))
 }

@@ -18,7 +18,7 @@ union i = i .before .before .before .before .before .before .before
 abbrev literal : tie.After-r → tie.After-p
 literal u = u .before .before .before .before
 
--- k is not cup(r,i)
+-- the left side is not cup(r,i)
 returns-2 : tie.Need-returns-2
 unfolding computing
 returns-2 c = record {
@@ -27,7 +27,7 @@ returns-2 c = record {
       rw (c .before .before .before .p .given .1, no-arguments Operator.Cup (at table _) (c .before .view .ensures table (h .entries) .is) (c .match2 .keys2));
 }
 
--- i is not n
+-- i is not the right side
 returns-3 : tie.Need-returns-3
 unfolding computing
 returns-3 c =
@@ -103,7 +103,7 @@ adds-one-requires : tie.Need-adds-one-requires
 adds-one-requires c κs =
     let f = c .before .before in
     let m = f .before .before in
-    rw (c .literal .ensures) (subst SmallFound (f .m .given .1) (m .on-three .ensures .small), arguments-small (union (m .before .before .before .before .before)) .0)
+    rw (c .literal .ensures) (subst SmallFound (f .turned .given .1) (m .on-three .ensures .small), arguments-small (union (m .before .before .before .before .before)) .0)
 
 -- cup(i,r) eq r
 returns-7 : tie.Need-returns-7
@@ -120,7 +120,7 @@ returns-7 c =
       answers = λ table h fresh.
           let K = is-cup (at table _) _ _ (u .before .before .view .ensures table (h .entries) .is ∙ u .r .given .1) in
           let M = is-img (at table _) _ _ _ (x .view2 .ensures table (h .entries) .is ∙ i .s .given .1) in
-          rw (literal u .p .given .1, K .2, eq-eqb _ _ (x .before .if1 .left), M .1, eq-eqb _ _ (sym (m .before .if2 .left)), found-at (m .on-three .ensures .found table h) (f .m .given .1)) (sym (b .adds));
+          rw (literal u .p .given .1, K .2, eq-eqb _ _ (x .before .if1 .left), M .1, eq-eqb _ _ (sym (m .before .if2 .left)), found-at (m .on-three .ensures .found table h) (f .turned .given .1)) (sym (b .adds));
     }
 
 pub fin-spec : {M : Type 1} → statement M
@@ -129,7 +129,7 @@ fin-spec =
     tie.close
     (tie.spec
     (λ c. c .match .keys1)
-    -- p is not k eq n
+    -- p is no eq
     (λ c. let p = c .before .args .p in other-p p refl (is-not Relation.Eq p (c .match .keys2)))
     (λ c κs.
     let p = c .before in
