@@ -133,14 +133,8 @@ pub fn fin(p: LiteralView, terms: &[u64; table::NUMBERS], chains: &[u16; table::
     if s.0 != r.0 {
         return Outcome::Refused(Reason::NeedNotMet);
     }
-    let Found::At(turned) = searches::on_three(
-        terms,
-        chains,
-        Operator::Cup,
-        i,
-        r,
-        TermNumber(0),
-    ) else {
+    let Found::At(turned) = searches::on_three(terms, chains, Operator::Cup, i, r, TermNumber(0))
+    else {
         return Outcome::Refused(Reason::TermNotMade);
     };
     outcome::adds_one(literal(Relation::Eq, turned, r))
