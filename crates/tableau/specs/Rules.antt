@@ -176,7 +176,7 @@ typ x = operator Operator.Typ x – – –
 abbrev pub dty : Pattern → Pattern
 dty x = operator Operator.Dty x – – –
 
--- What a row needs: the literal at place p, or at place q; what the term of a letter is, but not of w, since any variable may be fresh; that a letter is a region.
+-- What a row needs: the literal at place p, or at place q; what the term of a letter is, but not of w, of which a row may ask only that it is fresh; that a letter is a region.
 pub data Need : Type 0 where
   p∶ : LiteralPattern → Need
   q∶ : LiteralPattern → Need

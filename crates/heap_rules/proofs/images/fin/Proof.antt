@@ -3,20 +3,33 @@ use mathlib.Core.Path.{refl, sym, subst, _∙_}
 use native.Mathlib.Omega.{arith}
 use Rattle.tableau.specs.declared.Operator.{Operator}
 use Rattle.tableau.specs.declared.Relation.{Relation}
-use Rattle.tableau.specs.Terms.{at}
+use Rattle.tableau.specs.Terms.{Table, at}
 use Rattle.packing.specs.Packing.{Small, SmallLiteral}
-use Rattle.table.specs.Held.{SmallFound}
-use Rattle.rules.proofs.Laws.{computing, found-at, found-nothing, is-cup, is-img, is-not, no-arguments, view-small}
+use Rattle.table.specs.Held.{Entries, SmallFound}
+use Rattle.rules.proofs.Laws.{Arguments2, Arguments3, computing, found-at, found-nothing, is-cup, is-img, is-not, no-arguments, view-small}
 use Rattle.rules.proofs.Rows.{other-p}
 use Rattle.heap_rules.proofs.images.fin.Statement.{statement}
 use Rattle.heap_rules.proofs.images.fin.Tie as tie
 
--- back from i to its union, and from the union to p
+-- back from i to its union, from there to p, and to the start
 abbrev union : tie.After-s → tie.After-r
 union i = i .before .before .before .before .before .before .before
 
 abbrev literal : tie.After-r → tie.After-p
 literal u = u .before .before .before .before
+
+abbrev start : tie.After-r → tie.Start
+start u = literal u .before .before
+
+-- the left side is cup(r,i)
+is-union : (u : tie.After-r) (table : Table) → Entries table (start u .args .terms .now)
+    → Arguments2 Operator.Cup (at table (literal u .p .given .0 .0 .0)) (u .r .given .0 .0) (u .r .given .0 .1 .0)
+is-union u table e = is-cup (at table _) _ _ (u .before .before .view .ensures table e .is ∙ u .r .given .1)
+
+-- i is img(h,s,f)
+is-image : (i : tie.After-s) (table : Table) → Entries table (start (union i) .args .terms .now)
+    → Arguments3 Operator.Img (at table (union i .r .given .0 .1 .0 .0)) (i .s .given .0 .0) (i .s .given .0 .1 .0) (i .s .given .0 .1 .1 .0)
+is-image i table e = is-img (at table _) _ _ _ (i .before .before .view2 .ensures table e .is ∙ i .s .given .1)
 
 -- the left side is not cup(r,i)
 returns-2 : tie.Need-returns-2
@@ -35,18 +48,17 @@ returns-3 c =
     record {
       room = tt;
       answers = λ table h fresh.
-          let K = is-cup (at table _) _ _ (u .before .before .view .ensures table (h .entries) .is ∙ u .r .given .1) in
-          rw (literal u .p .given .1, K .2, ne-eqb _ _ (c .if1 .taken));
+          rw (literal u .p .given .1, is-union u table (h .entries) .2, ne-eqb _ _ (c .if1 .taken));
     }
 
 -- r and i are small
 arguments-small : (u : tie.After-r) → Small (u .r .given .0 .0 .0) × Small (u .r .given .0 .1 .0 .0)
-arguments-small u = view-small (literal u .before .before .pre .0) (λ table h. u .before .before .view .ensures table (h .entries)) (u .r .given .1)
+arguments-small u = view-small (start u .pre .0) (λ table h. u .before .before .view .ensures table (h .entries)) (u .r .given .1)
 
 view-requires-2 : tie.Need-view-requires-2
 view-requires-2 c κs =
     let u = c .before .before .before .before in
-    let s = literal u .before .before .pre .0 in
+    let s = start u .pre .0 in
     ((s .0, s .1 .entries), arguments-small u .1)
 
 -- i is not img(h,s,f)
@@ -58,8 +70,7 @@ returns-4 c =
     record {
       room = tt;
       answers = λ table h fresh.
-          let K = is-cup (at table _) _ _ (u .before .before .view .ensures table (h .entries) .is ∙ u .r .given .1) in
-          rw (literal u .p .given .1, K .2, eq-eqb _ _ (x .before .if1 .left), no-arguments Operator.Img (at table _) (x .view2 .ensures table (h .entries) .is) (c .match3 .keys2));
+          rw (literal u .p .given .1, is-union u table (h .entries) .2, eq-eqb _ _ (x .before .if1 .left), no-arguments Operator.Img (at table _) (x .view2 .ensures table (h .entries) .is) (c .match3 .keys2));
     }
 
 -- the regions differ
@@ -72,16 +83,14 @@ returns-5 c =
     record {
       room = tt;
       answers = λ table h fresh.
-          let K = is-cup (at table _) _ _ (u .before .before .view .ensures table (h .entries) .is ∙ u .r .given .1) in
-          let M = is-img (at table _) _ _ _ (x .view2 .ensures table (h .entries) .is ∙ i .s .given .1) in
-          rw (literal u .p .given .1, K .2, eq-eqb _ _ (x .before .if1 .left), M .1, ne-eqb _ _ (λ q. c .if2 .taken (sym q)));
+          rw (literal u .p .given .1, is-union u table (h .entries) .2, eq-eqb _ _ (x .before .if1 .left), is-image i table (h .entries) .1, ne-eqb _ _ (λ q. c .if2 .taken (sym q)));
     }
 
 on-three-requires : tie.Need-on-three-requires
 on-three-requires c κs =
     let u = union (c .before .before .before .before) in
     let a = arguments-small u in
-    (literal u .before .before .pre .0, (a .1, a .0, omega arith))
+    (start u .pre .0, (a .1, a .0, omega arith))
 
 -- cup(i,r) is no term
 returns-6 : tie.Need-returns-6
@@ -94,9 +103,7 @@ returns-6 c =
     record {
       room = tt;
       answers = λ table h fresh.
-          let K = is-cup (at table _) _ _ (u .before .before .view .ensures table (h .entries) .is ∙ u .r .given .1) in
-          let M = is-img (at table _) _ _ _ (x .view2 .ensures table (h .entries) .is ∙ i .s .given .1) in
-          rw (literal u .p .given .1, K .2, eq-eqb _ _ (x .before .if1 .left), M .1, eq-eqb _ _ (sym (m .before .if2 .left)), found-nothing (m .on-three .ensures .found table h) (c .enum-told .given .1));
+          rw (literal u .p .given .1, is-union u table (h .entries) .2, eq-eqb _ _ (x .before .if1 .left), is-image i table (h .entries) .1, eq-eqb _ _ (sym (m .before .if2 .left)), found-nothing (m .on-three .ensures .found table h) (c .enum-told .given .1));
     }
 
 adds-one-requires : tie.Need-adds-one-requires
@@ -118,9 +125,7 @@ returns-7 c =
     record {
       room = b .room;
       answers = λ table h fresh.
-          let K = is-cup (at table _) _ _ (u .before .before .view .ensures table (h .entries) .is ∙ u .r .given .1) in
-          let M = is-img (at table _) _ _ _ (x .view2 .ensures table (h .entries) .is ∙ i .s .given .1) in
-          rw (literal u .p .given .1, K .2, eq-eqb _ _ (x .before .if1 .left), M .1, eq-eqb _ _ (sym (m .before .if2 .left)), found-at (m .on-three .ensures .found table h) (f .turned .given .1)) (sym (b .adds));
+          rw (literal u .p .given .1, is-union u table (h .entries) .2, eq-eqb _ _ (x .before .if1 .left), is-image i table (h .entries) .1, eq-eqb _ _ (sym (m .before .if2 .left)), found-at (m .on-three .ensures .found table h) (f .turned .given .1)) (sym (b .adds));
     }
 
 pub fin-spec : {M : Type 1} → statement M
