@@ -1,4 +1,4 @@
-# Runs the program $name with the arguments of the script that reads this file: tabcheck or tabeval. Not to be called itself.
+# Runs the program $name with the arguments of the script that reads this file: tabcheck, tabeval or tabfigures. Not to be called itself.
 #
 # The first call builds the program, which is proved before it is built. After a change, `rt check` and its name build it
 # anew.

@@ -1,91 +1,24 @@
 -- A fact that is written is read: its line has the shape, and passes where its numbers may follow.
-use mathlib.Core.Path.{_≡_, refl, sym, _∙_, ap, subst}
-use mathlib.Core.Bool.{Bool, true, false, not, Bool·beq, true≢false}
-use mathlib.Core.List.{List, [], _∷_, _++_, map, map-append}
+use mathlib.Core.Path.{_≡_, refl, sym, _∙_, ap}
+use mathlib.Core.Bool.{Bool, true, false, Bool·beq, true≢false}
+use mathlib.Core.List.{List, [], _∷_, _++_, map, append-nil, map-append}
 use mathlib.Core.Option.{some}
-use Prim.Native.Nat.{ℕ, zero, suc, _+_, _-_, _*_, _/_, _%_, _<_, _≤_}
+use Prim.Native.Nat.{ℕ, suc, _≤_}
 use native.Mathlib.Omega.{arith}
-use lib.Dec.{eqb, ltb}
-use lib.ListN.{length, getD, length-append}
-use borrow.Author.Tests.{ltb-true, ltb-false, lt-ltb, le-leb, ne-eqb}
-use Rattle.tableau.specs.Basics.{guard, Four, every, bytes, sameBytes, lookup}
-use Rattle.tableau.specs.File.{comma, allSmall, isWord, isDigit, digits, number, sixFields, shape}
+use lib.Dec.{eqb}
+use lib.ListN.{length, length-append}
+use Rattle.tableau.specs.Basics.{Four, every, bytes, sameBytes, lookup}
+use Rattle.tableau.specs.File.{comma, split, allSmall, isWord, maxDigits, number, sixFields, shape}
 use Rattle.tableau.specs.Tree.{Checked, refused, passed}
-use Rattle.tableau.specs.Reply.{ended, runLines, decimalFrom, decimal}
-use Rattle.tableau.proofs.Bools.{both-i}
+use Rattle.tableau.specs.Reply.{ended, runLines, decimal}
 use Rattle.tableau.proofs.Checks.{lookup-agree}
+use Rattle.tableau.proofs.Decimals.{number-decimal, decimal-free}
+use Rattle.tableau.proofs.Pieces.{behind, free, AllFree, split-behind}
 use Rattle.tableau.proofs.Places.{every-value, every-equal}
 use Rattle.evaluation.specs.declared.FactWord.{FactWord}
 use Rattle.evaluation.specs.Facts.{heapLetters, factWords, factIndex, factFields, Fact, Facts, isNil, zeroUnlessUsed, mayFollow, runFact}
-use Rattle.evaluation.specs.Sayable.{maxNumber, wordText, factLine}
+use Rattle.evaluation.specs.Sayable.{maxNumber, wordText, joined, factLine}
 use Rattle.evaluation.proofs.FactWord as word-type
-use Rattle.evaluation.proofs.Pieces.{free, split-joined}
-
--- DECIMALS: at most suc k digits
-Digits : ℕ → ℕ → Type 0
-Digits zero n = n < 10
-Digits (suc k) n = Digits k (n / 10)
-
--- digits l of n before ds, by decimalFrom
-record Written (n k : ℕ) (ds l : List ℕ) : Type 0 where
-  value : digits l 0 ≡ digits ds n
-  width : length l ≤ suc k + length ds
-  no-comma : free comma ds ≡ true → free comma l ≡ true
-  leading : 1 ≤ n → eqb (getD l 0 48) 48 ≡ false
-
-digit-read : (d n : ℕ) (ds : List ℕ) → d < 10 → digits ((48 + d) ∷ ds) n ≡ digits ds (10 * n + d)
-unfolding digits
-digit-read d n ds h =
-    let t : isDigit (48 + d) ≡ true = both-i (le-leb 48 (48 + d) (omega arith)) (le-leb (48 + d) 57 (omega arith)) in
-    let e : 10 * n + (48 + d - 48) ≡ 10 * n + d = omega arith in
-    λ i. guard (t i) (digits ds (e i))
-
-digit-free : (d : ℕ) (ds : List ℕ) → free comma ds ≡ true → free comma ((48 + d) ∷ ds) ≡ true
-unfolding free
-digit-free d ds h = both-i (ap not (ne-eqb (48 + d) comma (λ e. omega arith))) h
-
-one-digit : (n k : ℕ) (ds : List ℕ) → n < 10 → Written n k ds ((48 + n) ∷ ds)
-one-digit n k ds h = record {
-  value = digit-read n 0 ds h ∙ ap (digits ds) (omega arith);
-  width = omega arith;
-  no-comma = digit-free n ds;
-  leading = λ l. ne-eqb (48 + n) 48 (λ e. omega arith);
-}
-
-abbrev tested : ℕ → ℕ → List ℕ → Bool → List ℕ
-tested f n ds t = elim t [ true ↦ (48 + n) ∷ ds | false ↦ decimalFrom f (n / 10) ((48 + n % 10) ∷ ds) ]
-
-written : (f n k : ℕ) (ds : List ℕ) → n < f → Digits k n → Written n k ds (decimalFrom f n ds)
-unfolding decimalFrom Digits
-written zero n k ds h g = absurd (omega arith)
-written (suc f) n zero ds h g = subst (λ t. Written n 0 ds (tested f n ds t)) (sym (lt-ltb n 10 g)) (one-digit n 0 ds g)
-written (suc f) n (suc k) ds h g = go (ltb n 10) refl (written f (n / 10) k ((48 + n % 10) ∷ ds))
-  where
-    go : (t : Bool) → ltb n 10 ≡ t → (n / 10 < f → Digits k (n / 10) → Written (n / 10) k ((48 + n % 10) ∷ ds) (decimalFrom f (n / 10) ((48 + n % 10) ∷ ds)))
-        → Written n (suc k) ds (tested f n ds t)
-    go true e ih = one-digit n (suc k) ds (ltb-true n 10 e)
-    go false e ih =
-        let l = ltb-false n 10 e in
-        let w = ih (omega arith) g in
-        record {
-          value = w .value ∙ digit-read (n % 10) (n / 10) ds (omega arith) ∙ ap (digits ds) (omega arith);
-          width = omega (arith, w .width);
-          no-comma = λ c. w .no-comma (digit-free (n % 10) ds c);
-          leading = λ m. w .leading (omega (arith, l));
-        }
-
-decimal-written : (n : ℕ) → n ≤ maxNumber → Written n 3 [] (decimal n)
-unfolding Digits
-decimal-written n h = written (suc n) n 3 [] (omega arith) (omega arith)
-
-number-decimal : (n : ℕ) → n ≤ maxNumber → number (decimal n) ≡ some n
-unfolding number digits decimalFrom
-number-decimal zero h = refl
-number-decimal (suc n) h = go (decimal (suc n)) (decimal-written (suc n) h)
-  where
-    go : (l : List ℕ) → Written (suc n) 3 [] l → number l ≡ some (suc n)
-    go [] w = absurd (true≢false (w .leading (omega arith)))
-    go (b ∷ bs) w = rw (le-leb (length (b ∷ bs)) 4 (w .width), w .leading (omega arith)) (w .value)
 
 -- WORDS, by their texts
 pub known : (w : FactWord) → lookup factWords (wordText w) ≡ some w
@@ -107,9 +40,18 @@ pub is-size : {w : FactWord} (bs : List ℕ) → lookup factWords bs ≡ some w 
 unfolding factIndex factWords bytes sameBytes
 is-size bs = lookup-agree isSize (sameBytes (bytes "siz")) factWords bs refl
 
-decimal-free : (n : ℕ) → n ≤ maxNumber → free comma (decimal n) ≡ true
-unfolding free
-decimal-free n h = decimal-written n h .no-comma refl
+-- NUMBERS, by their decimals
+low-read : (n : ℕ) → n ≤ maxNumber → number maxDigits (decimal n) ≡ some n
+low-read n h = number-decimal maxDigits n (omega arith) (omega arith)
+
+-- PIECES that are joined
+joined-behind : (c : ℕ) (p : List ℕ) (qs : List (List ℕ)) → joined c p qs ≡ p ++ behind c qs
+unfolding joined behind
+joined-behind c p [] = sym (append-nil p)
+joined-behind c p (q ∷ qs) = ap (λ l. p ++ (c ∷ l)) (joined-behind c q qs)
+
+split-joined : (c : ℕ) (p : List ℕ) (qs : List (List ℕ)) → AllFree c (p ∷ qs) → split c (joined c p qs) ≡ p ∷ qs
+split-joined c p qs h = ap (split c) (joined-behind c p qs) ∙ split-behind c p qs h
 
 -- THE LINE
 abbrev pub Low : Four ℕ → Type 0
@@ -119,8 +61,8 @@ line-shape : (x : Fact) → Low (x .fields) → shape heapLetters (factLine x) �
 unfolding factLine sixFields heapLetters lookup bytes sameBytes free
 line-shape x l =
     ap (sixFields (lookup heapLetters)) (split-joined comma (bytes "D") _
-    (refl, (text-free (x .word), (decimal-free _ (l .0), (decimal-free _ (l .1), (decimal-free _ (l .2), (decimal-free _ (l .3), tt)))))))
-    ∙ rw (text-small (x .word), number-decimal _ (l .0), number-decimal _ (l .1), number-decimal _ (l .2), number-decimal _ (l .3)) refl
+    (refl, (text-free (x .word), (decimal-free _ comma refl, (decimal-free _ comma refl, (decimal-free _ comma refl, (decimal-free _ comma refl, tt)))))))
+    ∙ rw (text-small (x .word), low-read _ (l .0), low-read _ (l .1), low-read _ (l .2), low-read _ (l .3)) refl
 
 pub run-fact : (facts : Facts) (x : Fact) → Low (x .fields) → Bool·beq (isNil facts) (isSize (x .word)) ≡ true
     → every zeroUnlessUsed (factFields (x .word)) (x .fields) ≡ true → mayFollow facts (x .word) (x .fields) ≡ true → runFact facts (factLine x) ≡ passed (facts ++ (x ∷ []))

@@ -1,6 +1,5 @@
 -- What is proved of the evaluator's specification.
 pub mod Decision
-pub mod Pieces
 pub mod Begins
 pub mod FilesRead
 pub mod Passable

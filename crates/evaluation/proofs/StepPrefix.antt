@@ -11,9 +11,9 @@ use lib.ListN.{length, take, drop, getD, drop-of-length-le}
 use lib.Seq.{drop-cons, getD-drop}
 use Rattle.tableau.specs.Basics.{bytes, sameBytes}
 use Rattle.tableau.specs.File.{split, onFirst, LF}
+use Rattle.tableau.proofs.Pieces.{pieces}
 use Rattle.evaluation.specs.Evaluation.{beginsStep, beforeSteps}
 use Rattle.evaluation.specs.Parts.{stepsFrom, stepsAt, StepsAhead}
-use Rattle.evaluation.proofs.Pieces.{pieces}
 use Rattle.evaluation.proofs.Begins.{begins-first}
 
 -- the lines before the first step, where the first piece counts as a line only if one begins with it

@@ -18,83 +18,84 @@ use Rattle.tableau.specs.File.{LF, onFirst, split, Line}
 use Rattle.tableau.specs.Tree.{Checked, refused, passed, requireSome}
 use Rattle.lines.specs.declared.LineRead.{LineRead}
 use Rattle.lines.specs.Lines.{anyShape, lineRead, firstLine, lineAt, LFAhead, LinesEnd}
-use Rattle.lines.specs.ByteSteps.{nextLetter, firstDigit, nextDigit, FieldsRead, Reading, empty, afterLetter, inWord, beforeNumber, inNumber, whole, bad}
-use Rattle.lines.specs.ByteSteps.{withNumber, step, ends, fieldsOf, lineEnd, goesOn, steps, stepsAt}
+use Rattle.lines.specs.ByteSteps.{nextLetter, firstDigit, nextDigit, Form, sixFieldForm, FieldsRead, Reading, empty, afterLetter, inWord, beforeNumber, inNumber, whole, bad}
+use Rattle.lines.specs.ByteSteps.{withNumber, step, ends, fieldsOf, FieldsAt, lineEnd, goesOn, steps, stepsAt, lineOf}
 use Rattle.lines.proofs.Pieces.{pieces, uncut}
 use Rattle.lines.proofs.OnePass.{unended, any-pass}
 
 -- A line that is whole or bad stays so.
-steps-bad : (l : List ℕ) (at : ℕ) → steps bad l at ≡ LineRead.BadShape
-unfolding steps step
-steps-bad [] at = refl
-steps-bad (x ∷ l) at = steps-bad l (at + 1)
+module _ (F : Form) where
+  steps-bad : (l : List ℕ) (at : ℕ) → steps F bad l at ≡ none
+  unfolding steps step
+  steps-bad [] at = refl
+  steps-bad (x ∷ l) at = steps-bad l (at + 1)
 
-pub steps-whole : (f : FieldsRead) (l : List ℕ) (at : ℕ) → steps (whole f) l at ≡ lineEnd at (passed f)
-unfolding steps
-steps-whole f [] at = refl
-steps-whole f (x ∷ l) at = refl
+  pub steps-whole : (f : FieldsRead) (l : List ℕ) (at : ℕ) → steps F (whole f) l at ≡ lineEnd at (passed f)
+  unfolding steps
+  steps-whole f [] at = refl
+  steps-whole f (x ∷ l) at = refl
 
-steps-on : (r : Reading) (x : ℕ) (l : List ℕ) (at : ℕ) → ends r ≡ refused Reason.BadShape → steps r (x ∷ l) at ≡ steps (step r x) l (at + 1)
-unfolding steps
-steps-on r x l at e = cut (ends r) e
-  where
-    cut : (c : Checked FieldsRead) → c ≡ refused Reason.BadShape
-        → elim (goesOn c) [ true ↦ steps (step r x) l (at + 1) | false ↦ lineEnd at c ] ≡ steps (step r x) l (at + 1)
-    cut c e = rw e
+  steps-on : (r : Reading) (x : ℕ) (l : List ℕ) (at : ℕ) → ends r ≡ refused Reason.BadShape → steps F r (x ∷ l) at ≡ steps F (step F r x) l (at + 1)
+  unfolding steps
+  steps-on r x l at e = cut (ends r) e
+    where
+      cut : (c : Checked FieldsRead) → c ≡ refused Reason.BadShape
+          → elim (goesOn c) [ true ↦ steps F (step F r x) l (at + 1) | false ↦ lineEnd at c ] ≡ steps F (step F r x) l (at + 1)
+      cut c e = rw e
 
--- THE LINE. After LF it is whole or bad.
-after-LF : (r : Reading) (l : List ℕ) (at : ℕ) → steps (step r LF) l at ≡ lineEnd at (ends (step r LF))
-unfolding step nextLetter firstDigit nextDigit
-after-LF empty l at = steps-bad l at
-after-LF (afterLetter k) l at = steps-bad l at
-after-LF (inWord k value count) l at = steps-bad l at
-after-LF (beforeNumber n f) l at = steps-bad l at
-after-LF (inNumber zero f value left) l at = steps-whole (withNumber f value) l at
-after-LF (inNumber (suc n) f value left) l at = steps-bad l at
-after-LF (whole f) l at = steps-bad l at
-after-LF bad l at = steps-bad l at
+  -- THE LINE. After LF it is whole or bad.
+  after-LF : (r : Reading) (l : List ℕ) (at : ℕ) → steps F (step F r LF) l at ≡ lineEnd at (ends (step F r LF))
+  unfolding step nextLetter firstDigit nextDigit
+  after-LF empty l at = steps-bad l at
+  after-LF (afterLetter k) l at = steps-bad l at
+  after-LF (inWord k value count) l at = steps-bad l at
+  after-LF (beforeNumber n f) l at = steps-bad l at
+  after-LF (inNumber zero f value left) l at = steps-whole (withNumber f value) l at
+  after-LF (inNumber (suc n) f value left) l at = steps-bad l at
+  after-LF (whole f) l at = steps-bad l at
+  after-LF bad l at = steps-bad l at
 
-first-line : (r : Reading) (l : List ℕ) (at : ℕ) → ends r ≡ refused Reason.BadShape
-    → steps r l at ≡ firstLine (λ n p. lineEnd n (ends (foldl step r (p ++ (LF ∷ []))))) at (split LF l)
-unfolding steps split
-first-line r [] at e = rw e
-first-line r (x ∷ l) at e = steps-on r x l at e ∙ (let k = pieces LF l in which (k .0) (k .1) (k .2) (eqb x LF) refl (first-line (step r x) l (at + 1)))
-  where
-    which : (p : List ℕ) (ps : List (List ℕ)) → split LF l ≡ p ∷ ps → (b : Bool) → eqb x LF ≡ b
-        → (ends (step r x) ≡ refused Reason.BadShape
-        → steps (step r x) l (at + 1) ≡ firstLine (λ n p. lineEnd n (ends (foldl step (step r x) (p ++ (LF ∷ []))))) (at + 1) (split LF l))
-        → steps (step r x) l (at + 1)
-        ≡ firstLine (λ n p. lineEnd n (ends (foldl step r (p ++ (LF ∷ []))))) at (elim b [ true ↦ [] ∷ split LF l | false ↦ onFirst x (split LF l) ])
-    which p ps k true q later = let z : at + 0 + 1 ≡ at + 1 = omega arith in rw (k, z, eqb-true x LF q) (after-LF r l (at + 1))
-    which p ps k false q later = later (unended r x (eqb-false x LF q)) ∙ rw k (piece ps)
-      where
-        piece : (ps : List (List ℕ)) → firstLine (λ n p. lineEnd n (ends (foldl step (step r x) (p ++ (LF ∷ []))))) (at + 1) (p ∷ ps)
-            ≡ firstLine (λ n p. lineEnd n (ends (foldl step r (p ++ (LF ∷ []))))) at ((x ∷ p) ∷ ps)
-        piece [] = refl
-        piece (q ∷ qs) = let z : at + 1 + length p + 1 ≡ at + suc (length p) + 1 = omega arith in rw z
+  -- what the steps over a line come to, with the position after its LF
+  abbrev pub lineFrom : Reading → ℕ → List ℕ → Option FieldsAt
+  lineFrom r next′ p = lineEnd next′ (ends (foldl (step F) r (p ++ (LF ∷ []))))
+
+  pub first-steps : (r : Reading) (l : List ℕ) (at : ℕ) → ends r ≡ refused Reason.BadShape → steps F r l at ≡ firstLine none (lineFrom r) at (split LF l)
+  unfolding steps split
+  first-steps r [] at e = rw e
+  first-steps r (x ∷ l) at e = steps-on r x l at e ∙ (let k = pieces LF l in which (k .0) (k .1) (k .2) (eqb x LF) refl (first-steps (step F r x) l (at + 1)))
+    where
+      which : (p : List ℕ) (ps : List (List ℕ)) → split LF l ≡ p ∷ ps → (b : Bool) → eqb x LF ≡ b
+          → (ends (step F r x) ≡ refused Reason.BadShape → steps F (step F r x) l (at + 1) ≡ firstLine none (lineFrom (step F r x)) (at + 1) (split LF l))
+          → steps F (step F r x) l (at + 1) ≡ firstLine none (lineFrom r) at (elim b [ true ↦ [] ∷ split LF l | false ↦ onFirst x (split LF l) ])
+      which p ps k true q later = let z : at + 0 + 1 ≡ at + 1 = omega arith in rw (k, z, eqb-true x LF q) (after-LF r l (at + 1))
+      which p ps k false q later = later (unended F r x (eqb-false x LF q)) ∙ rw k (piece ps)
+        where
+          piece : (ps : List (List ℕ)) → firstLine none (lineFrom (step F r x)) (at + 1) (p ∷ ps) ≡ firstLine none (lineFrom r) at ((x ∷ p) ∷ ps)
+          piece [] = refl
+          piece (q ∷ qs) = let z : at + 1 + length p + 1 ≡ at + suc (length p) + 1 = omega arith in rw z
 
 -- The steps from a position on come to the shape of the line that begins there.
-pub line-steps : (file : List ℕ) (at : ℕ) → stepsAt empty file at ≡ lineAt file at
+pub line-steps : (file : List ℕ) (at : ℕ) → lineOf (stepsAt sixFieldForm empty file at) ≡ lineAt file at
 unfolding stepsAt lineAt
-line-steps file at = first-line empty (drop at file) at refl ∙ same (split LF (drop at file))
+line-steps file at = ap lineOf (first-steps sixFieldForm empty (drop at file) at refl) ∙ same (split LF (drop at file))
   where
-    shaped : (n : ℕ) (m : Option (Line ℕ)) → lineEnd n (requireSome (then m λ k. some (fieldsOf k)) Reason.BadShape) ≡ lineRead n m
+    shaped : (n : ℕ) (m : Option (Line ℕ)) → lineOf (lineEnd n (requireSome (then m λ k. some (fieldsOf k)) Reason.BadShape)) ≡ lineRead n m
     shaped n none = refl
     shaped n (some k) = refl
 
-    same : (ls : List (List ℕ)) → firstLine (λ n p. lineEnd n (ends (foldl step empty (p ++ (LF ∷ []))))) at ls
-        ≡ firstLine (λ n l. lineRead n (anyShape l)) at ls
+    same : (ls : List (List ℕ)) → lineOf (firstLine none (lineFrom sixFieldForm empty) at ls) ≡ firstLine LineRead.BadShape (λ n l. lineRead n (anyShape l)) at ls
     same [] = refl
     same (l ∷ []) = refl
-    same (l ∷ m ∷ ls) = ap (lineEnd (at + length l + 1)) (any-pass l) ∙ shaped (at + length l + 1) (anyShape l)
+    same (l ∷ m ∷ ls) = ap (λ c. lineOf (lineEnd (at + length l + 1) c)) (any-pass l) ∙ shaped (at + length l + 1) (anyShape l)
 
--- Bytes without LF are no line.
+-- Behind the last LF the bytes are one piece, and no line.
+pub one-piece-behind : (file : List ℕ) (end at : ℕ) → LinesEnd file end → end ≤ at → split LF (drop at file) ≡ drop at file ∷ []
+one-piece-behind file end at E h =
+    uncut LF (drop at file) (λ i k q. E .last (at + i) (omega arith) (omega (arith, length-drop at file)) (sym (getD-drop at file i 0) ∙ q))
+
 pub no-line-behind : (file : List ℕ) (end at : ℕ) → LinesEnd file end → end ≤ at → lineAt file at ≡ LineRead.BadShape
 unfolding lineAt
-no-line-behind file end at E h =
-    ap (firstLine (λ n l. lineRead n (anyShape l)) at)
-    (uncut LF (drop at file)
-    (λ i k q. E .last (at + i) (omega arith) (omega (arith, length-drop at file)) (sym (getD-drop at file i 0) ∙ q)))
+no-line-behind file end at E h = ap (firstLine LineRead.BadShape (λ n l. lineRead n (anyShape l)) at) (one-piece-behind file end at E h)
 
 -- THE BYTE at a position that has an LF ahead.
 pub ahead-here : (file : List ℕ) (i : ℕ) → LFAhead file i → i < length file
@@ -108,16 +109,16 @@ ahead-next file i a h = record {
   isLF = a .isLF;
 }
 
-pub a-byte : (r : Reading) (file : List ℕ) (i : ℕ) → ends r ≡ refused Reason.BadShape → LFAhead file i
-    → stepsAt r file i ≡ stepsAt (step r (getD file i 0)) file (i + 1)
+pub a-byte : (F : Form) (r : Reading) (file : List ℕ) (i : ℕ) → ends r ≡ refused Reason.BadShape → LFAhead file i
+    → stepsAt F r file i ≡ stepsAt F (step F r (getD file i 0)) file (i + 1)
 unfolding stepsAt
-a-byte r file i due a =
+a-byte F r file i due a =
     let here : drop i file ≡ getD file i 0 ∷ drop (i + 1) file = rw add-one (drop-cons file i 0 (ahead-here file i a)) in
-    rw here (steps-on r (getD file i 0) (drop (i + 1) file) i due)
+    rw here (steps-on F r (getD file i 0) (drop (i + 1) file) i due)
 
-pub no-line-at : (file : List ℕ) (i : ℕ) → stepsAt bad file i ≡ LineRead.BadShape
+pub no-line-at : (F : Form) (file : List ℕ) (i : ℕ) → stepsAt F bad file i ≡ none
 unfolding stepsAt
-no-line-at file i = steps-bad (drop i file) i
+no-line-at F file i = steps-bad F (drop i file) i
 
 -- THE LAST LF, looked for from the end.
 unfoldable pub NoneBehind : List ℕ → ℕ → Type 0

@@ -8,7 +8,7 @@ use lib.Dec.{eqb·suc-zero}
 use lib.ListN.{length}
 use Rattle.tableau.specs.declared.Reason.{Reason}
 use Rattle.tableau.specs.Basics.{then, guard, isSome, four, bytes, sameBytes, Named, lookup}
-use Rattle.tableau.specs.File.{comma, split, isWord, number, Line, sixFields, shape}
+use Rattle.tableau.specs.File.{comma, split, isWord, maxDigits, number, Line, sixFields, shape}
 use Rattle.tableau.specs.Tree.{_>>=_, requireSome}
 use Rattle.tableau.proofs.Bools.{both-true, guard-inv, none≢some}
 use Rattle.tableau.proofs.Checks.{same-bytes}
@@ -77,7 +77,7 @@ module _ {L : Type 0} (known : List (Named L)) (capitals : allCapitals known ≡
   fields-lettered (k ∷ w ∷ a ∷ []) = refl
   fields-lettered (k ∷ w ∷ a ∷ b ∷ []) = refl
   fields-lettered (k ∷ w ∷ a ∷ b ∷ c ∷ []) = refl
-  fields-lettered (k ∷ w ∷ a ∷ b ∷ c ∷ d ∷ []) = rw (by-capital known capitals k) (letter-last (λ x. lookup known (x ∷ [])) (capital k) w (isWord w) (number a) (number b) (number c) (number d))
+  fields-lettered (k ∷ w ∷ a ∷ b ∷ c ∷ d ∷ []) = rw (by-capital known capitals k) (letter-last (λ x. lookup known (x ∷ [])) (capital k) w (isWord w) (number maxDigits a) (number maxDigits b) (number maxDigits c) (number maxDigits d))
   fields-lettered (k ∷ w ∷ a ∷ b ∷ c ∷ d ∷ x ∷ ps) = refl
 
   pub shape-lettered : (l : List ℕ) → shape known l ≡ then (anyShape l) (letteredLine known)

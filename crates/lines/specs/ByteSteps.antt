@@ -25,9 +25,9 @@ stepBy own full ends whole value = cond own (cond full ByteStep.Bad (ByteStep.Mo
 unfoldable pub nextLetter : ℕ → ℕ → ℕ → ByteStep
 nextLetter value count x = stepBy (isSmall x) (leb 3 count) (eqb x comma) (eqb count 2 || eqb count 3) (value + 256 ^ count * x)
 
--- a number by its first digit: its value, and how many digits may follow, none after a 0
-unfoldable pub firstDigit : ℕ → FirstDigit
-firstDigit x = cond (isDigit x) (FirstDigit.Digit (x - 48) (cond (eqb x 48) 0 (maxDigits - 1))) FirstDigit.Bad
+-- a number of at most so many digits by its first one: its value, and how many digits may follow, none after a 0
+unfoldable pub firstDigit : ℕ → ℕ → FirstDigit
+firstDigit most x = cond (isDigit x) (FirstDigit.Digit (x - 48) (cond (eqb x 48) 0 (most - 1))) FirstDigit.Bad
 
 -- a number whose digits so far make value, where left more may follow
 unfoldable pub nextDigit : ℕ → ℕ → ℕ → ℕ → ByteStep
@@ -38,11 +38,23 @@ pub record LettersFit (value count : ℕ) : Type 0 where
   pub few : count ≤ 3
   pub small : value < 256 ^ count
 
-pub record DigitsFit (value left : ℕ) : Type 0 where
-  pub few : left < maxDigits
-  pub small : value < 10 ^ (maxDigits - left)
+-- with one digit more than so many a number still has 64 bits at most
+abbrev pub mostDigits : ℕ
+mostDigits = 18
 
--- ONE BYTE OF A LINE. The fields that are read to their end, the word packed in one number; the letter is of a kind L, its byte as long as the line is read.
+pub record DigitsFit (value left : ℕ) : Type 0 where
+  pub few : left < mostDigits
+  pub small : value < 10 ^ (mostDigits - left)
+
+-- ONE BYTE OF A LINE. What kinds of lines differ in: how many numbers stand behind the word, and how many digits each has at most.
+pub record Form : Type 0 where
+  pub count : ℕ
+  pub digits : ℕ
+
+abbrev pub sixFieldForm : Form
+sixFieldForm = record { count = 4; digits = maxDigits }
+
+-- The fields that are read to their end, the word packed in one number; the letter is of a kind L, its byte as long as the line is read.
 pub record FieldsOf (L : Type 0) : Type 0 where
   pub letter : L
   pub word : ℕ
@@ -73,8 +85,8 @@ abbrev pub endOf : ℕ → ℕ
 endOf zero = LF
 endOf (suc n) = comma
 
-abbrev pub wordEnds : ℕ → ℕ → Reading
-wordEnds l word = beforeNumber 3 (record { letter = l; word = word; numbers = [] })
+abbrev pub wordEnds : Form → ℕ → ℕ → Reading
+wordEnds F l word = beforeNumber (F .count - 1) (record { letter = l; word = word; numbers = [] })
 
 abbrev pub withNumber : FieldsRead → ℕ → FieldsRead
 withNumber f value = record { letter = f .letter; word = f .word; numbers = f .numbers ++ (value ∷ []) }
@@ -97,14 +109,14 @@ byteStep more done ByteStep.End = done
 byteStep more done ByteStep.Bad = bad
 
 -- "a step gets one byte and the fields read so far, never the line"
-unfoldable pub step : Reading → ℕ → Reading
-step empty x = letterStep (capitalOf x)
-step (afterLetter l) x = cond (eqb x comma) (inWord l 0 0) bad
-step (inWord l value count) x = byteStep (λ v. inWord l v (count + 1)) (wordEnds l value) (nextLetter value count x)
-step (beforeNumber n f) x = firstStep n f (firstDigit x)
-step (inNumber n f value left) x = byteStep (λ v. inNumber n f v (left - 1)) (numberEnds n f value) (nextDigit value left x (endOf n))
-step (whole f) x = bad
-step bad x = bad
+unfoldable pub step : Form → Reading → ℕ → Reading
+step F empty x = letterStep (capitalOf x)
+step F (afterLetter l) x = cond (eqb x comma) (inWord l 0 0) bad
+step F (inWord l value count) x = byteStep (λ v. inWord l v (count + 1)) (wordEnds F l value) (nextLetter value count x)
+step F (beforeNumber n f) x = firstStep n f (firstDigit (F .digits) x)
+step F (inNumber n f value left) x = byteStep (λ v. inNumber n f v (left - 1)) (numberEnds n f value) (nextDigit value left x (endOf n))
+step F (whole f) x = bad
+step F bad x = bad
 
 -- WHAT THE STEPS END WITH: the fields, or number 2.
 abbrev pub ends : Reading → Checked FieldsRead
@@ -139,7 +151,7 @@ lettered known f = requireSome (then (lookup known (f .letter ∷ [])) λ l. som
 -- with any letters
 unfoldable pub OnePass : Type 1
 OnePass = (L : Type 0) (known : List (Named L)) → allCapitals known ≡ true → (l : List ℕ)
-    → (ends (foldl step empty (l ++ (LF ∷ []))) >>= lettered known) ≡ requireSome (then (shape known l) λ k. some (fieldsOf k)) Reason.BadShape
+    → (ends (foldl (step sixFieldForm) empty (l ++ (LF ∷ []))) >>= lettered known) ≡ requireSome (then (shape known l) λ k. some (fieldsOf k)) Reason.BadShape
 
 -- and from these fields the line's own can be told, though the word is packed
 unfoldable pub FieldsInjective : Type 1
@@ -147,49 +159,59 @@ FieldsInjective = (L : Type 0) (k n : Line L) → isWord (k .word) ≡ true → 
 
 -- bytes with no LF among them end with number 2
 unfoldable pub NoLine : Type 0
-NoLine = (l : List ℕ) → (List·Mem LF l → ⊥) → ends (foldl step empty l) ≡ refused Reason.BadShape
+NoLine = (l : List ℕ) → (List·Mem LF l → ⊥) → ends (foldl (step sixFieldForm) empty l) ≡ refused Reason.BadShape
 
--- THE STEPS IN A FILE. From a position on, in order and each once, up to the end of the line.
-abbrev pub lineEnd : ℕ → Checked FieldsRead → LineRead
-lineEnd at (refused r) = LineRead.BadShape
-lineEnd at (passed f) =
-    LineRead.Line
-    (record {
-      letter = f .letter;
-      word = f .word;
-      a = getD (f .numbers) 0 0;
-      b = getD (f .numbers) 1 0;
-      c = getD (f .numbers) 2 0;
-      d = getD (f .numbers) 3 0;
-      next = record { at = at };
-    })
+-- THE STEPS IN A FILE. From a position on, in order and each once, up to the end of the line: its fields, and the position after its LF.
+pub record FieldsAt : Type 0 where
+  pub fields : FieldsRead
+  pub next : ℕ
+
+abbrev pub lineEnd : ℕ → Checked FieldsRead → Option FieldsAt
+lineEnd at (refused r) = none
+lineEnd at (passed f) = some (record { fields = f; next = at })
 
 abbrev pub goesOn : Checked FieldsRead → Bool
 goesOn (refused r) = true
 goesOn (passed f) = false
 
-unfoldable pub steps : Reading → List ℕ → ℕ → LineRead
-steps r [] at = lineEnd at (ends r)
-steps r (x ∷ l) at = elim (goesOn (ends r)) [ true ↦ steps (step r x) l (at + 1) | false ↦ lineEnd at (ends r) ]
+unfoldable pub steps : Form → Reading → List ℕ → ℕ → Option FieldsAt
+steps F r [] at = lineEnd at (ends r)
+steps F r (x ∷ l) at = elim (goesOn (ends r)) [ true ↦ steps F (step F r x) l (at + 1) | false ↦ lineEnd at (ends r) ]
 
-unfoldable pub stepsAt : Reading → List ℕ → ℕ → LineRead
-stepsAt r file at = steps r (drop at file) at
+unfoldable pub stepsAt : Form → Reading → List ℕ → ℕ → Option FieldsAt
+stepsAt F r file at = steps F r (drop at file) at
 
--- A FIELD IS READ: behind it the steps go on with the reading that has it, towards the LF that is ahead; or there is no line. Whatever stands before the field.
+-- a line of six fields
+abbrev pub lineOf : Option FieldsAt → LineRead
+lineOf none = LineRead.BadShape
+lineOf (some e) =
+    LineRead.Line
+    (record {
+      letter = e .fields .letter;
+      word = e .fields .word;
+      a = getD (e .fields .numbers) 0 0;
+      b = getD (e .fields .numbers) 1 0;
+      c = getD (e .fields .numbers) 2 0;
+      d = getD (e .fields .numbers) 3 0;
+      next = record { at = e .next };
+    })
+
+-- A FIELD IS READ: behind it the steps go on with the reading that has it, towards the LF that is ahead; or there is no line. Whatever stands before the field, and
+-- in a line of any form in which the field can stand.
 unfoldable pub LetterSteps : List ℕ → ℕ → LetterRead → Type 0
-LetterSteps file at (LetterRead.Read l i) = (stepsAt empty file at ≡ stepsAt (inWord l 0 0) file i) × LFAhead file i
-LetterSteps file at LetterRead.Bad = stepsAt empty file at ≡ LineRead.BadShape
+LetterSteps file at (LetterRead.Read l i) = (stepsAt sixFieldForm empty file at ≡ stepsAt sixFieldForm (inWord l 0 0) file i) × LFAhead file i
+LetterSteps file at LetterRead.Bad = stepsAt sixFieldForm empty file at ≡ none
 
-abbrev pub ValueSteps : Reading → (ℕ → Reading) → ℕ → List ℕ → ℕ → ValueRead → Type 0
-ValueSteps r then′ end file at (ValueRead.Read value i) = (stepsAt r file at ≡ stepsAt (then′ value) file i) × (end ≡ comma → LFAhead file i)
-ValueSteps r then′ end file at ValueRead.Bad = stepsAt r file at ≡ LineRead.BadShape
+abbrev pub ValueSteps : Form → Reading → (ℕ → Reading) → ℕ → List ℕ → ℕ → ValueRead → Type 0
+ValueSteps F r then′ end file at (ValueRead.Read value i) = (stepsAt F r file at ≡ stepsAt F (then′ value) file i) × (end ≡ comma → LFAhead file i)
+ValueSteps F r then′ end file at ValueRead.Bad = stepsAt F r file at ≡ none
 
 unfoldable pub WordSteps : List ℕ → ℕ → ValueRead → Type 0
-WordSteps file at r = (l : ℕ) → ValueSteps (inWord l 0 0) (wordEnds l) comma file at r
+WordSteps file at r = (F : Form) (l : ℕ) → ValueSteps F (inWord l 0 0) (wordEnds F l) comma file at r
 
-unfoldable pub NumberSteps : ℕ → List ℕ → ℕ → ValueRead → Type 0
-NumberSteps end file at r = (n : ℕ) (f : FieldsRead) → endOf n ≡ end → ValueSteps (beforeNumber n f) (numberEnds n f) end file at r
+unfoldable pub NumberSteps : ℕ → ℕ → List ℕ → ℕ → ValueRead → Type 0
+NumberSteps most end file at r = (F : Form) (n : ℕ) (f : FieldsRead) → F .digits ≡ most → endOf n ≡ end → ValueSteps F (beforeNumber n f) (numberEnds n f) end file at r
 
 -- the same of a number from its second byte on
 unfoldable pub DigitsSteps : ℕ → ℕ → ℕ → List ℕ → ℕ → ValueRead → Type 0
-DigitsSteps value left end file at r = (n : ℕ) (f : FieldsRead) → endOf n ≡ end → ValueSteps (inNumber n f value left) (numberEnds n f) end file at r
+DigitsSteps value left end file at r = (F : Form) (n : ℕ) (f : FieldsRead) → endOf n ≡ end → ValueSteps F (inNumber n f value left) (numberEnds n f) end file at r

@@ -46,14 +46,14 @@ lineRead next′ (some l) =
     })
 
 -- The first of a text's lines, with the position after its LF. No LF follows the last piece of a text that is cut at LF, which is no line.
-abbrev pub firstLine : (ℕ → List ℕ → LineRead) → ℕ → List (List ℕ) → LineRead
-firstLine read at [] = LineRead.BadShape
-firstLine read at (l ∷ []) = LineRead.BadShape
-firstLine read at (l ∷ m ∷ ls) = read (at + length l + 1) l
+abbrev pub firstLine : {A : Type 0} → A → (ℕ → List ℕ → A) → ℕ → List (List ℕ) → A
+firstLine noLine read at [] = noLine
+firstLine noLine read at (l ∷ []) = noLine
+firstLine noLine read at (l ∷ m ∷ ls) = read (at + length l + 1) l
 
 -- the line that begins at a position of the file
 unfoldable pub lineAt : List ℕ → ℕ → LineRead
-lineAt file at = firstLine (λ next′ l. lineRead next′ (anyShape l)) at (split LF (drop at file))
+lineAt file at = firstLine LineRead.BadShape (λ next′ l. lineRead next′ (anyShape l)) at (split LF (drop at file))
 
 -- An LF stands at the position or behind it: the line that begins there has an end.
 pub record LFAhead (file : List ℕ) (at : ℕ) : Type 0 where

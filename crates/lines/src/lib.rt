@@ -1,8 +1,8 @@
 // A line of the file, from its bytes to its six fields, in one pass: a step gets one byte and the field read so far.
 ghost use mathlib.Core.Path.{_≡_};
-ghost use Prim.Native.Nat.{_<_, _^_};
+ghost use Prim.Native.Nat.{_<_, _≤_, _^_};
 ghost use Rattle.lines.specs.Lines.{lineAt, LFAhead, LinesEnd};
-ghost use Rattle.lines.specs.ByteSteps.{nextLetter, firstDigit, nextDigit, LettersFit, DigitsFit};
+ghost use Rattle.lines.specs.ByteSteps.{nextLetter, firstDigit, nextDigit, LettersFit, mostDigits, DigitsFit};
 ghost use Rattle.lines.specs.ByteSteps.{LetterSteps, WordSteps, DigitsSteps, NumberSteps};
 
 // A position in the file.
@@ -29,7 +29,7 @@ pub enum LineRead {
 const LF: u8 = 10;
 
 // "numbers of one to four digits"
-const MAX_DIGITS: usize = 4;
+const LINE_DIGITS: usize = 4;
 
 // The letter, and the position after its comma.
 enum LetterRead {
@@ -38,7 +38,7 @@ enum LetterRead {
 }
 
 // A number, or a word packed in one, and the position after the byte that ends it.
-enum ValueRead {
+pub enum ValueRead {
     Read(usize, usize),
     Bad,
 }
@@ -117,7 +117,7 @@ fn next_letter(value: usize, count: usize, x: u8) -> ByteStep
     ByteStep::More(value + unit(count) * wide(x))
 }
 
-fn read_word(file: &[u8], at: usize) -> ValueRead
+pub fn read_word(file: &[u8], at: usize) -> ValueRead
     requires { ⌜ LFAhead (now file) at ⌝ }
     ensures { λ r. ⌜ WordSteps (now (file .entry)) at r ⌝ }
 {
@@ -142,8 +142,10 @@ fn read_word(file: &[u8], at: usize) -> ValueRead
     }
 }
 
-fn first_digit(x: u8) -> FirstDigit
-    ensures { λ r. ⌜ r ≡ firstDigit x ⌝ }
+// A number of at most most digits by its first byte.
+fn first_digit(x: u8, most: usize) -> FirstDigit
+    requires { ⌜ 0 < most ⌝ }
+    ensures { λ r. ⌜ r ≡ firstDigit most x ⌝ }
 {
     if x < b'0' {
         return FirstDigit::Bad;
@@ -155,7 +157,7 @@ fn first_digit(x: u8) -> FirstDigit
     if value == 0 {
         return FirstDigit::Digit(0, 0);
     }
-    FirstDigit::Digit(value, MAX_DIGITS - 1)
+    FirstDigit::Digit(value, most - 1)
 }
 
 // One byte more of a number whose digits so far make value, where left more may follow. The byte that ends it is below the digits; most
@@ -205,11 +207,12 @@ fn read_digits(file: &[u8], at: usize, first: usize, max: usize, end: u8) -> Val
     }
 }
 
-fn read_number(file: &[u8], at: usize, end: u8) -> ValueRead
-    requires { ⌜ (end < 48) × LFAhead (now file) at ⌝ }
-    ensures { λ r. ⌜ NumberSteps end (now (file .entry)) at r ⌝ }
+// A number of at most most digits, and the byte that ends it.
+pub fn read_number(file: &[u8], at: usize, most: usize, end: u8) -> ValueRead
+    requires { ⌜ (0 < most) × (most ≤ mostDigits) × (end < 48) × LFAhead (now file) at ⌝ }
+    ensures { λ r. ⌜ NumberSteps most end (now (file .entry)) at r ⌝ }
 {
-    match first_digit(file[at]) {
+    match first_digit(file[at], most) {
         FirstDigit::Digit(value, left) => read_digits(file, at + 1, value, left, end),
         FirstDigit::Bad => ValueRead::Bad,
     }
@@ -243,16 +246,16 @@ pub fn read_line(file: &[u8], cursor: Cursor) -> LineRead
     let ValueRead::Read(word, after_word) = read_word(file, after_letter) else {
         return LineRead::BadShape;
     };
-    let ValueRead::Read(a, after_a) = read_number(file, after_word, b',') else {
+    let ValueRead::Read(a, after_a) = read_number(file, after_word, LINE_DIGITS, b',') else {
         return LineRead::BadShape;
     };
-    let ValueRead::Read(b, after_b) = read_number(file, after_a, b',') else {
+    let ValueRead::Read(b, after_b) = read_number(file, after_a, LINE_DIGITS, b',') else {
         return LineRead::BadShape;
     };
-    let ValueRead::Read(c, after_c) = read_number(file, after_b, b',') else {
+    let ValueRead::Read(c, after_c) = read_number(file, after_b, LINE_DIGITS, b',') else {
         return LineRead::BadShape;
     };
-    let ValueRead::Read(d, next) = read_number(file, after_c, LF) else {
+    let ValueRead::Read(d, next) = read_number(file, after_c, LINE_DIGITS, LF) else {
         return LineRead::BadShape;
     };
     LineRead::Line(LineFields {

@@ -1,5 +1,6 @@
 // What the programs share: an input read to its end, a reply line written, a message on standard error.
 use libc::STDERR_FILENO;
+use libc::STDIN_FILENO;
 use libc::STDOUT_FILENO;
 use reply::Text;
 ghost use Prim.Native.Nat.{_≤_, _<_};
@@ -40,6 +41,19 @@ pub fn read_all(fd: i32, space: &mut [u8]) -> Input
 pub fn write_message(program: &[u8], message: &[u8]) {
     io::write_all(STDERR_FILENO, program);
     io::write_all(STDERR_FILENO, message);
+}
+
+// Reads standard input, or says that it can't be read. After a failed read there is no reply: the bytes before it are not the whole input, and a yes to them
+// would be read as a yes to all of it. A program can't set its exit status, so an empty standard output has to say it.
+pub fn read_standard_input(program: &[u8], space: &mut [u8]) -> Input
+    requires { ⌜ maxBytes < length (now space) ⌝ }
+    ensures { λ r. ⌜ Fits r (length (now (space .exit))) ⌝ }
+{
+    let input = read_all(STDIN_FILENO, space);
+    if let Input::Failed = input {
+        write_message(program, b": standard input can't be read\n");
+    }
+    input
 }
 
 // Standard output has the whole line, or standard error says that it may not.

@@ -3,22 +3,22 @@ use mathlib.Core.Path.{_≡_, refl, sym, _∙_, ap, subst}
 use mathlib.Core.Bool.{Bool, true, false, _||_, true≢false}
 use mathlib.Core.List.{List, [], _∷_}
 use mathlib.Core.Option.{Option, none, some}
-use Prim.Native.Nat.{ℕ, suc, _+_, _*_, _-_, _^_, _<_, _≤_}
+use Prim.Native.Nat.{ℕ, suc, _+_, _<_, _≤_}
 use native.Mathlib.Omega.{arith}
-use native.Mathlib.Nat.{lt-of-lt-of-le, mul-le-mul-left, mul-assoc, pow-suc, pow-le-pow-right}
-use lib.Dec.{eqb, leb}
+use lib.Dec.{eqb}
 use lib.ListN.{length, drop, length-drop, drop-of-length-le}
 use lib.Seq.{drop-drop}
-use borrow.Author.Tests.{eqb-true, leb-true}
+use borrow.Author.Tests.{eqb-true}
 use Rattle.tableau.specs.declared.Letter.{Letter}
 use Rattle.tableau.specs.declared.Reason.{Reason}
 use Rattle.tableau.specs.Basics.{then, bytes, lookup}
-use Rattle.tableau.specs.File.{LF, comma, inOrder, split, onFirst, Line, sixFields, letters, allSmall, isWord, isDigit, digits, number, maxDigits}
+use Rattle.tableau.specs.File.{LF, comma, inOrder, split, onFirst, Line, sixFields, letters, allSmall, isWord, number, maxDigits}
 use Rattle.tableau.specs.Tree.{Checked, refused, passed, _>>=_, requireSome}
 use Rattle.tableau.specs.Words.{Command, some-of, make, assume, disjoin, infer, commandOf}
 use Rattle.tableau.specs.Reply.{State, requireOpen, runOpen, runCommand, runRead, runLine, stopped, ended, runLines}
 use Rattle.tableau.proofs.SixFields.{six-fields}
-use Rattle.tableau.proofs.Bools.{both-true, guard-inv, none≢some}
+use Rattle.tableau.proofs.Bools.{both-true, none≢some}
+use Rattle.tableau.proofs.Decimals.{number-read}
 use Rattle.lines.specs.declared.LineFields.{LineFields}
 use Rattle.lines.specs.declared.LineRead.{LineRead}
 use Rattle.lines.specs.Lines.{capital, anyShape, packWord, lineRead, firstLine, lineAt, numbersOf}
@@ -56,7 +56,7 @@ behind c (x ∷ text) l m ls e = cut (eqb x c) e (pieces c text) (behind c text)
         at (x ∷ h .0) q (g .0, omega (arith, g .1))
 
 -- there is a piece; and the one piece of a text that is not empty is not empty
-some-piece : (c : ℕ) (text : List ℕ) → split c text ≡ [] → ⊥
+pub some-piece : (c : ℕ) (text : List ℕ) → split c text ≡ [] → ⊥
 some-piece c text e = let h = pieces c text in let z : h .0 ∷ h .1 ≡ [] = sym (h .2) ∙ e in let y : true ≡ false = cc in true≢false y
 
 pub one-piece : (c : ℕ) (text : List ℕ) → 0 < length text → split c text ≡ [] ∷ [] → ⊥
@@ -69,33 +69,12 @@ one-piece c (x ∷ text) h e = cut (eqb x c) (pieces c text) e
     cut true g e = some-piece c text (let q : split c text ≡ [] = cc in q)
     cut false g e = let z : onFirst x (g .0 ∷ g .1) ≡ [] ∷ [] = ap (onFirst x) (sym (g .2)) ∙ e in let y : true ≡ false = cc in true≢false y
 
--- NUMBERS of at most four digits
-digits-small : (bs : List ℕ) (n m : ℕ) → digits bs n ≡ some m → m < 10 ^ length bs * suc n
-unfolding digits
-digits-small [] n m e = let q : n ≡ m = cc in omega (arith, q)
-digits-small (b ∷ bs) n m e =
-    let g = guard-inv (isDigit b) (digits bs (10 * n + (b - 48))) e in
-    let d = leb-true b 57 (both-true (leb 48 b) (leb b 57) (g .0) .1) in
-    let h = digits-small bs (10 * n + (b - 48)) m (g .1) in
-    let l : suc (10 * n + (b - 48)) ≤ 10 * suc n = omega (arith, d) in
-    rw (pow-suc, mul-assoc) (lt-of-lt-of-le h (mul-le-mul-left (10 ^ length bs) l))
-
-number-small : (p : List ℕ) (n : ℕ) → number p ≡ some n → n < 10000
-unfolding number
-number-small [] n e = none≢some e
-number-small (b ∷ bs) n e =
-    let g = guard-inv _ (digits (b ∷ bs) 0) e in
-    let l = leb-true (length (b ∷ bs)) maxDigits (both-true (leb (length (b ∷ bs)) maxDigits) _ (g .0) .0) in
-    let h = digits-small (b ∷ bs) 0 n (g .1) in
-    let k : 10 ^ length (b ∷ bs) ≤ 10 ^ 4 = pow-le-pow-right (omega arith) l in
-    omega (arith, h, k)
-
 -- THE LENGTH of pieces and of the bytes that part them
-abbrev bytesOf : List (List ℕ) → ℕ
+abbrev pub bytesOf : List (List ℕ) → ℕ
 bytesOf [] = 0
 bytesOf (p ∷ ps) = suc (length p) + bytesOf ps
 
-split-bytes : (c : ℕ) (l : List ℕ) → bytesOf (split c l) ≡ suc (length l)
+pub split-bytes : (c : ℕ) (l : List ℕ) → bytesOf (split c l) ≡ suc (length l)
 unfolding split
 split-bytes c [] = refl
 split-bytes c (b ∷ l) = let k = pieces c l in cut (eqb b c) (k .0) (k .1) (k .2) (split-bytes c l)
@@ -110,12 +89,12 @@ unfolding capital
 some-letter [] e = none≢some e
 some-letter (b ∷ p) e = omega arith
 
-some-digit : (p : List ℕ) {n : ℕ} → number p ≡ some n → 1 ≤ length p
+pub some-digit : (most : ℕ) (p : List ℕ) {n : ℕ} → number most p ≡ some n → 1 ≤ length p
 unfolding number
-some-digit [] e = none≢some e
-some-digit (b ∷ p) e = omega arith
+some-digit most [] e = none≢some e
+some-digit most (b ∷ p) e = omega arith
 
-word-long : (w : List ℕ) → isWord w ≡ true → 2 ≤ length w
+pub word-long : (w : List ℕ) → isWord w ≡ true → 2 ≤ length w
 word-long w h = which (eqb (length w) 2) refl (both-true (eqb (length w) 2 || eqb (length w) 3) (allSmall w) h .0)
   where
     which : (b : Bool) → eqb (length w) 2 ≡ b → (b || eqb (length w) 3) ≡ true → 2 ≤ length w
@@ -133,16 +112,16 @@ shaped ps k e =
     let f = six-fields capital ps e in
     record {
       word = f .word;
-      small = record { a = number-small _ _ (f .a); b = number-small _ _ (f .b); c = number-small _ _ (f .c); d = number-small _ _ (f .d) };
+      small = record { a = number-read maxDigits _ _ (f .a) .1; b = number-read maxDigits _ _ (f .b) .1; c = number-read maxDigits _ _ (f .c) .1; d = number-read maxDigits _ _ (f .d) .1 };
       long = rw (f .pieces)
           (omega (
             arith,
             some-letter (f .letterText) (f .letter),
             word-long (k .word) (f .word),
-            some-digit (f .texts .a) (f .a),
-            some-digit (f .texts .b) (f .b),
-            some-digit (f .texts .c) (f .c),
-            some-digit (f .texts .d) (f .d),
+            some-digit maxDigits (f .texts .a) (f .a),
+            some-digit maxDigits (f .texts .b) (f .b),
+            some-digit maxDigits (f .texts .c) (f .c),
+            some-digit maxDigits (f .texts .d) (f .d),
           ));
     }
 
@@ -169,8 +148,18 @@ check-fields = record {
     known σ k n none h = refl
     known σ k n (some l) h = rw (command-packed l (k .word) h)
 
+-- the pieces behind the line that begins at a position, and that it ends inside the file
+pub line-behind : (file : List ℕ) (at : ℕ) (l m : List ℕ) (ls : List (List ℕ)) → split LF (drop at file) ≡ l ∷ m ∷ ls
+    → (split LF (drop (at + length l + 1) file) ≡ m ∷ ls) × (at + length l + 1 ≤ length file)
+line-behind file at l m ls q =
+    let b = behind LF (drop at file) l m ls q in
+    let n : at + suc (length l) ≡ at + length l + 1 = omega arith in (
+      ap (λ (k : ℕ). split LF (drop k file)) (sym n) ∙ ap (split LF) (sym (drop-drop (suc (length l)) at file)) ∙ b .0,
+      omega (arith, b .1, length-drop at file),
+    )
+
 -- what follows the first piece, in the run
-run-piece : {S : Type 0} (run : S → List ℕ → Checked S) (σ : S) (i : ℕ) (l m : List ℕ) (ls : List (List ℕ))
+pub run-piece : {S : Type 0} (run : S → List ℕ → Checked S) (σ : S) (i : ℕ) (l m : List ℕ) (ls : List (List ℕ))
     → runLines run (l ∷ m ∷ ls) i (passed σ) ≡ runLines run (m ∷ ls) (suc i) (run σ l)
 unfolding runLines
 run-piece run σ i [] m ls = refl
@@ -209,18 +198,17 @@ line-pieces file at f e = go (split LF (drop at file)) refl e
     here : (l m : List ℕ) (ls : List (List ℕ)) → split LF (drop at file) ≡ l ∷ m ∷ ls → (L : Line ℕ) → anyShape l ≡ some L
         → LinePieces file at (lineFields (at + length l + 1) L)
     here l m ls q L s =
-        let b = behind LF (drop at file) l m ls q in
-        let n : at + suc (length l) ≡ at + length l + 1 = omega arith in
+        let b = line-behind file at l m ls q in
         record {
           piece = l;
           follower = m;
           others = ls;
           line = L;
           cut = q;
-          rest = ap (λ (k : ℕ). split LF (drop k file)) (sym n) ∙ ap (split LF) (sym (drop-drop (suc (length l)) at file)) ∙ b .0;
+          rest = b .0;
           shaped = s;
           fields = refl;
-          inside = omega (arith, b .1, length-drop at file);
+          inside = b .1;
         }
 
     shaped-as : (l m : List ℕ) (ls : List (List ℕ)) → split LF (drop at file) ≡ l ∷ m ∷ ls → (s : Option (Line ℕ)) → anyShape l ≡ s
@@ -228,7 +216,7 @@ line-pieces file at f e = go (split LF (drop at file)) refl e
     shaped-as l m ls q none s h = absurd (bad≢line h)
     shaped-as l m ls q (some L) s h = subst (LinePieces file at) (line-injective h) (here l m ls q L s)
 
-    go : (ls : List (List ℕ)) → split LF (drop at file) ≡ ls → firstLine (λ n l. lineRead n (anyShape l)) at ls ≡ LineRead.Line f → LinePieces file at f
+    go : (ls : List (List ℕ)) → split LF (drop at file) ≡ ls → firstLine LineRead.BadShape (λ n l. lineRead n (anyShape l)) at ls ≡ LineRead.Line f → LinePieces file at f
     go [] q h = absurd (bad≢line h)
     go (l ∷ []) q h = absurd (bad≢line h)
     go (l ∷ m ∷ ls) q h = shaped-as l m ls q (anyShape l) refl h
@@ -259,7 +247,7 @@ bad-pieces {R} file at before e tail unshaped = go (split LF (drop at file)) ref
     shaped-as l m ls q none s h = unshaped l m ls q s
     shaped-as l m ls q (some L) s h = absurd (bad≢line (sym h))
 
-    go : (ls : List (List ℕ)) → split LF (drop at file) ≡ ls → firstLine (λ n l. lineRead n (anyShape l)) at ls ≡ LineRead.BadShape → R
+    go : (ls : List (List ℕ)) → split LF (drop at file) ≡ ls → firstLine LineRead.BadShape (λ n l. lineRead n (anyShape l)) at ls ≡ LineRead.BadShape → R
     go [] q h = absurd (some-piece LF (drop at file) q)
     go ([] ∷ []) q h = absurd (one-piece LF (drop at file) (omega (arith, before, length-drop at file)) q)
     go ((b ∷ l) ∷ []) q h = tail b l q

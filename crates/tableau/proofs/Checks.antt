@@ -3,10 +3,10 @@ use mathlib.Core.Path.{_≡_, refl, sym, _∙_, ap, subst}
 use mathlib.Core.Bool.{Bool, true, false, _&&_, true≢false}
 use mathlib.Core.List.{List, [], _∷_, _++_, map, tail-eq-of-cons-eq}
 use mathlib.Core.Option.{Option, none, some, Option·none-ne-some}
-use Prim.Native.Nat.{ℕ, suc}
+use Prim.Native.Nat.{ℕ, suc, _<_}
 use lib.Dec.{eqb, leb, ltb}
 use lib.ListN.{length}
-use borrow.Author.Tests.{eqb-true}
+use borrow.Author.Tests.{eqb-true, ltb-true}
 use Rattle.tableau.specs.declared.Letter.{Letter}
 use Rattle.tableau.specs.declared.Reason.{Reason}
 use Rattle.tableau.specs.declared.Relation.{Relation}
@@ -162,7 +162,7 @@ step-passed {ks} table C τ x n e g =
 abbrev pub Did : State → Tree → Command → Four ℕ → State → Type 0
 Did σ τ (make w) n σ′ = TermPassed (σ .table) w n (σ′ .table) × (σ′ .status ≡ isOpen τ) × (σ′ .clauses ≡ σ .clauses)
 Did σ τ (assume R) n σ′ = (σ′ .table ≡ σ .table) × (σ′ .status ≡ isOpen (record { branch = τ .branch ++ (literal R (n .a) (n .b) ∷ []); waiting = τ .waiting }))
-    × (literalLine (σ .table) (sides R) R n ≡ passed (literal R (n .a) (n .b))) × (σ′ .clauses ≡ σ .clauses)
+    × (literalLine (σ .table) (sides R) R n ≡ passed (literal R (n .a) (n .b))) × (σ′ .clauses ≡ σ .clauses) × (length (τ .branch) < maxPlaces)
 Did σ τ (disjoin R) n σ′ = (σ′ .table ≡ σ .table) × (σ′ .status ≡ isOpen τ) × DisjunctPassed (σ .table) (σ .clauses) R n (σ′ .clauses)
 Did σ τ (infer x) n σ′ = (σ′ .table ≡ σ .table) × StepPassed (σ .table) (σ .clauses) τ x n (σ′ .status) × (σ′ .clauses ≡ σ .clauses)
 
@@ -186,7 +186,7 @@ ran σ τ (assume R) n e =
     let r = require-passed (ltb (length (τ .branch)) maxPlaces) _ _ (t .1) in
     let q = literal-passed (σ .table) (sides R) R n (l .1) .is in
     let s = sym (passed-injective (r .1)) ∙ ap (λ (k : Literal). record { branch = τ .branch ++ (k ∷ []); waiting = τ .waiting }) q in
-    after-line (t .2) (record { did = (refl, ap isOpen s, l .1 ∙ ap passed q, refl); letter = refl; counts = refl })
+    after-line (t .2) (record { did = (refl, ap isOpen s, l .1 ∙ ap passed q, refl, ltb-true (length (τ .branch)) maxPlaces (r .0)); letter = refl; counts = refl })
 ran σ τ (disjoin R) n e =
     let l = bind-passed (literalLine (σ .table) (clauseFields R) R n) _ e in
     let c = bind-passed (disjoined (σ .clauses) (n .c) (l .0)) _ (l .2) in

@@ -23,4 +23,8 @@ pub mod ClauseLaws
 pub mod Refusals
 pub mod Counts
 pub mod UsedPlaces
+pub mod Pieces
+pub mod Decimals
+pub mod BranchRoom
+pub mod ReplyNumbers
 pub mod Shams

@@ -66,9 +66,10 @@ unfoldable pub digits : List ℕ → ℕ → Option ℕ
 digits [] n = some n
 digits (b ∷ bs) n = guard (isDigit b) (digits bs (10 * n + (b - 48)))
 
-unfoldable pub number : List ℕ → Option ℕ
-number [] = none
-number (b ∷ bs) = guard (leb (length (b ∷ bs)) maxDigits && (not (eqb b 48) || eqb (length bs) 0)) (digits (b ∷ bs) 0)
+-- a number of at most so many digits
+unfoldable pub number : ℕ → List ℕ → Option ℕ
+number most [] = none
+number most (b ∷ bs) = guard (leb (length (b ∷ bs)) most && (not (eqb b 48) || eqb (length bs) 0)) (digits (b ∷ bs) 0)
 
 -- a line of a file whose lines begin with letters of a kind L
 pub record Line (L : Type 0) : Type 0 where
@@ -87,7 +88,7 @@ sixFields first (k ∷ w ∷ a ∷ b ∷ c ∷ []) = none
 sixFields first (k ∷ w ∷ a ∷ b ∷ c ∷ d ∷ []) =
     then (first k) λ letter′.
     guard (isWord w)
-    (then (number a) λ a′. then (number b) λ b′. then (number c) λ c′. then (number d) λ d′.
+    (then (number maxDigits a) λ a′. then (number maxDigits b) λ b′. then (number maxDigits c) λ c′. then (number maxDigits d) λ d′.
     some (record { letter = letter′; word = w; fields = four a′ b′ c′ d′ }))
 sixFields first (k ∷ w ∷ a ∷ b ∷ c ∷ d ∷ e ∷ fs) = none
 

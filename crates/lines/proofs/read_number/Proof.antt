@@ -9,6 +9,6 @@ pub read-number-spec : {M : Type 1} → statement M
 read-number-spec =
     tie.close
     (tie.spec
-    (λ c. search (needs, ahead-here)) (λ c κs. tt)
+    (λ c. search (needs, ahead-here)) (λ c κs. search needs)
     (λ c. search needs) (λ c. search (needs, ahead-here)) (λ c κs. search number-read)
     (λ c. search needs) (λ c. search number-read) (λ c. search number-read))

@@ -7,9 +7,10 @@ use lib.ListN.{length, take, drop, set, length-set, length-drop, length-take}
 use lib.Seq.{take-all}
 use borrow.Author.Needs.{needs}
 use Rattle.tableau.specs.Reply.{decimalFrom, decimal}
+use Rattle.tableau.proofs.Decimals.{next-digit, last-digit}
 use Rattle.reply.specs.Line.{numberDigits}
 use Rattle.reply.proofs.Stores.{stored-before}
-use Rattle.reply.proofs.Decimals.{next-digit, last-digit, room}
+use Rattle.reply.proofs.Decimals.{room}
 use Rattle.reply.proofs.line.put_decimal.Statement.{statement}
 use Rattle.reply.proofs.line.put_decimal.Tie as tie
 

@@ -1,0 +1,141 @@
+-- A reply line, a bad one and the end of the night, in the specification's run.
+use mathlib.Core.Bool.{Bool, true, false, not}
+use mathlib.Core.List.{List, [], _∷_, _++_}
+use mathlib.Core.Option.{Option, none, some}
+use mathlib.Core.Path.{_≡_, refl, sym, ap, subst, _∙_}
+use Prim.Native.Nat.{ℕ, suc, _+_, _*_, _^_, _≤_, _<_}
+use native.Mathlib.Numerals.{add-one}
+use native.Mathlib.Omega.{arith}
+use lib.ListN.{length, drop, length-drop}
+use borrow.Author.Tests.{le-leb, lt-leb}
+use Rattle.tableau.specs.declared.Reason.{Reason}
+use Rattle.tableau.specs.Basics.{then}
+use Rattle.tableau.specs.File.{LF, split, maxBytes}
+use Rattle.tableau.specs.Tree.{Checked, passed, _>>_, require}
+use Rattle.tableau.specs.Reply.{Reply, stopped, runLines}
+use Rattle.tableau.proofs.Bools.{none≢some, some-inj, then-inv}
+use Rattle.lines.specs.Lines.{firstLine, LinesEnd}
+use Rattle.lines.proofs.FileSteps.{one-piece-behind}
+use Rattle.running.specs.Running.{runFrom}
+use Rattle.running.proofs.Lines.{line-behind, run-piece, some-piece, one-piece, refused-here, at-end}
+use Rattle.statistics.specs.ReplyLines.{replyDigits, replyShape, contradictory}
+use Rattle.statistics.specs.Figures.{runReply, repliesOf}
+use Rattle.reply_lines.specs.Reading.{leastReply, ReplyAt, shapedAt, replyAt}
+use Rattle.reply_lines.proofs.Sizes.{sizes}
+use Rattle.figures.specs.declared.totals.Totals.{Totals}
+use Rattle.figures.specs.Totals.{mostReplies, TotalsOf, Small}
+use Rattle.figures.specs.Night.{AllRead}
+use Rattle.figures.proofs.Sums.{count-more}
+
+-- what a reply comes to, behind others
+abbrev pub runShaped : List Reply → Reply → Checked (List Reply)
+runShaped rs r = require (not (contradictory r)) Reason.BadShape >> passed (rs ++ (r ∷ []))
+
+-- A LINE THAT IS READ at a position: it ends inside the night, its S lines are few, and the run goes on behind it.
+pub record ReplyHere (night : List ℕ) (at : ℕ) (r : Reply) (next : ℕ) : Type 0 where
+  pub longer : at + leastReply ≤ next
+  pub inside : next ≤ length night
+  pub steps : r .steps < 10 ^ replyDigits
+  pub runs : (i : ℕ) (rs : List Reply) → runFrom runReply night at i (passed rs) ≡ runFrom runReply night next (suc i) (runShaped rs r)
+
+pub reply-here : (night : List ℕ) (at : ℕ) (x : ReplyAt) → replyAt night at ≡ some x → ReplyHere night at (x .reply) (x .next)
+unfolding replyAt runReply
+reply-here night at x e = go (split LF (drop at night)) refl e
+  where
+    here : (l m : List ℕ) (ls : List (List ℕ)) → split LF (drop at night) ≡ l ∷ m ∷ ls → (r : Reply) → replyShape l ≡ some r → ReplyHere night at r (at + length l + 1)
+    here l m ls q r s =
+        let b = line-behind night at l m ls q in
+        let z = sizes l r s in
+        record {
+          longer = omega (arith, z .long);
+          inside = b .1;
+          steps = z .steps;
+          runs = λ i rs. ap (λ ks. runLines runReply ks i (passed rs)) q ∙ run-piece runReply rs i l m ls ∙ rw (s, b .0);
+        }
+
+    go : (ls : List (List ℕ)) → split LF (drop at night) ≡ ls → firstLine none shapedAt at ls ≡ some x → ReplyHere night at (x .reply) (x .next)
+    go [] q h = none≢some h
+    go (l ∷ []) q h = none≢some h
+    go (l ∷ m ∷ ls) q h = let k = then-inv (replyShape l) _ h in subst (λ y. ReplyHere night at (y .reply) (y .next)) (some-inj (k .2)) (here l m ls q (k .0) (k .1))
+
+-- A BAD LINE: bytes behind the last LF, or a line that is not shaped as a reply
+pub no-reply-here : (night : List ℕ) (at : ℕ) → at < length night → none ≡ replyAt night at → (i : ℕ) (rs : List Reply) → runFrom runReply night at i (passed rs) ≡ stopped Reason.BadShape (suc i)
+unfolding replyAt runReply runLines
+no-reply-here night at before e i rs = go (split LF (drop at night)) refl e
+  where
+    shaped : (l m : List ℕ) (ls : List (List ℕ)) (o : Option Reply) → replyShape l ≡ o → _≡_ {A = Option ReplyAt} none (then o λ r. some (record { reply = r; next = at + length l + 1 }))
+        → runLines runReply (l ∷ m ∷ ls) i (passed rs) ≡ stopped Reason.BadShape (suc i)
+    shaped l m ls none s h = run-piece runReply rs i l m ls ∙ rw s
+    shaped l m ls (some r) s h = none≢some h
+
+    go : (ls : List (List ℕ)) → split LF (drop at night) ≡ ls → none ≡ firstLine none shapedAt at ls → runFrom runReply night at i (passed rs) ≡ stopped Reason.BadShape (suc i)
+    go [] q h = absurd (some-piece LF (drop at night) q)
+    go ([] ∷ []) q h = absurd (one-piece LF (drop at night) (omega (arith, before, length-drop at night)) q)
+    go ((b ∷ l) ∷ []) q h = rw q
+    go (l ∷ m ∷ ls) q h = rw q (shaped l m ls (replyShape l) refl h)
+
+pub no-reply-behind : (night : List ℕ) (end at : ℕ) → LinesEnd night end → end ≤ at → none ≡ replyAt night at
+unfolding replyAt
+no-reply-behind night end at E h = sym (ap (firstLine none shapedAt at) (one-piece-behind night end at E h))
+
+-- A reply that contradicts itself is refused, any other is taken.
+module _ (night : List ℕ) (next i : ℕ) (rs : List Reply) (r : Reply) where
+  pub contradicted : contradictory r ≡ true → runFrom runReply night next (suc i) (runShaped rs r) ≡ stopped Reason.BadShape (suc i)
+  contradicted e = rw e (refused-here runReply night next (suc i) Reason.BadShape)
+
+  pub taken : contradictory r ≡ false → runFrom runReply night next (suc i) (runShaped rs r) ≡ runFrom runReply night next (suc i) (passed (rs ++ (r ∷ [])))
+  taken e = rw e
+
+-- THE REPLIES SO FAR: those of the lines before a position, by their totals. The run goes on behind them.
+pub record SoFar (night : List ℕ) (t : Totals) (at : ℕ) : Type 0 where
+  pub replies : List Reply
+  pub totals : TotalsOf replies t
+  pub small : Small t
+  pub room : t .files * leastReply ≤ at
+  pub inside : at ≤ length night
+  pub reads : repliesOf night ≡ runFrom runReply night at (t .files) (passed replies)
+
+pub too-long : (night : List ℕ) → maxBytes < length night → repliesOf night ≡ stopped Reason.TooLong 0
+unfolding repliesOf
+too-long night h = rw (lt-leb (length night) maxBytes h)
+
+pub none-so-far : (night : List ℕ) (t : Totals) → length night ≤ maxBytes → TotalsOf [] t → Small t → SoFar night t 0
+unfolding repliesOf
+none-so-far night t h k s = record {
+  replies = [];
+  totals = k;
+  small = s;
+  room = omega (arith, k .files);
+  inside = omega arith;
+  reads = rw (le-leb (length night) maxBytes h, k .files);
+}
+
+module _ (night : List ℕ) (t : Totals) (at : ℕ) (S : SoFar night t at) where
+  pub bad-so-far : at < length night → none ≡ replyAt night at → repliesOf night ≡ stopped Reason.BadShape (t .files + 1)
+  bad-so-far h e = S .reads ∙ rw add-one (no-reply-here night at h e (t .files) (S .replies))
+
+  pub all-so-far : length night ≤ at → AllRead night t
+  all-so-far h = record {
+    replies = S .replies;
+    count = t .files;
+    read = S .reads ∙ at-end runReply night at h (t .files) (S .replies);
+    totals = S .totals;
+    small = S .small;
+  }
+
+  module _ (r : Reply) (next : ℕ) (here : ReplyHere night at r next) (b : Bool) (is : b ≡ contradictory r) where
+    pub refused-so-far : b ≡ true → repliesOf night ≡ stopped Reason.BadShape (t .files + 1)
+    refused-so-far e = S .reads ∙ here .runs (t .files) (S .replies) ∙ rw add-one (contradicted night next (t .files) (S .replies) r (sym is ∙ e))
+
+    pub room-for-one : length night ≤ maxBytes → t .files < mostReplies
+    room-for-one h = omega (arith, S .room, here .longer, here .inside, h)
+
+    pub one-more : b ≡ false → (t′ : Totals) → TotalsOf (S .replies ++ (r ∷ [])) t′ → Small t′ → SoFar night t′ next
+    one-more e t′ k s = let f : t′ .files ≡ t .files + 1 = omega (arith, k .files, count-more (S .replies) r, S .totals .files) in record {
+      replies = S .replies ++ (r ∷ []);
+      totals = k;
+      small = s;
+      room = omega (arith, f, S .room, here .longer);
+      inside = here .inside;
+      reads = S .reads ∙ here .runs (t .files) (S .replies) ∙ taken night next (t .files) (S .replies) r (sym is ∙ e) ∙ rw (f, add-one);
+    }

@@ -1,0 +1,5 @@
+pub mod ReplyLines
+pub mod Fractions
+pub mod Figures
+pub mod Claims
+pub mod Cases
