@@ -1,17 +1,18 @@
 //! The proved program `tabeval`, which takes two file names and prints a line.
 
+mod built;
 mod heap_cases;
+mod pipe;
 mod process;
 
+use built::{built, reply};
+use pipe::byte_by_byte;
 use process::{repository, scratch};
 use std::ffi::OsStr;
 use std::fs::{self, File};
-use std::io::Write;
 use std::os::unix::fs::{symlink, PermissionsExt};
 use std::path::{Path, PathBuf};
 use std::process::{Command, Output, Stdio};
-use std::thread;
-use std::time::Duration;
 
 /// A pair of examples/, and its reply.
 const FILE: &str = "examples/class_chain.tab";
@@ -19,22 +20,12 @@ const HEAP: &str = "examples/class_chain.heap";
 const REPLY: &str = "0,0,0\n";
 
 fn program() -> PathBuf {
-    let program = repository().join("target/bin/tabeval");
-    let missing = "target/bin/tabeval is missing: run `rt check tabeval` in the repository's root";
-    assert!(program.is_file(), "{missing}");
-    program
+    built("tabeval")
 }
 
 fn run<S: AsRef<OsStr>>(names: impl IntoIterator<Item = S>) -> Output {
     let mut command = Command::new(program());
     command.args(names).stdin(Stdio::null()).output().unwrap()
-}
-
-/// A program that ran well wrote its reply line and nothing else.
-fn reply(output: Output) -> String {
-    assert_eq!(String::from_utf8_lossy(&output.stderr), "");
-    assert!(output.status.success());
-    String::from_utf8(output.stdout).unwrap()
 }
 
 /// There is no reply to a file that wasn't read, and a message says so.
@@ -213,21 +204,10 @@ fn short_reads_are_continued() {
     let [file, heap] = good();
     let stdin = PathBuf::from("/dev/stdin");
     for (names, piped) in [([&stdin, &heap], &file), ([&file, &stdin], &heap)] {
-        let mut child = Command::new(program())
-            .args(names)
-            .stdin(Stdio::piped())
-            .stdout(Stdio::piped())
-            .stderr(Stdio::piped())
-            .spawn()
-            .unwrap();
-        let mut input = child.stdin.take().unwrap();
-        for byte in fs::read(piped).unwrap() {
-            input.write_all(&[byte]).unwrap();
-            // Time for the program to read this byte alone.
-            thread::sleep(Duration::from_millis(1));
-        }
-        drop(input);
-        assert_eq!(reply(child.wait_with_output().unwrap()), REPLY);
+        let mut command = Command::new(program());
+        let input = fs::read(piped).unwrap();
+        let output = byte_by_byte(command.args(names), &input);
+        assert_eq!(reply(output), REPLY);
     }
 }
 

@@ -1,5 +1,6 @@
 //! Damage at random to the text of either file.
 
+use crate::byte_damage::byte_damaged;
 use crate::random::Random;
 
 use super::WORDS;
@@ -9,7 +10,7 @@ const BYTES: &[u8] = b"TACSD,,,\n\n0123456789acdefilnrstuvz -\r\0\xff";
 /// The text, which is ASCII, with a line or a byte changed.
 pub fn blind(text: &[u8], random: &mut Random) -> Vec<u8> {
     if text.is_empty() || random.chance(1, 3) {
-        return bytes_damaged(text, random);
+        return byte_damaged(text, BYTES, random);
     }
     let text = String::from_utf8_lossy(text);
     let mut lines: Vec<String> = text.split_inclusive('\n').map(str::to_string).collect();
@@ -57,20 +58,4 @@ fn other_field(old: &str, random: &mut Random) -> String {
         _ => random.digits(),
     };
     new.to_string()
-}
-
-fn bytes_damaged(text: &[u8], random: &mut Random) -> Vec<u8> {
-    let mut bytes = text.to_vec();
-    let index = random.below(bytes.len() + 1);
-    let byte = random.pick(BYTES);
-    match random.below(4) {
-        0 => bytes.truncate(index),
-        1 => bytes.insert(index, byte),
-        _ if index == bytes.len() => bytes.push(byte),
-        2 => bytes[index] = byte,
-        _ => {
-            bytes.remove(index);
-        }
-    }
-    bytes
 }
