@@ -70,7 +70,8 @@ fn a_row_for_every_file_and_a_file_for_every_row() {
     let entries = fs::read_dir(folder()).unwrap();
     let mut there: Vec<String> = entries
         .map(|entry| entry.unwrap().file_name().into_string().unwrap())
-        .filter(|name| name != "README.md" && !name.ends_with(".heap"))
+        .filter(|name| !["README.md", "night.replies"].contains(&name.as_str()))
+        .filter(|name| !name.ends_with(".heap"))
         .collect();
     there.sort();
     let mut named: Vec<String> = files().into_iter().map(|[name, ..]| name).collect();

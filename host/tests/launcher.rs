@@ -10,7 +10,7 @@ use std::os::unix::fs::{symlink, PermissionsExt};
 use std::path::{Path, PathBuf};
 use std::process::{Command, Output};
 
-const SCRIPTS: [&str; 2] = ["tabcheck", "tabeval"];
+const SCRIPTS: [&str; 3] = ["tabcheck", "tabeval", "tabfigures"];
 
 /// A repository with nothing but the scripts. What they call is in `tools`, and
 /// so is an `rt` with this text, if any.
@@ -19,7 +19,7 @@ fn bare_repository(name: &str, rt: Option<&str>) -> PathBuf {
     let _ = fs::remove_dir_all(&root);
     let tools = root.join("tools");
     fs::create_dir_all(&tools).unwrap();
-    for file in ["launch.sh", "tabcheck", "tabeval"] {
+    for file in SCRIPTS.into_iter().chain(["launch.sh"]) {
         fs::copy(repository().join(file), root.join(file)).unwrap();
     }
     for tool in ["dirname", "rm", "mkdir", "cat", "chmod"] {
