@@ -10,6 +10,7 @@ use std::path::Path;
 use constants::constants;
 use host::checkers::{self, CHECKERS};
 use host::evaluators::{self, evaluators};
+use host::independent_figures;
 use page::{edited, rows};
 
 const PAGE: &str = include_str!("../../docs/FORMAT.md");
@@ -385,5 +386,22 @@ fn the_heap_of_the_page() {
                 "{evaluator}"
             );
         }
+    }
+}
+
+/// Figures have six numbers and a refusal two; each line that is refused, alone
+/// and behind a good one, gets 2 with its own number.
+#[test]
+fn the_figures_of_the_page() {
+    for [figures, _] in rows(PAGE, ["Figures", "What they say"]) {
+        let numbers = figures.split(',').count();
+        assert!(matches!(numbers, 2 | 6), "{figures}");
+    }
+    let good = "yes,0,0,4,2,2,1,0\n";
+    for [_, line] in rows(PAGE, ["Number 2 is for a line", "Example"]) {
+        let alone = independent_figures::figures(format!("{line}\n").as_bytes());
+        assert_eq!(alone, "2,1\n", "{line}");
+        let second = independent_figures::figures(format!("{good}{line}\n").as_bytes());
+        assert_eq!(second, "2,2\n", "{line}");
     }
 }
