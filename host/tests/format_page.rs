@@ -1,16 +1,22 @@
 //! The tables of docs/FORMAT.md say what the checkers and evaluators do.
 
+mod built;
 mod constants;
+mod input;
 mod page;
+mod process;
 
 use std::collections::BTreeSet;
 use std::fs;
 use std::path::Path;
+use std::process::Command;
 
+use built::{built, reply};
 use constants::constants;
 use host::checkers::{self, CHECKERS};
 use host::evaluators::{self, evaluators};
 use host::independent_figures;
+use input::run_on;
 use page::{edited, rows};
 
 const PAGE: &str = include_str!("../../docs/FORMAT.md");
@@ -389,19 +395,52 @@ fn the_heap_of_the_page() {
     }
 }
 
-/// Figures have six numbers and a refusal two; each line that is refused, alone
-/// and behind a good one, gets 2 with its own number.
+const GOOD: &str = "yes,0,0,4,2,2,1,0\n";
+
+/// What the program says of a night, and the independent figures with it. The
+/// night is stored under a name of the test's own.
+fn figures(night: &str, test: &str) -> String {
+    let name = format!("format_{test}.in");
+    let mut program = Command::new(built("tabfigures"));
+    let said = reply(run_on(&mut program, &name, night.as_bytes()));
+    assert_eq!(said, independent_figures::figures(night.as_bytes()));
+    said
+}
+
 #[test]
 fn the_figures_of_the_page() {
-    for [figures, _] in rows(PAGE, ["Figures", "What they say"]) {
-        let numbers = figures.split(',').count();
-        assert!(matches!(numbers, 2 | 6), "{figures}");
+    let columns = [
+        "S lines of accepted files",
+        "Refused files",
+        "Figures",
+        "What they say",
+    ];
+    for [steps, refused, line, _] in rows(PAGE, columns) {
+        let accepted = steps.split(", ").filter(|steps| *steps != "none");
+        let mut night: String = accepted.map(|n| format!("yes,0,0,4,2,{n},1,0\n")).collect();
+        night += &"no,17,8,0,0,0,0,0\n".repeat(refused.parse().unwrap());
+        assert_eq!(figures(&night, "figures"), format!("{line}\n"));
     }
-    let good = "yes,0,0,4,2,2,1,0\n";
-    for [_, line] in rows(PAGE, ["Number 2 is for a line", "Example"]) {
-        let alone = independent_figures::figures(format!("{line}\n").as_bytes());
-        assert_eq!(alone, "2,1\n", "{line}");
-        let second = independent_figures::figures(format!("{good}{line}\n").as_bytes());
-        assert_eq!(second, "2,2\n", "{line}");
+}
+
+/// Each line is refused with its own number, alone and behind a good one.
+#[test]
+fn the_lines_that_get_2() {
+    let rows = rows(PAGE, ["Number 2 is for a line", "Example"]).into_iter();
+    let mut bad: Vec<String> = rows.map(|[_, line]| format!("{line}\n")).collect();
+    bad.push(GOOD.trim_end().to_string()); // without its LF
+    for line in bad {
+        assert_eq!(figures(&line, "bad"), "2,1\n", "{line:?}");
+        let second = format!("{GOOD}{line}");
+        assert_eq!(figures(&second, "bad"), "2,2\n", "{line:?}");
+    }
+}
+
+#[test]
+fn the_lines_that_are_taken() {
+    for [line, _] in rows(PAGE, ["Line that is taken", "Though"]) {
+        let said = figures(&format!("{GOOD}{line}\n"), "taken");
+        assert!(said.starts_with("2,"), "{line}: {said}");
+        assert_eq!(said.split(',').count(), 6, "{line}: {said}");
     }
 }

@@ -13,7 +13,7 @@ use Rattle.tableau.specs.Tree.{Checked, refused, passed}
 use Rattle.tableau.specs.Reply.{ended, runLines, decimal}
 use Rattle.tableau.proofs.Checks.{lookup-agree}
 use Rattle.tableau.proofs.Decimals.{number-decimal, decimal-free}
-use Rattle.tableau.proofs.Pieces.{behind, free, AllFree, split-behind}
+use Rattle.tableau.proofs.Pieces.{eachBehind, free, AllFree, split-behind}
 use Rattle.tableau.proofs.Places.{every-value, every-equal}
 use Rattle.evaluation.specs.declared.FactWord.{FactWord}
 use Rattle.evaluation.specs.Facts.{heapLetters, factWords, factIndex, factFields, Fact, Facts, isNil, zeroUnlessUsed, mayFollow, runFact}
@@ -45,8 +45,8 @@ low-read : (n : ℕ) → n ≤ maxNumber → number maxDigits (decimal n) ≡ so
 low-read n h = number-decimal maxDigits n (omega arith) (omega arith)
 
 -- PIECES that are joined
-joined-behind : (c : ℕ) (p : List ℕ) (qs : List (List ℕ)) → joined c p qs ≡ p ++ behind c qs
-unfolding joined behind
+joined-behind : (c : ℕ) (p : List ℕ) (qs : List (List ℕ)) → joined c p qs ≡ p ++ eachBehind c qs
+unfolding joined eachBehind
 joined-behind c p [] = sym (append-nil p)
 joined-behind c p (q ∷ qs) = ap (λ l. p ++ (c ∷ l)) (joined-behind c q qs)
 

@@ -7,7 +7,7 @@ use Prim.Native.Nat.{ℕ, suc, _+_, _*_, _^_, _≤_, _<_}
 use native.Mathlib.Numerals.{add-one}
 use native.Mathlib.Omega.{arith}
 use lib.ListN.{length, drop, length-drop}
-use borrow.Author.Tests.{le-leb, lt-leb}
+use borrow.Author.Tests.{le-leb}
 use Rattle.tableau.specs.declared.Reason.{Reason}
 use Rattle.tableau.specs.Basics.{then}
 use Rattle.tableau.specs.File.{LF, split, maxBytes}
@@ -23,7 +23,7 @@ use Rattle.statistics.specs.Figures.{runReply, repliesOf}
 use Rattle.reply_lines.specs.Reading.{leastReply, ReplyAt, shapedAt, replyAt}
 use Rattle.reply_lines.proofs.Sizes.{sizes}
 use Rattle.figures.specs.declared.totals.Totals.{Totals}
-use Rattle.figures.specs.Totals.{mostReplies, TotalsOf, Small}
+use Rattle.figures.specs.Totals.{mostReplies, TotalsOf, Small, Totalled}
 use Rattle.figures.specs.Night.{AllRead}
 use Rattle.figures.proofs.Sums.{count-more}
 
@@ -59,7 +59,7 @@ reply-here night at x e = go (split LF (drop at night)) refl e
     go (l ∷ m ∷ ls) q h = let k = then-inv (replyShape l) _ h in subst (λ y. ReplyHere night at (y .reply) (y .next)) (some-inj (k .2)) (here l m ls q (k .0) (k .1))
 
 -- A BAD LINE: bytes behind the last LF, or a line that is not shaped as a reply
-pub no-reply-here : (night : List ℕ) (at : ℕ) → at < length night → none ≡ replyAt night at → (i : ℕ) (rs : List Reply) → runFrom runReply night at i (passed rs) ≡ stopped Reason.BadShape (suc i)
+no-reply-here : (night : List ℕ) (at : ℕ) → at < length night → none ≡ replyAt night at → (i : ℕ) (rs : List Reply) → runFrom runReply night at i (passed rs) ≡ stopped Reason.BadShape (suc i)
 unfolding replyAt runReply runLines
 no-reply-here night at before e i rs = go (split LF (drop at night)) refl e
   where
@@ -80,31 +80,23 @@ no-reply-behind night end at E h = sym (ap (firstLine none shapedAt at) (one-pie
 
 -- A reply that contradicts itself is refused, any other is taken.
 module _ (night : List ℕ) (next i : ℕ) (rs : List Reply) (r : Reply) where
-  pub contradicted : contradictory r ≡ true → runFrom runReply night next (suc i) (runShaped rs r) ≡ stopped Reason.BadShape (suc i)
+  contradicted : contradictory r ≡ true → runFrom runReply night next (suc i) (runShaped rs r) ≡ stopped Reason.BadShape (suc i)
   contradicted e = rw e (refused-here runReply night next (suc i) Reason.BadShape)
 
-  pub taken : contradictory r ≡ false → runFrom runReply night next (suc i) (runShaped rs r) ≡ runFrom runReply night next (suc i) (passed (rs ++ (r ∷ [])))
+  taken : contradictory r ≡ false → runFrom runReply night next (suc i) (runShaped rs r) ≡ runFrom runReply night next (suc i) (passed (rs ++ (r ∷ [])))
   taken e = rw e
 
 -- THE REPLIES SO FAR: those of the lines before a position, by their totals. The run goes on behind them.
 pub record SoFar (night : List ℕ) (t : Totals) (at : ℕ) : Type 0 where
-  pub replies : List Reply
-  pub totals : TotalsOf replies t
-  pub small : Small t
+  pub totalled : Totalled t
   pub room : t .files * leastReply ≤ at
   pub inside : at ≤ length night
-  pub reads : repliesOf night ≡ runFrom runReply night at (t .files) (passed replies)
-
-pub too-long : (night : List ℕ) → maxBytes < length night → repliesOf night ≡ stopped Reason.TooLong 0
-unfolding repliesOf
-too-long night h = rw (lt-leb (length night) maxBytes h)
+  pub reads : repliesOf night ≡ runFrom runReply night at (t .files) (passed (totalled .replies))
 
 pub none-so-far : (night : List ℕ) (t : Totals) → length night ≤ maxBytes → TotalsOf [] t → Small t → SoFar night t 0
 unfolding repliesOf
 none-so-far night t h k s = record {
-  replies = [];
-  totals = k;
-  small = s;
+  totalled = record { replies = []; totals = k; small = s };
   room = omega (arith, k .files);
   inside = omega arith;
   reads = rw (le-leb (length night) maxBytes h, k .files);
@@ -112,30 +104,22 @@ none-so-far night t h k s = record {
 
 module _ (night : List ℕ) (t : Totals) (at : ℕ) (S : SoFar night t at) where
   pub bad-so-far : at < length night → none ≡ replyAt night at → repliesOf night ≡ stopped Reason.BadShape (t .files + 1)
-  bad-so-far h e = S .reads ∙ rw add-one (no-reply-here night at h e (t .files) (S .replies))
+  bad-so-far h e = S .reads ∙ rw add-one (no-reply-here night at h e (t .files) (S .totalled .replies))
 
   pub all-so-far : length night ≤ at → AllRead night t
-  all-so-far h = record {
-    replies = S .replies;
-    count = t .files;
-    read = S .reads ∙ at-end runReply night at h (t .files) (S .replies);
-    totals = S .totals;
-    small = S .small;
-  }
+  all-so-far h = record { totalled = S .totalled; count = t .files; read = S .reads ∙ at-end runReply night at h (t .files) (S .totalled .replies) }
 
   module _ (r : Reply) (next : ℕ) (here : ReplyHere night at r next) (b : Bool) (is : b ≡ contradictory r) where
     pub refused-so-far : b ≡ true → repliesOf night ≡ stopped Reason.BadShape (t .files + 1)
-    refused-so-far e = S .reads ∙ here .runs (t .files) (S .replies) ∙ rw add-one (contradicted night next (t .files) (S .replies) r (sym is ∙ e))
+    refused-so-far e = S .reads ∙ here .runs (t .files) (S .totalled .replies) ∙ rw add-one (contradicted night next (t .files) (S .totalled .replies) r (sym is ∙ e))
 
     pub room-for-one : length night ≤ maxBytes → t .files < mostReplies
     room-for-one h = omega (arith, S .room, here .longer, here .inside, h)
 
-    pub one-more : b ≡ false → (t′ : Totals) → TotalsOf (S .replies ++ (r ∷ [])) t′ → Small t′ → SoFar night t′ next
-    one-more e t′ k s = let f : t′ .files ≡ t .files + 1 = omega (arith, k .files, count-more (S .replies) r, S .totals .files) in record {
-      replies = S .replies ++ (r ∷ []);
-      totals = k;
-      small = s;
+    pub one-more : b ≡ false → (t′ : Totals) → TotalsOf (S .totalled .replies ++ (r ∷ [])) t′ → Small t′ → SoFar night t′ next
+    one-more e t′ k s = let f : t′ .files ≡ t .files + 1 = omega (arith, k .files, count-more (S .totalled .replies) r, S .totalled .totals .files) in record {
+      totalled = record { replies = S .totalled .replies ++ (r ∷ []); totals = k; small = s };
       room = omega (arith, f, S .room, here .longer);
       inside = here .inside;
-      reads = S .reads ∙ here .runs (t .files) (S .replies) ∙ taken night next (t .files) (S .replies) r (sym is ∙ e) ∙ rw (f, add-one);
+      reads = S .reads ∙ here .runs (t .files) (S .totalled .replies) ∙ taken night next (t .files) (S .totalled .replies) r (sym is ∙ e) ∙ rw (f, add-one);
     }

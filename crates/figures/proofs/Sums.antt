@@ -2,8 +2,8 @@
 use mathlib.Core.Bool.{Bool, true, false, cond}
 use mathlib.Core.List.{List, [], _∷_, _++_, map, append-nil}
 use mathlib.Core.Path.{_≡_, refl, sym, ap, _∙_}
-use Prim.Native.Nat.{ℕ, zero, suc, _+_, _*_, _-_, _^_, _≤_, _<_}
-use native.Mathlib.Nat.{mul-le-mul, mul-pos, le-trans}
+use Prim.Native.Nat.{ℕ, _+_, _*_, _-_, _^_, _≤_, _<_}
+use native.Mathlib.Nat.{mul-le-mul, le-trans}
 use native.Mathlib.Omega.{arith}
 use lib.ListN.{length}
 use Rattle.tableau.specs.Reply.{Reply, decimal, commaNumbers}
@@ -11,7 +11,7 @@ use Rattle.statistics.specs.Fractions.{Fraction, _over_, lowest}
 use Rattle.statistics.specs.Figures.{stepCounts, square, sum, mean, variance, printed, figures, figureNumbers}
 use Rattle.statistics.proofs.Variance.{printed-lowest, squares-below, variance-lowest}
 use Rattle.figures.specs.declared.totals.Totals.{Totals}
-use Rattle.figures.specs.Totals.{mostReplies, mostSteps, TotalsOf, Small, Totalled}
+use Rattle.figures.specs.Totals.{mostReplies, mostSteps, TotalsOf, Small}
 
 -- ONE REPLY MORE, at the end of the list
 pub count-more : {A : Type 0} (xs : List A) (x : A) → length (xs ++ (x ∷ [])) ≡ length xs + 1
@@ -93,7 +93,7 @@ module _ (rs : List Reply) (t : Totals) (h : TotalsOf rs t) where
   pub none-accepted : t .accepted ≡ 0 → (f : Fraction) → 0 over 0 ≡ printed (length (stepCounts rs)) f
   none-accepted e f = let z : length (stepCounts rs) ≡ 0 = sym (h .accepted) ∙ e in rw z
 
-  pub some-accepted : (t .accepted ≡ 0 → ⊥) → 0 < length (stepCounts rs)
+  some-accepted : (t .accepted ≡ 0 → ⊥) → 0 < length (stepCounts rs)
   some-accepted z = omega (arith, h .accepted, z)
 
   pub mean-lowest : (t .accepted ≡ 0 → ⊥) → lowest (t .sum over t .accepted) ≡ printed (length (stepCounts rs)) (mean (stepCounts rs))

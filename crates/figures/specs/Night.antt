@@ -2,18 +2,16 @@
 use mathlib.Core.List.{List}
 use mathlib.Core.Path.{_≡_}
 use Prim.Native.Nat.{ℕ}
-use Rattle.tableau.specs.Reply.{Reply, stopped, ended}
+use Rattle.tableau.specs.Reply.{stopped, ended}
 use Rattle.statistics.specs.Figures.{repliesOf}
 use Rattle.figures.specs.declared.totals.Totals.{Totals}
 use Rattle.figures.specs.declared.night.NightRead.{NightRead}
-use Rattle.figures.specs.Totals.{TotalsOf, Small, Totalled}
+use Rattle.figures.specs.Totals.{Totalled}
 
 pub record AllRead (night : List ℕ) (t : Totals) : Type 0 where
-  pub replies : List Reply
+  pub totalled : Totalled t
   pub count : ℕ
-  pub read : repliesOf night ≡ ended replies count
-  pub totals : TotalsOf replies t
-  pub small : Small t
+  pub read : repliesOf night ≡ ended (totalled .replies) count
 
 abbrev pub ReadSome : NightRead → Type 0
 ReadSome (NightRead.Read t) = Totalled t

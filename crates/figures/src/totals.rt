@@ -44,7 +44,7 @@ pub fn with_reply(totals: Totals, reply: Reply) -> Totals
     if reply.is_yes {
         let steps = reply.steps as u64;
         return Totals {
-            files: files,
+            files,
             accepted: accepted + 1,
             sum: sum + steps,
             squares: squares + steps * steps,

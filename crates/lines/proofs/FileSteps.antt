@@ -16,11 +16,12 @@ use Rattle.tableau.specs.declared.Reason.{Reason}
 use Rattle.tableau.specs.Basics.{then}
 use Rattle.tableau.specs.File.{LF, onFirst, split, Line}
 use Rattle.tableau.specs.Tree.{Checked, refused, passed, requireSome}
+use Rattle.tableau.proofs.Pieces.{pieces}
 use Rattle.lines.specs.declared.LineRead.{LineRead}
 use Rattle.lines.specs.Lines.{anyShape, lineRead, firstLine, lineAt, LFAhead, LinesEnd}
 use Rattle.lines.specs.ByteSteps.{nextLetter, firstDigit, nextDigit, Form, sixFieldForm, FieldsRead, Reading, empty, afterLetter, inWord, beforeNumber, inNumber, whole, bad}
 use Rattle.lines.specs.ByteSteps.{withNumber, step, ends, fieldsOf, FieldsAt, lineEnd, goesOn, steps, stepsAt, lineOf}
-use Rattle.lines.proofs.Pieces.{pieces, uncut}
+use Rattle.lines.proofs.Pieces.{uncut}
 use Rattle.lines.proofs.OnePass.{unended, any-pass}
 
 -- A line that is whole or bad stays so.
@@ -62,7 +63,7 @@ module _ (F : Form) where
   pub first-steps : (r : Reading) (l : List ℕ) (at : ℕ) → ends r ≡ refused Reason.BadShape → steps F r l at ≡ firstLine none (lineFrom r) at (split LF l)
   unfolding steps split
   first-steps r [] at e = rw e
-  first-steps r (x ∷ l) at e = steps-on r x l at e ∙ (let k = pieces LF l in which (k .0) (k .1) (k .2) (eqb x LF) refl (first-steps (step F r x) l (at + 1)))
+  first-steps r (x ∷ l) at e = steps-on r x l at e ∙ (let k = pieces LF l in which (k .first) (k .others) (k .cut) (eqb x LF) refl (first-steps (step F r x) l (at + 1)))
     where
       which : (p : List ℕ) (ps : List (List ℕ)) → split LF l ≡ p ∷ ps → (b : Bool) → eqb x LF ≡ b
           → (ends (step F r x) ≡ refused Reason.BadShape → steps F (step F r x) l (at + 1) ≡ firstLine none (lineFrom (step F r x)) (at + 1) (split LF l))

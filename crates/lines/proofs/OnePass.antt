@@ -14,12 +14,13 @@ use Rattle.tableau.specs.declared.Reason.{Reason}
 use Rattle.tableau.specs.Basics.{then, guard}
 use Rattle.tableau.specs.File.{LF, comma, split, isSmall, allSmall, isWord, isDigit, digits, number, Line, sixFields}
 use Rattle.tableau.specs.Tree.{refused, requireSome}
+use Rattle.tableau.proofs.Pieces.{pieces}
 use Rattle.lines.specs.declared.ByteStep.{ByteStep}
 use Rattle.lines.specs.declared.FirstDigit.{FirstDigit}
 use Rattle.lines.specs.Lines.{packWord, capitalOf, capital, anyShape}
 use Rattle.lines.specs.ByteSteps.{Form, sixFieldForm, FieldsRead, Reading, empty, afterLetter, inWord, beforeNumber, inNumber, whole, bad, endOf, withNumber, wordEnds, numberEnds}
 use Rattle.lines.specs.ByteSteps.{stepBy, nextLetter, firstDigit, nextDigit, letterStep, firstStep, byteStep, step, ends, fieldsOf, NoLine}
-use Rattle.lines.proofs.Pieces.{split-same, split-other, pieces}
+use Rattle.lines.proofs.Pieces.{split-same, split-other}
 
 -- A step over a byte of a word or of a number.
 abbrev wordStep : Form → ℕ → ℕ → ℕ → ByteStep → Reading
@@ -245,7 +246,7 @@ at-other F pos bad x h p ps = refl
 -- A step leaves what a reading and the rest of the line come to.
 module _ (F : Form) (pos : 0 < F .digits) where
   one-step : (r : Reading) (x : ℕ) (l : List ℕ) → remaining F (step F r x) (split comma l) ≡ remaining F r (split comma (x ∷ l))
-  one-step r x l = let k = pieces comma l in which (k .0) (k .1) (k .2) (eqb x comma) refl
+  one-step r x l = let k = pieces comma l in which (k .first) (k .others) (k .cut) (eqb x comma) refl
     where
       which : (p : List ℕ) (ps : List (List ℕ)) → split comma l ≡ p ∷ ps → (b : Bool) → eqb x comma ≡ b
           → remaining F (step F r x) (split comma l) ≡ remaining F r (split comma (x ∷ l))
@@ -258,15 +259,15 @@ module _ (F : Form) (pos : 0 < F .digits) where
   all-steps r (x ∷ l) = all-steps (step F r x) l ∙ one-step r x l
 
 -- THE WHOLE LINE, its shape field by field.
-abbrev lineOf : Option (Line ℕ) → Reading
-lineOf none = bad
-lineOf (some k) = whole (fieldsOf k)
+abbrev readingOf : Option (Line ℕ) → Reading
+readingOf none = bad
+readingOf (some k) = whole (fieldsOf k)
 
-of-then : {A : Type 0} (m : Option A) (k : A → Option (Line ℕ)) → lineOf (then m k) ≡ orBad m (λ x. lineOf (k x))
+of-then : {A : Type 0} (m : Option A) (k : A → Option (Line ℕ)) → readingOf (then m k) ≡ orBad m (λ x. readingOf (k x))
 of-then none k = refl
 of-then (some x) k = refl
 
-of-guard : (b : Bool) (m : Option (Line ℕ)) → lineOf (guard b m) ≡ cond b (lineOf m) bad
+of-guard : (b : Bool) (m : Option (Line ℕ)) → readingOf (guard b m) ≡ cond b (readingOf m) bad
 of-guard true m = refl
 of-guard false m = refl
 
@@ -278,7 +279,7 @@ pub word-whole : (w : List ℕ) → wordFrom 0 0 w ≡ guard (isWord w) (some (p
 unfolding wordFrom
 word-whole w = let e₁ : 0 + length w ≡ length w = omega arith in let e₂ : 0 + 256 ^ 0 * packWord w ≡ packWord w = omega arith in rw (e₁, e₂)
 
-shape-left : (ps : List (List ℕ)) → remaining sixFieldForm empty ps ≡ lineOf (sixFields capital ps)
+shape-left : (ps : List (List ℕ)) → remaining sixFieldForm empty ps ≡ readingOf (sixFields capital ps)
 unfolding sixFields
 shape-left [] = refl
 shape-left (k ∷ []) = simp nowhere
@@ -289,13 +290,13 @@ shape-left (k ∷ w ∷ a ∷ b ∷ c ∷ []) = simp nowhere
 shape-left (k ∷ w ∷ a ∷ b ∷ c ∷ d ∷ []) = simp (word-whole, of-then, of-guard, bad-guard)
 shape-left (k ∷ w ∷ a ∷ b ∷ c ∷ d ∷ e ∷ ps) = simp nowhere
 
-line-read : (l : List ℕ) → foldl (step sixFieldForm) empty (l ++ (LF ∷ [])) ≡ lineOf (anyShape l)
+line-read : (l : List ℕ) → foldl (step sixFieldForm) empty (l ++ (LF ∷ [])) ≡ readingOf (anyShape l)
 line-read l = all-steps sixFieldForm (omega arith) empty l ∙ shape-left (split comma l)
 
 pub any-pass : (l : List ℕ) → ends (foldl (step sixFieldForm) empty (l ++ (LF ∷ []))) ≡ requireSome (then (anyShape l) λ k. some (fieldsOf k)) Reason.BadShape
 any-pass l = ap ends (line-read l) ∙ which (anyShape l)
   where
-    which : (m : Option (Line ℕ)) → ends (lineOf m) ≡ requireSome (then m λ k. some (fieldsOf k)) Reason.BadShape
+    which : (m : Option (Line ℕ)) → ends (readingOf m) ≡ requireSome (then m λ k. some (fieldsOf k)) Reason.BadShape
     which none = refl
     which (some k) = refl
 

@@ -23,17 +23,6 @@ split-other c x l h = cut (eqb x c) (ne-eqb x c h)
     cut : (b : Bool) → b ≡ false → elim b [ true ↦ [] ∷ split c l | false ↦ onFirst x (split c l) ] ≡ onFirst x (split c l)
     cut b e = rw e
 
--- there is a first piece
-pub pieces : (c : ℕ) (l : List ℕ) → (p : List ℕ) × (ps : List (List ℕ)) × (split c l ≡ p ∷ ps)
-unfolding split
-pieces c [] = ([], [], refl)
-pieces c (x ∷ l) = cut (eqb x c) (split c l) (pieces c l)
-  where
-    cut : (b : Bool) (ls : List (List ℕ)) → (p : List ℕ) × (ps : List (List ℕ)) × (ls ≡ p ∷ ps)
-        → (p : List ℕ) × (ps : List (List ℕ)) × (elim b [ true ↦ [] ∷ ls | false ↦ onFirst x ls ] ≡ p ∷ ps)
-    cut true ls h = ([], ls, refl)
-    cut false ls h = (x ∷ h .0, h .1, rw (h .2))
-
 -- a text without the byte is one piece
 pub uncut : (c : ℕ) (l : List ℕ) → ((i : ℕ) → i < length l → getD l i 0 ≡ c → ⊥) → split c l ≡ l ∷ []
 unfolding split

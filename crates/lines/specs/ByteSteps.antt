@@ -27,7 +27,7 @@ nextLetter value count x = stepBy (isSmall x) (leb 3 count) (eqb x comma) (eqb c
 
 -- a number of at most so many digits by its first one: its value, and how many digits may follow, none after a 0
 unfoldable pub firstDigit : ℕ → ℕ → FirstDigit
-firstDigit most x = cond (isDigit x) (FirstDigit.Digit (x - 48) (cond (eqb x 48) 0 (most - 1))) FirstDigit.Bad
+firstDigit limit x = cond (isDigit x) (FirstDigit.Digit (x - 48) (cond (eqb x 48) 0 (limit - 1))) FirstDigit.Bad
 
 -- a number whose digits so far make value, where left more may follow
 unfoldable pub nextDigit : ℕ → ℕ → ℕ → ℕ → ByteStep
@@ -46,7 +46,7 @@ pub record DigitsFit (value left : ℕ) : Type 0 where
   pub few : left < mostDigits
   pub small : value < 10 ^ (mostDigits - left)
 
--- ONE BYTE OF A LINE. What kinds of lines differ in: how many numbers stand behind the word, and how many digits each has at most.
+-- ONE BYTE OF A LINE. What kinds of lines differ in: how many numbers, at least one, stand behind the word, and how many digits each has at most.
 pub record Form : Type 0 where
   pub count : ℕ
   pub digits : ℕ
@@ -210,7 +210,7 @@ unfoldable pub WordSteps : List ℕ → ℕ → ValueRead → Type 0
 WordSteps file at r = (F : Form) (l : ℕ) → ValueSteps F (inWord l 0 0) (wordEnds F l) comma file at r
 
 unfoldable pub NumberSteps : ℕ → ℕ → List ℕ → ℕ → ValueRead → Type 0
-NumberSteps most end file at r = (F : Form) (n : ℕ) (f : FieldsRead) → F .digits ≡ most → endOf n ≡ end → ValueSteps F (beforeNumber n f) (numberEnds n f) end file at r
+NumberSteps limit end file at r = (F : Form) (n : ℕ) (f : FieldsRead) → F .digits ≡ limit → endOf n ≡ end → ValueSteps F (beforeNumber n f) (numberEnds n f) end file at r
 
 -- the same of a number from its second byte on
 unfoldable pub DigitsSteps : ℕ → ℕ → ℕ → List ℕ → ℕ → ValueRead → Type 0

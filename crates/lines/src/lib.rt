@@ -142,10 +142,10 @@ pub fn read_word(file: &[u8], at: usize) -> ValueRead
     }
 }
 
-// A number of at most most digits by its first byte.
-fn first_digit(x: u8, most: usize) -> FirstDigit
-    requires { ⌜ 0 < most ⌝ }
-    ensures { λ r. ⌜ r ≡ firstDigit most x ⌝ }
+// A number of at most so many digits, by its first byte.
+fn first_digit(x: u8, limit: usize) -> FirstDigit
+    requires { ⌜ 0 < limit ⌝ }
+    ensures { λ r. ⌜ r ≡ firstDigit limit x ⌝ }
 {
     if x < b'0' {
         return FirstDigit::Bad;
@@ -157,7 +157,7 @@ fn first_digit(x: u8, most: usize) -> FirstDigit
     if value == 0 {
         return FirstDigit::Digit(0, 0);
     }
-    FirstDigit::Digit(value, most - 1)
+    FirstDigit::Digit(value, limit - 1)
 }
 
 // One byte more of a number whose digits so far make value, where left more may follow. The byte that ends it is below the digits; most
@@ -207,12 +207,12 @@ fn read_digits(file: &[u8], at: usize, first: usize, max: usize, end: u8) -> Val
     }
 }
 
-// A number of at most most digits, and the byte that ends it.
-pub fn read_number(file: &[u8], at: usize, most: usize, end: u8) -> ValueRead
-    requires { ⌜ (0 < most) × (most ≤ mostDigits) × (end < 48) × LFAhead (now file) at ⌝ }
-    ensures { λ r. ⌜ NumberSteps most end (now (file .entry)) at r ⌝ }
+// A number of at most so many digits, and the byte that ends it.
+pub fn read_number(file: &[u8], at: usize, limit: usize, end: u8) -> ValueRead
+    requires { ⌜ (0 < limit) × (limit ≤ mostDigits) × (end < 48) × LFAhead (now file) at ⌝ }
+    ensures { λ r. ⌜ NumberSteps limit end (now (file .entry)) at r ⌝ }
 {
-    match first_digit(file[at], most) {
+    match first_digit(file[at], limit) {
         FirstDigit::Digit(value, left) => read_digits(file, at + 1, value, left, end),
         FirstDigit::Bad => ValueRead::Bad,
     }

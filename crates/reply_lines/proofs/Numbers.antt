@@ -1,10 +1,10 @@
 -- The numbers of a reply line, one after the other.
 use mathlib.Core.List.{List, [], _∷_, _++_}
 use mathlib.Core.Option.{some}
-use mathlib.Core.Path.{_≡_, refl, sym, ap, subst, _∙_}
+use mathlib.Core.Path.{_≡_, refl, _∙_}
 use Prim.Native.Nat.{ℕ, zero, suc, _+_, _-_, _≤_, _<_}
 use native.Mathlib.Omega.{arith}
-use lib.ListN.{length, take, drop, set, length-set}
+use lib.ListN.{length, take, drop, set}
 use lib.Seq.{take-all}
 use Rattle.tableau.specs.File.{comma}
 use Rattle.statistics.specs.ReplyLines.{replyDigits}

@@ -1,23 +1,21 @@
 -- The steps over a reply line come to the specification's shape of it.
 use mathlib.Core.Bool.{Bool, true, false, true≢false}
-use mathlib.Core.List.{List, [], _∷_, _++_, foldl, append-assoc, append-nil}
+use mathlib.Core.List.{List, [], _∷_, _++_, append-assoc}
 use mathlib.Core.Option.{Option, none, some}
 use mathlib.Core.Path.{_≡_, refl, sym, ap, subst, _∙_}
 use Prim.Native.Nat.{ℕ, zero, suc, _+_, _-_}
 use native.Mathlib.Omega.{arith}
 use lib.Dec.{eqb, eqb·suc-zero, eqb·zero-suc, eqb·suc-suc}
 use lib.ListN.{length, drop}
-use Rattle.tableau.specs.declared.Reason.{Reason}
 use Rattle.tableau.specs.Basics.{then, guard, bytes, sameBytes, Named, lookup}
 use Rattle.tableau.specs.File.{LF, comma, split, allSmall, isWord, number}
-use Rattle.tableau.specs.Tree.{Checked, refused, passed, requireSome}
 use Rattle.tableau.specs.Reply.{Reply}
 use Rattle.tableau.proofs.Bools.{both-true}
 use Rattle.tableau.proofs.Checks.{same-bytes}
 use Rattle.lines.specs.declared.ValueRead.{ValueRead}
 use Rattle.lines.specs.Lines.{packWord, firstLine, LFAhead}
-use Rattle.lines.specs.ByteSteps.{FieldsRead, Reading, inWord, whole, bad, withNumber, wordEnds, step, ends, FieldsAt, lineEnd, stepsAt, WordSteps}
-use Rattle.lines.proofs.OnePass.{orBad, manyNumbers, wordFrom, wordLeft, word-whole, all-steps}
+use Rattle.lines.specs.ByteSteps.{FieldsRead, Reading, inWord, whole, bad, withNumber, wordEnds, ends, FieldsAt, lineEnd, stepsAt, WordSteps}
+use Rattle.lines.proofs.OnePass.{orBad, manyNumbers, wordLeft, word-whole, all-steps}
 use Rattle.lines.proofs.FileSteps.{lineFrom, first-steps}
 use Rattle.lines.proofs.Bytes.{value-read, value-bad}
 use Rattle.words.specs.Words.{lookupPacked}

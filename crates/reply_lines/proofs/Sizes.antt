@@ -1,21 +1,21 @@
 -- A reply line is so long at least, and its numbers are small.
 use mathlib.Core.Bool.{Bool, true, false}
 use mathlib.Core.List.{List, [], _∷_}
-use mathlib.Core.Option.{Option, some}
-use mathlib.Core.Path.{_≡_, refl, sym, ap, subst, _∙_}
-use Prim.Native.Nat.{ℕ, zero, suc, _+_, _*_, _^_, _≤_, _<_}
+use mathlib.Core.Option.{some}
+use mathlib.Core.Path.{_≡_, refl, sym, _∙_}
+use Prim.Native.Nat.{ℕ, suc, _+_, _*_, _^_, _≤_, _<_}
 use native.Mathlib.Omega.{arith}
 use lib.Dec.{eqb}
-use lib.ListN.{length, getD}
+use lib.ListN.{length}
 use borrow.Author.Tests.{eqb-true}
 use Rattle.tableau.specs.Basics.{lookup}
 use Rattle.tableau.specs.File.{comma, split, isWord, number}
 use Rattle.tableau.specs.Reply.{Reply}
 use Rattle.tableau.proofs.Bools.{none≢some, some-inj, then-inv, guard-inv}
-use Rattle.running.proofs.Lines.{some-digit, bytesOf, split-bytes, word-long}
+use Rattle.tableau.proofs.SixFields.{some-digit, word-long}
+use Rattle.tableau.proofs.Pieces.{bytesOf, split-bytes}
 use Rattle.statistics.specs.ReplyLines.{answers, replyDigits, numbers, replyFields, replyShape}
-use Rattle.statistics.specs.Claims.{ShapeOfReply}
-use Rattle.statistics.proofs.ReplyShapes.{shape-of-reply}
+use Rattle.statistics.proofs.ReplyShapes.{steps-below}
 use Rattle.reply_lines.specs.Reading.{leastReply}
 use Rattle.reply_lines.proofs.Shapes.{only-words, answers-are-words}
 
@@ -42,7 +42,7 @@ answer-long p e = which (isWord p) refl
     which false w = none≢some (sym (only-words answers answers-are-words p w) ∙ e)
 
 pub sizes : (l : List ℕ) (r : Reply) → replyShape l ≡ some r → Sizes l r
-unfolding replyShape ShapeOfReply
+unfolding replyShape
 sizes l r e = go (split comma l) (split-bytes comma l) e
   where
     go : (ps : List (List ℕ)) → bytesOf ps ≡ suc (length l) → replyFields ps ≡ some r → Sizes l r
@@ -53,5 +53,5 @@ sizes l r e = go (split comma l) (split-bytes comma l) e
         let g = guard-inv (eqb (length (k .0)) 7) _ (k .2) in
         record {
           long = omega (arith, b, answer-long p (h .1), numbers-long ps (k .0) (k .1), eqb-true (length (k .0)) 7 (g .0));
-          steps = shape-of-reply l r .0 e .1 .1 .1 .1 .1 .0;
+          steps = steps-below l r e;
         }

@@ -1,5 +1,4 @@
 -- What reading a reply line gives: the specification's own shape of a line, and the position after its LF.
-use mathlib.Core.Bool.{Bool}
 use mathlib.Core.List.{List, []}
 use mathlib.Core.Option.{Option, none, some}
 use mathlib.Core.Path.{_≡_}

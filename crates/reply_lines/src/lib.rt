@@ -88,7 +88,7 @@ fn reply_from(is_yes: bool, values: &[usize; COUNT]) -> Reply
     ensures { λ r. ⌜ sevenNumbers «is_yes» (now (values .entry)) ≡ some (replyRecord r) ⌝ }
 {
     Reply {
-        is_yes: is_yes,
+        is_yes,
         number: values[0],
         line: values[1],
         terms: values[2],

@@ -16,15 +16,15 @@ use Rattle.tableau.specs.File.{LF, comma, inOrder, split, onFirst, Line, sixFie
 use Rattle.tableau.specs.Tree.{Checked, refused, passed, _>>=_, requireSome}
 use Rattle.tableau.specs.Words.{Command, some-of, make, assume, disjoin, infer, commandOf}
 use Rattle.tableau.specs.Reply.{State, requireOpen, runOpen, runCommand, runRead, runLine, stopped, ended, runLines}
-use Rattle.tableau.proofs.SixFields.{six-fields}
+use Rattle.tableau.proofs.SixFields.{six-fields, some-digit, word-long}
 use Rattle.tableau.proofs.Bools.{both-true, none≢some}
-use Rattle.tableau.proofs.Decimals.{number-read}
+use Rattle.tableau.proofs.Decimals.{decimal-of-number}
+use Rattle.tableau.proofs.Pieces.{Pieces, pieces, bytesOf, split-bytes}
 use Rattle.lines.specs.declared.LineFields.{LineFields}
 use Rattle.lines.specs.declared.LineRead.{LineRead}
 use Rattle.lines.specs.Lines.{capital, anyShape, packWord, lineRead, firstLine, lineAt, numbersOf}
 use Rattle.lines.specs.ByteSteps.{allCapitals}
 use Rattle.words.proofs.PackedWords.{words-packed, relations-packed, rules-packed}
-use Rattle.lines.proofs.Pieces.{pieces}
 use Rattle.lines.proofs.Letters.{relettered, letteredLine, shape-lettered}
 use Rattle.running.specs.Running.{runFrom, packedCommand, runFields, SmallNumbers, lineFields, leastLine, ByFields, LineHere}
 
@@ -40,7 +40,7 @@ behind c (x ∷ text) l m ls e = cut (eqb x c) e (pieces c text) (behind c text)
     at k q h = rw q h
 
     cut : (b : Bool) → elim b [ true ↦ [] ∷ split c text | false ↦ onFirst x (split c text) ] ≡ l ∷ m ∷ ls
-        → (p : List ℕ) × (ps : List (List ℕ)) × (split c text ≡ p ∷ ps)
+        → Pieces c text
         → ((l m : List ℕ) (ls : List (List ℕ)) → split c text ≡ l ∷ m ∷ ls
         → (split c (drop (suc (length l)) text) ≡ m ∷ ls) × (suc (length l) ≤ length text))
         → (split c (drop (suc (length l)) (x ∷ text)) ≡ m ∷ ls) × (suc (length l) ≤ suc (length text))
@@ -49,57 +49,30 @@ behind c (x ∷ text) l m ls e = cut (eqb x c) e (pieces c text) (behind c text)
         let r : split c text ≡ m ∷ ls = cc in
         at [] q (r, omega arith)
     cut false e h later =
-        let k : onFirst x (h .0 ∷ h .1) ≡ l ∷ m ∷ ls = ap (onFirst x) (sym (h .2)) ∙ e in
-        let q : l ≡ x ∷ h .0 = cc in
-        let r : h .1 ≡ m ∷ ls = cc in
-        let g = later (h .0) m ls (h .2 ∙ ap (λ ps. h .0 ∷ ps) r) in
-        at (x ∷ h .0) q (g .0, omega (arith, g .1))
+        let k : onFirst x (h .first ∷ h .others) ≡ l ∷ m ∷ ls = ap (onFirst x) (sym (h .cut)) ∙ e in
+        let q : l ≡ x ∷ h .first = cc in
+        let r : h .others ≡ m ∷ ls = cc in
+        let g = later (h .first) m ls (h .cut ∙ ap (λ ps. h .first ∷ ps) r) in
+        at (x ∷ h .first) q (g .0, omega (arith, g .1))
 
 -- there is a piece; and the one piece of a text that is not empty is not empty
 pub some-piece : (c : ℕ) (text : List ℕ) → split c text ≡ [] → ⊥
-some-piece c text e = let h = pieces c text in let z : h .0 ∷ h .1 ≡ [] = sym (h .2) ∙ e in let y : true ≡ false = cc in true≢false y
+some-piece c text e = let h = pieces c text in let z : h .first ∷ h .others ≡ [] = sym (h .cut) ∙ e in let y : true ≡ false = cc in true≢false y
 
 pub one-piece : (c : ℕ) (text : List ℕ) → 0 < length text → split c text ≡ [] ∷ [] → ⊥
 unfolding split
 one-piece c [] h e = omega (arith, h)
 one-piece c (x ∷ text) h e = cut (eqb x c) (pieces c text) e
   where
-    cut : (b : Bool) → (p : List ℕ) × (ps : List (List ℕ)) × (split c text ≡ p ∷ ps)
+    cut : (b : Bool) → Pieces c text
         → _≡_ {A = List (List ℕ)} (elim b [ true ↦ [] ∷ split c text | false ↦ onFirst x (split c text) ]) ([] ∷ []) → ⊥
     cut true g e = some-piece c text (let q : split c text ≡ [] = cc in q)
-    cut false g e = let z : onFirst x (g .0 ∷ g .1) ≡ [] ∷ [] = ap (onFirst x) (sym (g .2)) ∙ e in let y : true ≡ false = cc in true≢false y
-
--- THE LENGTH of pieces and of the bytes that part them
-abbrev pub bytesOf : List (List ℕ) → ℕ
-bytesOf [] = 0
-bytesOf (p ∷ ps) = suc (length p) + bytesOf ps
-
-pub split-bytes : (c : ℕ) (l : List ℕ) → bytesOf (split c l) ≡ suc (length l)
-unfolding split
-split-bytes c [] = refl
-split-bytes c (b ∷ l) = let k = pieces c l in cut (eqb b c) (k .0) (k .1) (k .2) (split-bytes c l)
-  where
-    cut : (t : Bool) (p : List ℕ) (ps : List (List ℕ)) → split c l ≡ p ∷ ps → bytesOf (split c l) ≡ suc (length l)
-        → bytesOf (elim t [ true ↦ [] ∷ split c l | false ↦ onFirst b (split c l) ]) ≡ suc (suc (length l))
-    cut true p ps k e = omega (arith, e)
-    cut false p ps k e = rw k (let h : bytesOf (p ∷ ps) ≡ suc (length l) = rw k at e in omega (arith, h))
+    cut false g e = let z : onFirst x (g .first ∷ g .others) ≡ [] ∷ [] = ap (onFirst x) (sym (g .cut)) ∙ e in let y : true ≡ false = cc in true≢false y
 
 some-letter : (p : List ℕ) {b : ℕ} → capital p ≡ some b → 1 ≤ length p
 unfolding capital
 some-letter [] e = none≢some e
 some-letter (b ∷ p) e = omega arith
-
-pub some-digit : (most : ℕ) (p : List ℕ) {n : ℕ} → number most p ≡ some n → 1 ≤ length p
-unfolding number
-some-digit most [] e = none≢some e
-some-digit most (b ∷ p) e = omega arith
-
-pub word-long : (w : List ℕ) → isWord w ≡ true → 2 ≤ length w
-word-long w h = which (eqb (length w) 2) refl (both-true (eqb (length w) 2 || eqb (length w) 3) (allSmall w) h .0)
-  where
-    which : (b : Bool) → eqb (length w) 2 ≡ b → (b || eqb (length w) 3) ≡ true → 2 ≤ length w
-    which true e h = omega (arith, eqb-true (length w) 2 e)
-    which false e h = omega (arith, eqb-true (length w) 3 h)
 
 -- A LINE of six fields: its word is a word, its numbers are small, and it is so long at least
 pub record Shaped (ps : List (List ℕ)) (k : Line ℕ) : Type 0 where
@@ -112,7 +85,7 @@ shaped ps k e =
     let f = six-fields capital ps e in
     record {
       word = f .word;
-      small = record { a = number-read maxDigits _ _ (f .a) .1; b = number-read maxDigits _ _ (f .b) .1; c = number-read maxDigits _ _ (f .c) .1; d = number-read maxDigits _ _ (f .d) .1 };
+      small = record { a = decimal-of-number maxDigits _ _ (f .a) .1; b = decimal-of-number maxDigits _ _ (f .b) .1; c = decimal-of-number maxDigits _ _ (f .c) .1; d = decimal-of-number maxDigits _ _ (f .d) .1 };
       long = rw (f .pieces)
           (omega (
             arith,

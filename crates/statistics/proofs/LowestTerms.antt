@@ -115,7 +115,7 @@ multiple-divisors k a b h =
     let x = euclid (suc b) a b (omega arith) in
     rw (sym (common-divisor-unique (x .0) a b h (simp one-mul at (x .1 1)))) (x .1 k)
 
-pub common-divisors : (a b : ℕ) → 0 < b → DivisorsOfBoth (greatestCommonDivisor a b) a b
+common-divisors : (a b : ℕ) → 0 < b → DivisorsOfBoth (greatestCommonDivisor a b) a b
 common-divisors a b h = simp one-mul at (multiple-divisors 1 a b h)
 
 -- that of the multiples of two numbers is the multiple of theirs

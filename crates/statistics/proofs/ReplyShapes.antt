@@ -3,7 +3,7 @@ use mathlib.Core.Path.{_≡_, refl, sym, _∙_, ap, subst}
 use mathlib.Core.Bool.{Bool, true, false}
 use mathlib.Core.List.{List, [], _∷_, _++_, map, append-assoc, append-cancel-right}
 use mathlib.Core.Option.{some}
-use Prim.Native.Nat.{ℕ, _^_}
+use Prim.Native.Nat.{ℕ, _^_, _<_}
 use native.Mathlib.Omega.{arith}
 use lib.Dec.{eqb}
 use lib.ListN.{length, getD}
@@ -11,18 +11,19 @@ use borrow.Author.Tests.{eqb-true}
 use Rattle.tableau.specs.Basics.{bytes, sameBytes, lookup}
 use Rattle.tableau.specs.File.{LF, comma, isDigit, number}
 use Rattle.tableau.specs.Reply.{Reply, replyNumbers, decimal, commaNumbers, yesOrNo, replyLine}
+use Rattle.tableau.specs.Claims.{AllBelow}
 use Rattle.tableau.proofs.Bools.{some-inj, then-inv, guard-inv}
 use Rattle.tableau.proofs.Checks.{lookup-agree}
-use Rattle.tableau.proofs.Pieces.{behind, pieces, free, AllFree, free-append, free-behind, split-behind}
-use Rattle.tableau.proofs.Decimals.{number-decimal, decimal-free, number-read}
+use Rattle.tableau.proofs.Pieces.{eachBehind, pieces, free, AllFree, free-append, free-behind, split-behind}
+use Rattle.tableau.proofs.Decimals.{number-decimal, decimal-free, decimal-of-number}
 use Rattle.statistics.specs.ReplyLines.{answers, replyDigits, numbers, sevenNumbers, replyFields, replyShape}
-use Rattle.statistics.specs.Claims.{AllBelow, ShapeOfReply}
+use Rattle.statistics.specs.Claims.{ShapeOfReply}
 
 -- THE NUMBERS of a line: their decimals, each behind a comma, and the LF
-comma-numbers : (ns : List ℕ) → commaNumbers ns ≡ behind comma (map decimal ns) ++ (LF ∷ [])
-unfolding commaNumbers behind
+comma-numbers : (ns : List ℕ) → commaNumbers ns ≡ eachBehind comma (map decimal ns) ++ (LF ∷ [])
+unfolding commaNumbers eachBehind
 comma-numbers [] = refl
-comma-numbers (n ∷ ns) = ap (λ l. comma ∷ (decimal n ++ l)) (comma-numbers ns) ∙ ap (λ l. comma ∷ l) (sym (append-assoc (decimal n) (behind comma (map decimal ns)) (LF ∷ [])))
+comma-numbers (n ∷ ns) = ap (λ l. comma ∷ (decimal n ++ l)) (comma-numbers ns) ∙ ap (λ l. comma ∷ l) (sym (append-assoc (decimal n) (eachBehind comma (map decimal ns)) (LF ∷ [])))
 
 -- texts that are read as numbers are their decimals, and decimals are so read
 numbers-read : (ps : List (List ℕ)) (ns : List ℕ) → numbers ps ≡ some ns → (ps ≡ map decimal ns) × AllBelow (10 ^ replyDigits) ns
@@ -31,7 +32,7 @@ numbers-read [] ns e = rw (← some-inj e) (refl, tt)
 numbers-read (p ∷ ps) ns e =
     let h = then-inv (number replyDigits p) _ e in
     let k = then-inv (numbers ps) _ (h .2) in
-    let d = number-read replyDigits (h .0) p (h .1) in
+    let d = decimal-of-number replyDigits (h .0) p (h .1) in
     let ds = numbers-read ps (k .0) (k .1) in
     rw (← some-inj (k .2)) ((λ i. d .0 i ∷ ds .0 i), (d .1, ds .1))
 
@@ -80,7 +81,7 @@ answer-free false = (refl, refl)
 
 -- THE LINE without its LF
 unfoldable pub lineText : Reply → List ℕ
-lineText r = yesOrNo (r .isYes) ++ behind comma (map decimal (replyNumbers r))
+lineText r = yesOrNo (r .isYes) ++ eachBehind comma (map decimal (replyNumbers r))
 
 pub reply-line : (r : Reply) → replyLine r ≡ lineText r ++ (LF ∷ [])
 unfolding replyLine lineText
@@ -107,7 +108,11 @@ shape-read l r e =
     let n = numbers-read (x .others) (k .0) (k .1) in
     let a = ap yesOrNo (s .0) ∙ answer-read (x .first) (h .1) in
     let t = ap (map decimal) (s .1) ∙ sym (n .0) in
-    ((λ i. a i ++ behind comma (t i)) ∙ sym (x .whole), subst (AllBelow (10 ^ replyDigits)) (sym (s .1)) (n .1))
+    ((λ i. a i ++ eachBehind comma (t i)) ∙ sym (x .whole), subst (AllBelow (10 ^ replyDigits)) (sym (s .1)) (n .1))
+
+-- so it has few S lines
+pub steps-below : (l : List ℕ) (r : Reply) → replyShape l ≡ some r → r .steps < 10 ^ replyDigits
+steps-below l r e = shape-read l r e .1 .1 .1 .1 .1 .0
 
 pub shape-of-reply : ShapeOfReply
 unfolding ShapeOfReply

@@ -1,13 +1,12 @@
 -- The variance by the sum and the sum of squares, and what is printed of it.
-use mathlib.Core.Path.{_≡_, refl, sym, ap, _∙_}
+use mathlib.Core.Path.{_≡_, refl}
 use mathlib.Core.List.{List, [], _∷_, map}
 use Prim.Native.Nat.{ℕ, zero, suc, _+_, _*_, _-_, _≤_, _<_}
 use native.Mathlib.Decide.{decLe}
 use native.Mathlib.Nat.{add-mul, mul-add, mul-assoc, mul-comm, mul-right-comm, mul-mul-mul-comm, suc-mul, mul-zero, zero-mul, mul-pos, le-of-mul-le-mul-left, mul-sub}
 use native.Mathlib.Omega.{arith}
 use lib.ListN.{length}
-use Rattle.tableau.specs.Reply.{Reply}
-use Rattle.statistics.specs.Fractions.{Fraction, _over_, InLowestTerms, lowest}
+use Rattle.statistics.specs.Fractions.{Fraction, _over_, lowest}
 use Rattle.statistics.specs.Figures.{stepCounts, sum, mean, distance, square, squaredDistance, variance, printed, figures}
 use Rattle.statistics.specs.Claims.{LowestFound, FiguresExact}
 use Rattle.statistics.proofs.LowestTerms.{lowest-found, same-ratio-lowest}

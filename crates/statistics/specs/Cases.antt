@@ -1,8 +1,8 @@
 -- Nights, with the line that is printed of each.
 use mathlib.Core.Path.{_≡_}
 use mathlib.Core.List.{List, [], _∷_, map}
-use Prim.Native.Nat.{ℕ}
 use Prim.Native.String.{String}
+use Rattle.tableau.specs.Basics.{bytes}
 use Rattle.tableau.specs.Cases.{fileOf}
 use Rattle.statistics.specs.Figures.{figuresLine}
 
@@ -50,6 +50,10 @@ nights =
     -- "no more is tested"
     ("no,99999,0,0,0,0,0,0" ∷ "yes,0,0,0,0,5,99999,0" ∷ [] ⊢ "2,1,5,1,0,1") ∷
     []
+
+-- "one LF" ends a line, and the last one too
+unfoldable pub UnendedRefused : Type 0
+UnendedRefused = figuresLine (bytes "yes,0,0,4,2,2,1,0") ≡ fileOf ("2,1" ∷ [])
 
 unfoldable pub AllFigures : List Night → Type 0
 AllFigures ns = map (λ n. figuresLine (fileOf (n .lines))) ns ≡ map (λ n. fileOf (n .says ∷ [])) ns

@@ -53,7 +53,8 @@ squaredDistance n s x = square (distance (n * x) s)
 unfoldable pub variance : List ℕ → Fraction
 variance xs = sum (map (squaredDistance (length xs) (sum xs)) xs) over (length xs * length xs * length xs)
 
--- "Fractions are exact and in lowest terms, a zero is `0,1`, and with none accepted both are `0,0`": of so many accepted files. That a zero in lowest terms is `0,1` is a theorem.
+-- A fraction as it is printed, where so many files are accepted: "Fractions are exact and in lowest terms, a zero is `0,1`, and with none accepted both are `0,0`". That a zero in lowest
+-- terms is `0,1` is a theorem.
 abbrev pub printed : ℕ → Fraction → Fraction
 printed zero f = 0 over 0
 printed (suc n) f = lowest f

@@ -1,6 +1,6 @@
 -- Fractions over the natural numbers, "exact and in lowest terms".
 use mathlib.Core.Path.{_≡_}
-use mathlib.Core.Bool.{Bool, true, false, _&&_, cond}
+use mathlib.Core.Bool.{Bool, _&&_, cond}
 use Prim.Native.Nat.{ℕ, zero, suc, _*_, _/_, _%_, _∣_}
 use lib.Dec.{eqb}
 

@@ -17,12 +17,12 @@ answers = ("yes" ↣ true) ∷ ("no" ↣ false) ∷ []
 abbrev pub replyDigits : ℕ
 replyDigits = 5
 
--- numbers, if all of the texts are
+-- the numbers that texts are, if each of them is one
 unfoldable pub numbers : List (List ℕ) → Option (List ℕ)
 numbers [] = some []
 numbers (p ∷ ps) = then (number replyDigits p) λ n. then (numbers ps) λ ns. some (n ∷ ns)
 
--- "in the form of Req 05": seven numbers in the reply's order
+-- "reply lines in the form of Req 05", which adds the place to document 01's reply: seven numbers, in the reply's order
 abbrev pub sevenNumbers : Bool → List ℕ → Option Reply
 sevenNumbers isYes′ ns =
     guard (eqb (length ns) 7)

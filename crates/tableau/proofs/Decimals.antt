@@ -165,10 +165,10 @@ read-all b n (x ∷ xs) z e = go (one-true (not (eqb b 48)) _ z)
     go (inr t) = absurd (omega (arith, eqb-true (length (x ∷ xs)) 0 t))
 
 -- what is read as a number is the number's decimal, and below the limit
-pub number-read : (most n : ℕ) (l : List ℕ) → number most l ≡ some n → (l ≡ decimal n) × (n < 10 ^ most)
+pub decimal-of-number : (most n : ℕ) (l : List ℕ) → number most l ≡ some n → (l ≡ decimal n) × (n < 10 ^ most)
 unfolding number
-number-read most n [] e = none≢some e
-number-read most n (b ∷ bs) e =
+decimal-of-number most n [] e = none≢some e
+decimal-of-number most n (b ∷ bs) e =
     let g = guard-inv _ _ e in
     let t = both-true (leb (length (b ∷ bs)) most) _ (g .0) in
     let width = leb-true (length (b ∷ bs)) most (t .0) in

@@ -2,7 +2,7 @@
 use mathlib.Core.Path.{_≡_, refl, _∙_, ap}
 use mathlib.Core.Bool.{Bool, true, false, _&&_, not}
 use mathlib.Core.List.{List, [], _∷_, _++_}
-use Prim.Native.Nat.{ℕ, suc, _≤_}
+use Prim.Native.Nat.{ℕ, suc, _+_, _≤_}
 use native.Mathlib.Omega.{arith}
 use lib.Dec.{eqb}
 use lib.ListN.{length}
@@ -11,19 +11,19 @@ use Rattle.tableau.specs.File.{onFirst, split}
 use Rattle.tableau.proofs.Bools.{both-true, both-i, eqb-same}
 
 -- each piece behind a byte
-unfoldable pub behind : ℕ → List (List ℕ) → List ℕ
-behind c [] = []
-behind c (p ∷ ps) = c ∷ (p ++ behind c ps)
+unfoldable pub eachBehind : ℕ → List (List ℕ) → List ℕ
+eachBehind c [] = []
+eachBehind c (p ∷ ps) = c ∷ (p ++ eachBehind c ps)
 
 pub record Pieces (c : ℕ) (text : List ℕ) : Type 0 where
   pub first : List ℕ
   pub others : List (List ℕ)
   pub cut : split c text ≡ first ∷ others
-  pub whole : text ≡ first ++ behind c others
+  pub whole : text ≡ first ++ eachBehind c others
 
 -- a text that is cut
 pub pieces : (c : ℕ) (text : List ℕ) → Pieces c text
-unfolding split behind
+unfolding split eachBehind
 pieces c [] = record { first = []; others = []; cut = refl; whole = refl }
 pieces c (b ∷ bs) = go (pieces c bs) (eqb b c) refl
   where
@@ -42,6 +42,21 @@ few-pieces c (b ∷ bs) = go (eqb b c) (split c bs) (few-pieces c bs)
     go false [] h = omega arith
     go false (l ∷ ls) h = omega arith
 
+-- THE LENGTH of pieces and of the bytes that part them
+abbrev pub bytesOf : List (List ℕ) → ℕ
+bytesOf [] = 0
+bytesOf (p ∷ ps) = suc (length p) + bytesOf ps
+
+pub split-bytes : (c : ℕ) (l : List ℕ) → bytesOf (split c l) ≡ suc (length l)
+unfolding split
+split-bytes c [] = refl
+split-bytes c (b ∷ l) = let k = pieces c l in cut (eqb b c) (k .first) (k .others) (k .cut) (split-bytes c l)
+  where
+    cut : (t : Bool) (p : List ℕ) (ps : List (List ℕ)) → split c l ≡ p ∷ ps → bytesOf (split c l) ≡ suc (length l)
+        → bytesOf (elim t [ true ↦ [] ∷ split c l | false ↦ onFirst b (split c l) ]) ≡ suc (suc (length l))
+    cut true p ps k e = omega (arith, e)
+    cut false p ps k e = rw k (let h : bytesOf (p ∷ ps) ≡ suc (length l) = rw k at e in omega (arith, h))
+
 -- PIECES WITHOUT THE BYTE
 unfoldable pub free : ℕ → List ℕ → Bool
 free c [] = true
@@ -57,10 +72,10 @@ unfolding free
 free-append c [] t f g = g
 free-append c (b ∷ s) t f g = let h = both-true (not (eqb b c)) _ f in both-i (h .0) (free-append c s t (h .1) g)
 
-pub free-behind : (c s : ℕ) (ps : List (List ℕ)) → eqb s c ≡ false → AllFree c ps → free c (behind s ps) ≡ true
-unfolding free behind
+pub free-behind : (c s : ℕ) (ps : List (List ℕ)) → eqb s c ≡ false → AllFree c ps → free c (eachBehind s ps) ≡ true
+unfolding free eachBehind
 free-behind c s [] e f = refl
-free-behind c s (p ∷ ps) e f = both-i (ap not e) (free-append c p (behind s ps) (f .0) (free-behind c s ps e (f .1)))
+free-behind c s (p ∷ ps) e f = both-i (ap not e) (free-append c p (eachBehind s ps) (f .0) (free-behind c s ps e (f .1)))
 
 -- a piece before a text whose first piece is empty
 split-after : (c : ℕ) (p text : List ℕ) (ps : List (List ℕ)) → free c p ≡ true → split c text ≡ [] ∷ ps → split c (p ++ text) ≡ p ∷ ps
@@ -74,7 +89,7 @@ unfolding split
 split-ended c p text h = split-after c p (c ∷ text) (split c text) h (rw (eqb-same c, split))
 
 -- pieces without it, each but the first behind it
-pub split-behind : (c : ℕ) (p : List ℕ) (qs : List (List ℕ)) → AllFree c (p ∷ qs) → split c (p ++ behind c qs) ≡ p ∷ qs
-unfolding split behind
+pub split-behind : (c : ℕ) (p : List ℕ) (qs : List (List ℕ)) → AllFree c (p ∷ qs) → split c (p ++ eachBehind c qs) ≡ p ∷ qs
+unfolding split eachBehind
 split-behind c p [] h = split-after c p [] [] (h .0) refl
-split-behind c p (q ∷ qs) h = split-ended c p (q ++ behind c qs) (h .0) ∙ ap (λ ls. p ∷ ls) (split-behind c q qs (h .1))
+split-behind c p (q ∷ qs) h = split-ended c p (q ++ eachBehind c qs) (h .0) ∙ ap (λ ls. p ∷ ls) (split-behind c q qs (h .1))

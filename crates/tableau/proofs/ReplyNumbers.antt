@@ -15,8 +15,8 @@ use Rattle.tableau.specs.declared.Reason.{Reason}
 use Rattle.tableau.specs.File.{Line, shape, letters, split, LF, maxBytes}
 use Rattle.tableau.specs.Terms.{Place, ClauseNo, Table, Literal, Clauses, TermNo}
 use Rattle.tableau.specs.Tree.{Checked, refused, passed, Status, isOpen, isClosed, maxPlaces}
-use Rattle.tableau.specs.Reply.{refusalOf, State, start, maxClauseLines, runLine, runLines, Verdict, accept, refuse, atEnd, verdictOn, verdictIf, verdict, Reply, replyOf, reply}
-use Rattle.tableau.specs.Claims.{allButLast, linesOf, clausesOf, hasLetter, closesBranch, countIf, countClauses, CountsOf, RightCounts, PlaceSays, StepPlace, RightPlaces}
+use Rattle.tableau.specs.Reply.{refusalOf, State, start, maxClauseLines, runLine, runLines, Verdict, accept, refuse, atEnd, verdictOn, verdictIf, verdict, replyOf, reply, replyNumbers}
+use Rattle.tableau.specs.Claims.{allButLast, linesOf, clausesOf, hasLetter, closesBranch, countIf, countClauses, CountsOf, RightCounts, PlaceSays, StepPlace, RightPlaces, AllBelow}
 use Rattle.tableau.proofs.Bools.{none≢some}
 use Rattle.tableau.proofs.Checks.{yes-accepted, verdict-cases}
 use Rattle.tableau.proofs.Refusals.{reason-fits, OfVerdict}
@@ -26,18 +26,9 @@ use Rattle.tableau.proofs.UsedPlaces.{right-places}
 use Rattle.tableau.proofs.Pieces.{few-pieces}
 use Rattle.tableau.proofs.BranchRoom.{Room, after-room}
 
--- the numbers with more digits begin here
-abbrev pub fiveDigits : ℕ
-fiveDigits = 100000
-
-pub record ShortNumbers (r : Reply) : Type 0 where
-  pub number : r .number < fiveDigits
-  pub line : r .line < fiveDigits
-  pub terms : r .terms < fiveDigits
-  pub assumptions : r .assumptions < fiveDigits
-  pub steps : r .steps < fiveDigits
-  pub closings : r .closings < fiveDigits
-  pub place : r .place < fiveDigits
+-- the first number of six digits
+abbrev sixDigits : ℕ
+sixDigits = 100000
 
 -- a file is too long, or it fits
 fits-or-too-long : (file : List ℕ) → (length file ≤ maxBytes) ⊎ (verdict file ≡ refuse Reason.TooLong 0)
@@ -112,18 +103,18 @@ place-most file = elim (ℕ-discrete (reply file .number) 13) [
 ]
 
 -- THE REPLY: its line and its number by the verdict, the counts by the answer
-line-small : (v : Verdict) → OfVerdict (λ j r. j ≤ maxBytes + 2) v → replyOf v .line < fiveDigits
+line-small : (v : Verdict) → OfVerdict (λ j r. j ≤ maxBytes + 2) v → replyOf v .line < sixDigits
 unfolding replyOf
 line-small (accept c) h = omega arith
 line-small (refuse r i) h = omega (arith, h)
 
-number-small : (v : Verdict) → replyOf v .number < fiveDigits
+number-small : (v : Verdict) → replyOf v .number < sixDigits
 unfolding replyOf
 number-small (accept c) = omega arith
 number-small (refuse r i) = omega (arith, reason-fits r .1)
 
 counts-small : (file : List ℕ) → length file ≤ maxBytes → (b : Bool) → reply file .isYes ≡ b → CountsOf file (reply file) b
-    → (reply file .terms < fiveDigits) × (reply file .assumptions < fiveDigits) × (reply file .steps < fiveDigits) × (reply file .closings < fiveDigits)
+    → (reply file .terms < sixDigits) × (reply file .assumptions < sixDigits) × (reply file .steps < sixDigits) × (reply file .closings < sixDigits)
 counts-small file h true y c =
     let few : length (linesOf file) ≤ maxBytes + 1 = omega (arith, but-last (split LF file), few-pieces LF file) in
     let one : (f : Option (Line Letter) → Bool) → countIf f (linesOf file) ≤ maxBytes + 1 = λ f. omega (arith, count-most f (linesOf file)) in (
@@ -134,21 +125,13 @@ counts-small file h true y c =
     )
 counts-small file h false y c = (omega (arith, c .terms), omega (arith, c .assumptions), omega (arith, c .steps), omega (arith, c .closings))
 
-pub short-numbers : (file : List ℕ) → ShortNumbers (reply file)
+pub short-numbers : (file : List ℕ) → AllBelow 100000 (replyNumbers (reply file))
 unfolding reply replyOf refusalOf RightCounts
 short-numbers file = go (fits-or-too-long file)
   where
-    go : (length file ≤ maxBytes) ⊎ (verdict file ≡ refuse Reason.TooLong 0) → ShortNumbers (replyOf (verdict file))
+    go : (length file ≤ maxBytes) ⊎ (verdict file ≡ refuse Reason.TooLong 0) → AllBelow 100000 (replyNumbers (replyOf (verdict file)))
     go (inl h) =
         let k = counts-small file h (reply file .isYes) refl (right-counts file) in
         let l = verdict-cases (OfVerdict (λ j r. j ≤ maxBytes + 2)) file (omega arith) (line-most (maxBytes + 2) (split LF file) 0 (passed start) (omega (arith, few-pieces LF file))) in
-        record {
-          number = number-small (verdict file);
-          line = line-small (verdict file) l;
-          terms = k .0;
-          assumptions = k .1;
-          steps = k .2;
-          closings = k .3;
-          place = omega (arith, place-most file);
-        }
-    go (inr e) = rw e (record { number = omega arith; line = omega arith; terms = omega arith; assumptions = omega arith; steps = omega arith; closings = omega arith; place = omega arith })
+        (number-small (verdict file), (line-small (verdict file) l, (k .0, (k .1, (k .2, (k .3, (omega (arith, place-most file), tt)))))))
+    go (inr e) = rw e (omega arith, (omega arith, (omega arith, (omega arith, (omega arith, (omega arith, (omega arith, tt)))))))

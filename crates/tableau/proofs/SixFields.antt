@@ -1,12 +1,16 @@
 -- A line of six fields, taken apart.
 use mathlib.Core.Path.{_≡_, refl, subst}
-use mathlib.Core.Bool.{true}
+use mathlib.Core.Bool.{Bool, true, false, _||_}
 use mathlib.Core.List.{List, [], _∷_}
 use mathlib.Core.Option.{Option, some}
-use Prim.Native.Nat.{ℕ}
+use Prim.Native.Nat.{ℕ, _≤_}
+use native.Mathlib.Omega.{arith}
+use lib.Dec.{eqb}
+use lib.ListN.{length}
+use borrow.Author.Tests.{eqb-true}
 use Rattle.tableau.specs.Basics.{Four, four}
-use Rattle.tableau.specs.File.{Line, isWord, maxDigits, number, sixFields}
-use Rattle.tableau.proofs.Bools.{none≢some, some-inj, then-inv, guard-inv}
+use Rattle.tableau.specs.File.{Line, allSmall, isWord, maxDigits, number, sixFields}
+use Rattle.tableau.proofs.Bools.{both-true, none≢some, some-inj, then-inv, guard-inv}
 
 module _ {L : Type 0} (first : List ℕ → Option L) where
   pub record SixFields (ps : List (List ℕ)) (l : Line L) : Type 0 where
@@ -38,3 +42,16 @@ module _ {L : Type 0} (first : List ℕ → Option L) where
       subst (SixFields _) (some-inj (h₆ .2))
       (record { letterText = k; texts = four a b c d; pieces = refl; letter = h₁ .1; word = h₂ .0; a = h₃ .1; b = h₄ .1; c = h₅ .1; d = h₆ .1 })
   six-fields (k ∷ w ∷ a ∷ b ∷ c ∷ d ∷ x ∷ xs) e = none≢some e
+
+-- HOW LONG a number and a word are at least
+pub some-digit : (limit : ℕ) (p : List ℕ) {n : ℕ} → number limit p ≡ some n → 1 ≤ length p
+unfolding number
+some-digit limit [] e = none≢some e
+some-digit limit (b ∷ p) e = omega arith
+
+pub word-long : (w : List ℕ) → isWord w ≡ true → 2 ≤ length w
+word-long w h = which (eqb (length w) 2) refl (both-true (eqb (length w) 2 || eqb (length w) 3) (allSmall w) h .0)
+  where
+    which : (b : Bool) → eqb (length w) 2 ≡ b → (b || eqb (length w) 3) ≡ true → 2 ≤ length w
+    which true e h = omega (arith, eqb-true (length w) 2 e)
+    which false e h = omega (arith, eqb-true (length w) 3 h)

@@ -197,3 +197,8 @@ RightPlaces checker = (file : List ℕ) → (checker file .number ≡ 13 → Lin
 -- "A file is accepted when the checker says yes: its reply line begins with `yes`, or the call returns 0."
 abbrev pub BeginsWithYes : List ℕ → Type 0
 BeginsWithYes text = take 3 text ≡ bytes "yes"
+
+-- every number of a list is below n
+abbrev pub AllBelow : ℕ → List ℕ → Type 0
+AllBelow n [] = Unit {0}
+AllBelow n (x ∷ xs) = (x < n) × AllBelow n xs

@@ -68,8 +68,8 @@ digits (b ∷ bs) n = guard (isDigit b) (digits bs (10 * n + (b - 48)))
 
 -- a number of at most so many digits
 unfoldable pub number : ℕ → List ℕ → Option ℕ
-number most [] = none
-number most (b ∷ bs) = guard (leb (length (b ∷ bs)) most && (not (eqb b 48) || eqb (length bs) 0)) (digits (b ∷ bs) 0)
+number limit [] = none
+number limit (b ∷ bs) = guard (leb (length (b ∷ bs)) limit && (not (eqb b 48) || eqb (length bs) 0)) (digits (b ∷ bs) 0)
 
 -- a line of a file whose lines begin with letters of a kind L
 pub record Line (L : Type 0) : Type 0 where

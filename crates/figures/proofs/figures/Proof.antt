@@ -10,7 +10,7 @@ use Rattle.figures.proofs.figures.Statement.{statement}
 use Rattle.figures.proofs.figures.Tie as tie
 
 read-some : (night : List ℕ) (r : NightRead) → ReadTo night r → ReadSome r
-read-some night (NightRead.Read t) h = record { replies = h .replies; totals = h .totals; small = h .small }
+read-some night (NightRead.Read t) h = h .totalled
 read-some night (NightRead.Refused r i) h = tt
 
 returns : tie.Need-returns

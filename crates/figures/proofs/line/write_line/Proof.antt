@@ -13,7 +13,7 @@ of-figures : tie.Need-returns
 unfolding figuresLine
 of-figures c =
     let n = c .before .before .before in
-    (c .write-figures .ensures .0, λ replies h. let r = subst (ReadTo replies) (n .night .given .1) h in c .write-figures .ensures .1 (r .replies) (r .totals) ∙ rw (r .read))
+    (c .write-figures .ensures .0, λ replies h. let r = subst (ReadTo replies) (n .night .given .1) h in c .write-figures .ensures .1 (r .totalled .replies) (r .totalled .totals) ∙ rw (r .read))
 
 of-refusal : tie.Need-returns-2
 unfolding figuresLine

@@ -1,6 +1,5 @@
 -- The loop's invariant: the replies so far, by their totals. The measure is what is left of the night.
-use mathlib.Core.Option.{none}
-use mathlib.Core.Path.{_≡_, sym, ap, _∙_}
+use mathlib.Core.Path.{sym, ap, _∙_}
 use Prim.Native.Nat.{_-_}
 use native.Mathlib.Omega.{arith}
 use lib.ListN.{length}
@@ -9,7 +8,8 @@ use Rattle.lines.specs.Lines.{LFAhead}
 use Rattle.lines.proofs.FileSteps.{ahead-here}
 use Rattle.reply.specs.Verdict.{replyRecord}
 use Rattle.reply_lines.specs.Reading.{readAs}
-use Rattle.figures.proofs.Lines.{ReplyHere, reply-here, no-reply-behind, SoFar, too-long, none-so-far, bad-so-far, all-so-far, refused-so-far, room-for-one, one-more}
+use Rattle.statistics.proofs.Nights.{too-long}
+use Rattle.figures.proofs.Lines.{ReplyHere, reply-here, no-reply-behind, SoFar, none-so-far, bad-so-far, all-so-far, refused-so-far, room-for-one, one-more}
 use Rattle.figures.proofs.night.read_night.Statement.{statement}
 use Rattle.figures.proofs.night.read_night.Tie as tie
 
@@ -46,7 +46,7 @@ may-add c κs =
     let k = c .before in
     let l = k .before .before .before .before .before .before in
     let h = here (k .before) in
-    (l .loop .inv .small, room-for-one _ _ _ (l .loop .inv) _ _ h _ (k .contradicts-itself .ensures) (l .before .before .before .if1 .left), h .steps)
+    (l .loop .inv .totalled .small, room-for-one _ _ _ (l .loop .inv) _ _ h _ (k .contradicts-itself .ensures) (l .before .before .before .if1 .left), h .steps)
 
 shorter : tie.Need-loop-less Inv-loop μ-loop
 shorter c = let h = here (c .before .before .before) in omega (arith, h .longer, h .inside)
@@ -56,7 +56,7 @@ again c =
     let k = c .before .before in
     let l = k .before .before .before .before .before .before .loop in
     let w = c .with-reply .ensures in
-    one-more _ _ _ (l .inv) _ _ (here (k .before)) _ (k .contradicts-itself .ensures) (c .before .if2 .left) _ (w .1 (l .inv .replies) (l .inv .totals)) (w .0)
+    one-more _ _ _ (l .inv) _ _ (here (k .before)) _ (k .contradicts-itself .ensures) (c .before .if2 .left) _ (w .1 (l .inv .totalled .replies) (l .inv .totalled .totals)) (w .0)
 
 -- behind the last LF
 bytes-behind : tie.Need-returns-4 Inv-loop μ-loop
@@ -79,14 +79,14 @@ read-night-spec =
     (λ c κs. ahead c)
     (λ c. search needs)
     (λ c. search needs)
-    (λ c κs. c .before .before .before .before .loop .inv .small)
+    (λ c κs. c .before .before .before .before .loop .inv .totalled .small)
     bad-line
     (λ c κs. search needs)
-    (λ c κs. c .before .before .before .before .before .before .before .loop .inv .small)
+    (λ c κs. c .before .before .before .before .before .before .before .loop .inv .totalled .small)
     contradiction
     may-add
     shorter
     again
-    (λ c κs. c .before .before .loop .inv .small)
+    (λ c κs. c .before .before .loop .inv .totalled .small)
     bytes-behind
     (λ c. all-so-far _ _ _ (c .before .before .loop .inv) (c .if3 .left)))
