@@ -1,6 +1,5 @@
 //! The proved library, through its C call.
 
-mod cases;
 mod named;
 mod runner;
 

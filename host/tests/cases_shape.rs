@@ -1,7 +1,5 @@
 //! Checks the table of cases itself; no checker is run.
 
-mod cases;
-
 use cases::{all, Case};
 use std::collections::{BTreeMap, HashSet};
 

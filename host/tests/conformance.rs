@@ -1,4 +1,3 @@
-mod cases;
 mod runner;
 
 use host::call::REPLY_BYTES;

@@ -2,6 +2,7 @@
 //! comparison finds checkers that are wrong.
 
 use std::collections::BTreeSet;
+use std::thread;
 
 use host::call::Numbers;
 use host::checkers::{plain_rust, Checker, CHECKERS};
@@ -97,21 +98,28 @@ fn expect_agreement(file: &[u8]) {
     }
 }
 
+/// The checkers are tried side by side: the search for models takes long.
 #[test]
 fn accepted_files_have_no_model() {
-    for checker in CHECKERS {
-        let trials = match try_meaning(*checker, SMALL_TABLEAUX, SEED) {
-            Ok(trials) => trials,
-            Err(file) => panic!("a model of\n{}", String::from_utf8_lossy(&file)),
-        };
-        print!("{}: {trials}", checker.0);
-        assert_eq!(trials.accepted, SMALL_TABLEAUX);
-        assert_eq!(trials.rules.len(), RULES.len());
-        assert!(trials.damaged_accepted > 0);
-        assert!(trials.complete > SMALL_TABLEAUX / 2);
-        // Otherwise the heaps that are tried would say little.
-        assert!(trials.changed_with_model > trials.changed / 5);
-    }
+    thread::scope(|scope| {
+        for checker in CHECKERS {
+            scope.spawn(|| expect_no_model(*checker));
+        }
+    });
+}
+
+fn expect_no_model(checker: Checker) {
+    let trials = match try_meaning(checker, SMALL_TABLEAUX, SEED) {
+        Ok(trials) => trials,
+        Err(file) => panic!("a model of\n{}", String::from_utf8_lossy(&file)),
+    };
+    print!("{}: {trials}", checker.0);
+    assert_eq!(trials.accepted, SMALL_TABLEAUX);
+    assert_eq!(trials.rules.len(), RULES.len());
+    assert!(trials.damaged_accepted > 0);
+    assert!(trials.complete > SMALL_TABLEAUX / 2);
+    // Otherwise the heaps that are tried would say little.
+    assert!(trials.changed_with_model > trials.changed / 5);
 }
 
 // ---------------------------------------------------------------------------

@@ -2,7 +2,6 @@
 //! include `tabcheck.h` can call the library.
 
 mod c_compiler;
-mod cases;
 mod constants;
 mod input;
 mod named;

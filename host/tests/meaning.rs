@@ -1,7 +1,6 @@
 //! The meaning on small heaps worked out by hand, and every accepted example and
 //! case against many heaps.
 
-mod cases;
 mod examples;
 
 use std::collections::BTreeSet;

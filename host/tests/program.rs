@@ -1,7 +1,6 @@
 //! The proved program `tabcheck`, through standard input and output.
 
 mod built;
-mod cases;
 mod filter;
 mod input;
 mod named;

@@ -1,7 +1,5 @@
 //! Picks a case by its name.
 
-use crate::cases;
-
 pub fn file(name: &str) -> Vec<u8> {
     let named = cases::all().into_iter().find(|case| case.name == name);
     named.expect(name).file

@@ -1,7 +1,5 @@
 //! Runs every case on a checker.
 
-use crate::cases;
-
 /// Panics with the cases that get another reply line than the one worked out by
 /// hand.
 pub fn expect_replies(reply_line: impl Fn(&[u8]) -> String) {
