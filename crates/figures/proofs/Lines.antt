@@ -6,18 +6,18 @@ use mathlib.Core.Path.{_≡_, refl, sym, ap, subst, _∙_}
 use Prim.Native.Nat.{ℕ, suc, _+_, _*_, _^_, _≤_, _<_}
 use native.Mathlib.Numerals.{add-one}
 use native.Mathlib.Omega.{arith}
-use lib.ListN.{length, drop, length-drop}
+use lib.ListN.{length, length-append}
 use borrow.Author.Tests.{le-leb}
 use Rattle.tableau.specs.declared.Reason.{Reason}
 use Rattle.tableau.specs.Basics.{then}
-use Rattle.tableau.specs.File.{LF, split, maxBytes}
+use Rattle.tableau.specs.File.{LF, maxBytes}
 use Rattle.tableau.specs.Tree.{Checked, passed, _>>_, require}
 use Rattle.tableau.specs.Reply.{Reply, stopped, runLines}
 use Rattle.tableau.proofs.Bools.{none≢some, some-inj, then-inv}
 use Rattle.lines.specs.Lines.{firstLine, LinesEnd}
 use Rattle.lines.proofs.FileSteps.{one-piece-behind}
 use Rattle.running.specs.Running.{runFrom}
-use Rattle.running.proofs.Lines.{line-behind, run-piece, some-piece, one-piece, refused-here, at-end}
+use Rattle.running.proofs.Lines.{line-there, no-line-there, run-piece, refused-here, at-end}
 use Rattle.statistics.specs.ReplyLines.{replyDigits, replyShape, contradictory}
 use Rattle.statistics.specs.Figures.{runReply, repliesOf}
 use Rattle.reply_lines.specs.Reading.{leastReply, ReplyAt, shapedAt, replyAt}
@@ -25,11 +25,14 @@ use Rattle.reply_lines.proofs.Sizes.{sizes}
 use Rattle.figures.specs.declared.totals.Totals.{Totals}
 use Rattle.figures.specs.Totals.{mostReplies, TotalsOf, Small, Totalled}
 use Rattle.figures.specs.Night.{AllRead}
-use Rattle.figures.proofs.Sums.{count-more}
 
 -- what a reply comes to, behind others
 abbrev pub runShaped : List Reply → Reply → Checked (List Reply)
 runShaped rs r = require (not (contradictory r)) Reason.BadShape >> passed (rs ++ (r ∷ []))
+
+shaped-runs : (rs : List Reply) (l : List ℕ) (r : Reply) → replyShape l ≡ some r → runReply rs l ≡ runShaped rs r
+unfolding runReply
+shaped-runs rs l r e = rw e
 
 -- A LINE THAT IS READ at a position: it ends inside the night, its S lines are few, and the run goes on behind it.
 pub record ReplyHere (night : List ℕ) (at : ℕ) (r : Reply) (next : ℕ) : Type 0 where
@@ -39,40 +42,31 @@ pub record ReplyHere (night : List ℕ) (at : ℕ) (r : Reply) (next : ℕ) : Ty
   pub runs : (i : ℕ) (rs : List Reply) → runFrom runReply night at i (passed rs) ≡ runFrom runReply night next (suc i) (runShaped rs r)
 
 pub reply-here : (night : List ℕ) (at : ℕ) (x : ReplyAt) → replyAt night at ≡ some x → ReplyHere night at (x .reply) (x .next)
-unfolding replyAt runReply
-reply-here night at x e = go (split LF (drop at night)) refl e
-  where
-    here : (l m : List ℕ) (ls : List (List ℕ)) → split LF (drop at night) ≡ l ∷ m ∷ ls → (r : Reply) → replyShape l ≡ some r → ReplyHere night at r (at + length l + 1)
-    here l m ls q r s =
-        let b = line-behind night at l m ls q in
-        let z = sizes l r s in
-        record {
-          longer = omega (arith, z .long);
-          inside = b .1;
-          steps = z .steps;
-          runs = λ i rs. ap (λ ks. runLines runReply ks i (passed rs)) q ∙ run-piece runReply rs i l m ls ∙ rw (s, b .0);
-        }
-
-    go : (ls : List (List ℕ)) → split LF (drop at night) ≡ ls → firstLine none shapedAt at ls ≡ some x → ReplyHere night at (x .reply) (x .next)
-    go [] q h = none≢some h
-    go (l ∷ []) q h = none≢some h
-    go (l ∷ m ∷ ls) q h = let k = then-inv (replyShape l) _ h in subst (λ y. ReplyHere night at (y .reply) (y .next)) (some-inj (k .2)) (here l m ls q (k .0) (k .1))
+unfolding replyAt
+reply-here night at x e =
+    let f = line-there none shapedAt night at (some x) none≢some e in
+    let k = then-inv (replyShape (f .piece)) _ (f .is) in
+    let z = sizes (f .piece) (k .0) (k .1) in
+    subst (λ y. ReplyHere night at (y .reply) (y .next)) (some-inj (k .2))
+    (record {
+      longer = omega (arith, z .long);
+      inside = f .inside;
+      steps = z .steps;
+      runs = λ i rs. ap (λ ks. runLines runReply ks i (passed rs)) (f .cut) ∙ run-piece runReply rs i (f .piece) (f .follower) (f .others)
+          ∙ ap (runLines runReply (f .follower ∷ f .others) (suc i)) (shaped-runs rs (f .piece) (k .0) (k .1)) ∙ ap (λ ks. runLines runReply ks (suc i) (runShaped rs (k .0))) (sym (f .rest));
+    })
 
 -- A BAD LINE: bytes behind the last LF, or a line that is not shaped as a reply
 no-reply-here : (night : List ℕ) (at : ℕ) → at < length night → none ≡ replyAt night at → (i : ℕ) (rs : List Reply) → runFrom runReply night at i (passed rs) ≡ stopped Reason.BadShape (suc i)
 unfolding replyAt runReply runLines
-no-reply-here night at before e i rs = go (split LF (drop at night)) refl e
+no-reply-here night at before e i rs =
+    no-line-there none shapedAt night at before (sym e)
+    (λ b l q. rw q)
+    (λ l m ls q h. rw q (run-piece runReply rs i l m ls ∙ rw (no-shape (at + length l + 1) (replyShape l) h)))
   where
-    shaped : (l m : List ℕ) (ls : List (List ℕ)) (o : Option Reply) → replyShape l ≡ o → _≡_ {A = Option ReplyAt} none (then o λ r. some (record { reply = r; next = at + length l + 1 }))
-        → runLines runReply (l ∷ m ∷ ls) i (passed rs) ≡ stopped Reason.BadShape (suc i)
-    shaped l m ls none s h = run-piece runReply rs i l m ls ∙ rw s
-    shaped l m ls (some r) s h = none≢some h
-
-    go : (ls : List (List ℕ)) → split LF (drop at night) ≡ ls → none ≡ firstLine none shapedAt at ls → runFrom runReply night at i (passed rs) ≡ stopped Reason.BadShape (suc i)
-    go [] q h = absurd (some-piece LF (drop at night) q)
-    go ([] ∷ []) q h = absurd (one-piece LF (drop at night) (omega (arith, before, length-drop at night)) q)
-    go ((b ∷ l) ∷ []) q h = rw q
-    go (l ∷ m ∷ ls) q h = rw q (shaped l m ls (replyShape l) refl h)
+    no-shape : (n : ℕ) (o : Option Reply) → _≡_ {A = Option ReplyAt} (then o λ r. some (record { reply = r; next = n })) none → o ≡ none
+    no-shape n none h = refl
+    no-shape n (some r) h = none≢some (sym h)
 
 pub no-reply-behind : (night : List ℕ) (end at : ℕ) → LinesEnd night end → end ≤ at → none ≡ replyAt night at
 unfolding replyAt
@@ -117,7 +111,7 @@ module _ (night : List ℕ) (t : Totals) (at : ℕ) (S : SoFar night t at) where
     room-for-one h = omega (arith, S .room, here .longer, here .inside, h)
 
     pub one-more : b ≡ false → (t′ : Totals) → TotalsOf (S .totalled .replies ++ (r ∷ [])) t′ → Small t′ → SoFar night t′ next
-    one-more e t′ k s = let f : t′ .files ≡ t .files + 1 = omega (arith, k .files, count-more (S .totalled .replies) r, S .totalled .totals .files) in record {
+    one-more e t′ k s = let f : t′ .files ≡ t .files + 1 = omega (arith, k .files, length-append (S .totalled .replies) (r ∷ []), S .totalled .totals .files) in record {
       totalled = record { replies = S .totalled .replies ++ (r ∷ []); totals = k; small = s };
       room = omega (arith, f, S .room, here .longer);
       inside = here .inside;

@@ -1,11 +1,11 @@
 -- The totals with one reply more, their bounds, and the fractions from them.
 use mathlib.Core.Bool.{Bool, true, false, cond}
-use mathlib.Core.List.{List, [], _∷_, _++_, map, append-nil}
+use mathlib.Core.List.{List, [], _∷_, _++_, map, map-append, append-nil}
 use mathlib.Core.Path.{_≡_, refl, sym, ap, _∙_}
 use Prim.Native.Nat.{ℕ, _+_, _*_, _-_, _^_, _≤_, _<_}
 use native.Mathlib.Nat.{mul-le-mul, le-trans}
 use native.Mathlib.Omega.{arith}
-use lib.ListN.{length}
+use lib.ListN.{length, length-append}
 use Rattle.tableau.specs.Reply.{Reply, decimal, commaNumbers}
 use Rattle.statistics.specs.Fractions.{Fraction, _over_, lowest}
 use Rattle.statistics.specs.Figures.{stepCounts, square, sum, mean, variance, printed, figures, figureNumbers}
@@ -14,19 +14,10 @@ use Rattle.figures.specs.declared.totals.Totals.{Totals}
 use Rattle.figures.specs.Totals.{mostReplies, mostSteps, TotalsOf, Small}
 
 -- ONE REPLY MORE, at the end of the list
-pub count-more : {A : Type 0} (xs : List A) (x : A) → length (xs ++ (x ∷ [])) ≡ length xs + 1
-count-more [] x = refl
-count-more (y ∷ xs) x = let e = count-more xs x in omega (arith, e)
-
-sum-more : (f : ℕ → ℕ) (xs : List ℕ) (x : ℕ) → sum (map f (xs ++ (x ∷ []))) ≡ sum (map f xs) + f x
+sum-more : (xs : List ℕ) (x : ℕ) → sum (xs ++ (x ∷ [])) ≡ sum xs + x
 unfolding sum
-sum-more f [] x = omega arith
-sum-more f (y ∷ xs) x = let e = sum-more f xs x in omega (arith, e)
-
-plain-sum-more : (xs : List ℕ) (x : ℕ) → sum (xs ++ (x ∷ [])) ≡ sum xs + x
-unfolding sum
-plain-sum-more [] x = omega arith
-plain-sum-more (y ∷ xs) x = let e = plain-sum-more xs x in omega (arith, e)
+sum-more [] x = omega arith
+sum-more (y ∷ xs) x = let e = sum-more xs x in omega (arith, e)
 
 steps-more : (rs : List Reply) (r : Reply) → stepCounts (rs ++ (r ∷ [])) ≡ stepCounts rs ++ cond (r .isYes) (r .steps ∷ []) []
 unfolding stepCounts
@@ -48,16 +39,16 @@ module _ (rs : List Reply) (t : Totals) (r : Reply) (h : TotalsOf rs t) where
   totals-yes e =
       let k : stepCounts (rs ++ (r ∷ [])) ≡ stepCounts rs ++ (r .steps ∷ []) = steps-more rs r ∙ rw e in
       record {
-        files = rw (h .files) (sym (count-more rs r));
-        accepted = rw (k, h .accepted) (sym (count-more (stepCounts rs) (r .steps)));
-        sum = rw (k, h .sum) (sym (plain-sum-more (stepCounts rs) (r .steps)));
-        squares = rw (k, h .squares) (sym (sum-more square (stepCounts rs) (r .steps)));
+        files = rw (h .files) (sym (length-append rs (r ∷ [])));
+        accepted = rw (k, h .accepted) (sym (length-append (stepCounts rs) (r .steps ∷ [])));
+        sum = rw (k, h .sum) (sym (sum-more (stepCounts rs) (r .steps)));
+        squares = rw (k, h .squares, map-append square (stepCounts rs) (r .steps ∷ [])) (sym (sum-more (map square (stepCounts rs)) (square (r .steps))));
       }
 
   pub totals-no : r .isYes ≡ false → TotalsOf (rs ++ (r ∷ [])) (record { files = t .files + 1; accepted = t .accepted; sum = t .sum; squares = t .squares })
   totals-no e =
       let k : stepCounts (rs ++ (r ∷ [])) ≡ stepCounts rs = steps-more rs r ∙ rw (e, append-nil) in
-      record { files = rw (h .files) (sym (count-more rs r)); accepted = rw k (h .accepted); sum = rw k (h .sum); squares = rw k (h .squares) }
+      record { files = rw (h .files) (sym (length-append rs (r ∷ []))); accepted = rw k (h .accepted); sum = rw k (h .sum); squares = rw k (h .squares) }
 
 -- BOUNDS
 pub square-small : (x : ℕ) → x < mostSteps + 1 → square x ≤ square mostSteps

@@ -1,6 +1,6 @@
 -- A line that was read, a badly shaped one and the end of the file, in the specification's run.
 use mathlib.Core.Path.{_≡_, refl, sym, _∙_, ap, subst}
-use mathlib.Core.Bool.{Bool, true, false, _||_, true≢false}
+use mathlib.Core.Bool.{Bool, true, false, true≢false}
 use mathlib.Core.List.{List, [], _∷_}
 use mathlib.Core.Option.{Option, none, some}
 use Prim.Native.Nat.{ℕ, suc, _+_, _<_, _≤_}
@@ -8,16 +8,15 @@ use native.Mathlib.Omega.{arith}
 use lib.Dec.{eqb}
 use lib.ListN.{length, drop, length-drop, drop-of-length-le}
 use lib.Seq.{drop-drop}
-use borrow.Author.Tests.{eqb-true}
 use Rattle.tableau.specs.declared.Letter.{Letter}
 use Rattle.tableau.specs.declared.Reason.{Reason}
 use Rattle.tableau.specs.Basics.{then, bytes, lookup}
-use Rattle.tableau.specs.File.{LF, comma, inOrder, split, onFirst, Line, sixFields, letters, allSmall, isWord, number, maxDigits}
+use Rattle.tableau.specs.File.{LF, comma, inOrder, split, onFirst, Line, sixFields, letters, isWord, maxDigits}
 use Rattle.tableau.specs.Tree.{Checked, refused, passed, _>>=_, requireSome}
 use Rattle.tableau.specs.Words.{Command, some-of, make, assume, disjoin, infer, commandOf}
 use Rattle.tableau.specs.Reply.{State, requireOpen, runOpen, runCommand, runRead, runLine, stopped, ended, runLines}
 use Rattle.tableau.proofs.SixFields.{six-fields, some-digit, word-long}
-use Rattle.tableau.proofs.Bools.{both-true, none≢some}
+use Rattle.tableau.proofs.Bools.{none≢some}
 use Rattle.tableau.proofs.Decimals.{decimal-of-number}
 use Rattle.tableau.proofs.Pieces.{Pieces, pieces, bytesOf, split-bytes}
 use Rattle.lines.specs.declared.LineFields.{LineFields}
@@ -29,7 +28,7 @@ use Rattle.lines.proofs.Letters.{relettered, letteredLine, shape-lettered}
 use Rattle.running.specs.Running.{runFrom, packedCommand, runFields, SmallNumbers, lineFields, leastLine, ByFields, LineHere}
 
 -- THE CUT AT LF: behind the first piece and its LF stand the others.
-pub behind : (c : ℕ) (text l m : List ℕ) (ls : List (List ℕ)) → split c text ≡ l ∷ m ∷ ls
+behind : (c : ℕ) (text l m : List ℕ) (ls : List (List ℕ)) → split c text ≡ l ∷ m ∷ ls
     → (split c (drop (suc (length l)) text) ≡ m ∷ ls) × (suc (length l) ≤ length text)
 unfolding split
 behind c [] l m ls e = let z : true ≡ false = cc in absurd (true≢false z)
@@ -56,10 +55,10 @@ behind c (x ∷ text) l m ls e = cut (eqb x c) e (pieces c text) (behind c text)
         at (x ∷ h .first) q (g .0, omega (arith, g .1))
 
 -- there is a piece; and the one piece of a text that is not empty is not empty
-pub some-piece : (c : ℕ) (text : List ℕ) → split c text ≡ [] → ⊥
+some-piece : (c : ℕ) (text : List ℕ) → split c text ≡ [] → ⊥
 some-piece c text e = let h = pieces c text in let z : h .first ∷ h .others ≡ [] = sym (h .cut) ∙ e in let y : true ≡ false = cc in true≢false y
 
-pub one-piece : (c : ℕ) (text : List ℕ) → 0 < length text → split c text ≡ [] ∷ [] → ⊥
+one-piece : (c : ℕ) (text : List ℕ) → 0 < length text → split c text ≡ [] ∷ [] → ⊥
 unfolding split
 one-piece c [] h e = omega (arith, h)
 one-piece c (x ∷ text) h e = cut (eqb x c) (pieces c text) e
@@ -122,7 +121,7 @@ check-fields = record {
     known σ k n (some l) h = rw (command-packed l (k .word) h)
 
 -- the pieces behind the line that begins at a position, and that it ends inside the file
-pub line-behind : (file : List ℕ) (at : ℕ) (l m : List ℕ) (ls : List (List ℕ)) → split LF (drop at file) ≡ l ∷ m ∷ ls
+line-behind : (file : List ℕ) (at : ℕ) (l m : List ℕ) (ls : List (List ℕ)) → split LF (drop at file) ≡ l ∷ m ∷ ls
     → (split LF (drop (at + length l + 1) file) ≡ m ∷ ls) × (at + length l + 1 ≤ length file)
 line-behind file at l m ls q =
     let b = behind LF (drop at file) l m ls q in
@@ -130,6 +129,37 @@ line-behind file at l m ls q =
       ap (λ (k : ℕ). split LF (drop k file)) (sym n) ∙ ap (split LF) (sym (drop-drop (suc (length l)) at file)) ∙ b .0,
       omega (arith, b .1, length-drop at file),
     )
+
+-- THE LINE THAT BEGINS AT A POSITION, whatever it is read as: its bytes, and the pieces behind it.
+pub record FirstLine {A : Type 0} (read : ℕ → List ℕ → A) (file : List ℕ) (at : ℕ) (y : A) : Type 0 where
+  pub piece : List ℕ
+  pub follower : List ℕ
+  pub others : List (List ℕ)
+  pub cut : split LF (drop at file) ≡ piece ∷ follower ∷ others
+  pub rest : split LF (drop (at + length piece + 1) file) ≡ follower ∷ others
+  pub inside : at + length piece + 1 ≤ length file
+  pub is : read (at + length piece + 1) piece ≡ y
+
+module _ {A : Type 0} (noLine : A) (read : ℕ → List ℕ → A) (file : List ℕ) (at : ℕ) where
+  pub line-there : (y : A) → (noLine ≡ y → ⊥) → firstLine noLine read at (split LF (drop at file)) ≡ y → FirstLine read file at y
+  line-there y apart e = go (split LF (drop at file)) refl e
+    where
+      go : (ls : List (List ℕ)) → split LF (drop at file) ≡ ls → firstLine noLine read at ls ≡ y → FirstLine read file at y
+      go [] q h = absurd (apart h)
+      go (l ∷ []) q h = absurd (apart h)
+      go (l ∷ m ∷ ls) q h = let b = line-behind file at l m ls q in record { piece = l; follower = m; others = ls; cut = q; rest = b .0; inside = b .1; is = h }
+
+  -- bytes behind the last LF, or a line that is read as none
+  pub no-line-there : {R : Type 0} → at < length file → firstLine noLine read at (split LF (drop at file)) ≡ noLine
+      → ((b : ℕ) (l : List ℕ) → split LF (drop at file) ≡ (b ∷ l) ∷ [] → R)
+      → ((l m : List ℕ) (ls : List (List ℕ)) → split LF (drop at file) ≡ l ∷ m ∷ ls → read (at + length l + 1) l ≡ noLine → R) → R
+  no-line-there {R} before e tail unread = go (split LF (drop at file)) refl e
+    where
+      go : (ls : List (List ℕ)) → split LF (drop at file) ≡ ls → firstLine noLine read at ls ≡ noLine → R
+      go [] q h = absurd (some-piece LF (drop at file) q)
+      go ([] ∷ []) q h = absurd (one-piece LF (drop at file) (omega (arith, before, length-drop at file)) q)
+      go ((b ∷ l) ∷ []) q h = tail b l q
+      go (l ∷ m ∷ ls) q h = unread l m ls q h
 
 -- what follows the first piece, in the run
 pub run-piece : {S : Type 0} (run : S → List ℕ → Checked S) (σ : S) (i : ℕ) (l m : List ℕ) (ls : List (List ℕ))
@@ -166,33 +196,16 @@ pub record LinePieces (file : List ℕ) (at : ℕ) (f : LineFields) : Type 0 whe
 
 pub line-pieces : (file : List ℕ) (at : ℕ) (f : LineFields) → lineAt file at ≡ LineRead.Line f → LinePieces file at f
 unfolding lineAt
-line-pieces file at f e = go (split LF (drop at file)) refl e
+line-pieces file at f e = go (line-there LineRead.BadShape (λ n l. lineRead n (anyShape l)) file at (LineRead.Line f) bad≢line e)
   where
-    here : (l m : List ℕ) (ls : List (List ℕ)) → split LF (drop at file) ≡ l ∷ m ∷ ls → (L : Line ℕ) → anyShape l ≡ some L
-        → LinePieces file at (lineFields (at + length l + 1) L)
-    here l m ls q L s =
-        let b = line-behind file at l m ls q in
-        record {
-          piece = l;
-          follower = m;
-          others = ls;
-          line = L;
-          cut = q;
-          rest = b .0;
-          shaped = s;
-          fields = refl;
-          inside = b .1;
-        }
-
-    shaped-as : (l m : List ℕ) (ls : List (List ℕ)) → split LF (drop at file) ≡ l ∷ m ∷ ls → (s : Option (Line ℕ)) → anyShape l ≡ s
-        → lineRead (at + length l + 1) s ≡ LineRead.Line f → LinePieces file at f
-    shaped-as l m ls q none s h = absurd (bad≢line h)
-    shaped-as l m ls q (some L) s h = subst (LinePieces file at) (line-injective h) (here l m ls q L s)
-
-    go : (ls : List (List ℕ)) → split LF (drop at file) ≡ ls → firstLine LineRead.BadShape (λ n l. lineRead n (anyShape l)) at ls ≡ LineRead.Line f → LinePieces file at f
-    go [] q h = absurd (bad≢line h)
-    go (l ∷ []) q h = absurd (bad≢line h)
-    go (l ∷ m ∷ ls) q h = shaped-as l m ls q (anyShape l) refl h
+    go : FirstLine (λ n l. lineRead n (anyShape l)) file at (LineRead.Line f) → LinePieces file at f
+    go x = shaped-as (anyShape (x .piece)) refl (x .is)
+      where
+        shaped-as : (s : Option (Line ℕ)) → anyShape (x .piece) ≡ s → lineRead (at + length (x .piece) + 1) s ≡ LineRead.Line f → LinePieces file at f
+        shaped-as none s h = absurd (bad≢line h)
+        shaped-as (some L) s h =
+            subst (LinePieces file at) (line-injective h)
+            (record { piece = x .piece; follower = x .follower; others = x .others; line = L; cut = x .cut; rest = x .rest; shaped = s; fields = refl; inside = x .inside })
 
 pub line-here : {S : Type 0} {run : S → List ℕ → Checked S} {fields : S → LineFields → Checked S} → ByFields run fields
     → (file : List ℕ) (at : ℕ) (f : LineFields) → lineAt file at ≡ LineRead.Line f → LineHere run fields file at f
@@ -209,22 +222,16 @@ line-here {S} {run} {fields} B file at f e =
     }
 
 -- A BAD LINE: bytes behind the last LF, or a line that has no shape.
+no-shape : (n : ℕ) (s : Option (Line ℕ)) → lineRead n s ≡ LineRead.BadShape → s ≡ none
+no-shape n none h = refl
+no-shape n (some L) h = absurd (bad≢line (sym h))
+
 pub bad-pieces : {R : Type 0} (file : List ℕ) (at : ℕ) → at < length file → lineAt file at ≡ LineRead.BadShape
     → ((b : ℕ) (l : List ℕ) → split LF (drop at file) ≡ (b ∷ l) ∷ [] → R)
     → ((l m : List ℕ) (ls : List (List ℕ)) → split LF (drop at file) ≡ l ∷ m ∷ ls → anyShape l ≡ none → R) → R
 unfolding lineAt
-bad-pieces {R} file at before e tail unshaped = go (split LF (drop at file)) refl e
-  where
-    shaped-as : (l m : List ℕ) (ls : List (List ℕ)) → split LF (drop at file) ≡ l ∷ m ∷ ls → (s : Option (Line ℕ)) → anyShape l ≡ s
-        → lineRead (at + length l + 1) s ≡ LineRead.BadShape → R
-    shaped-as l m ls q none s h = unshaped l m ls q s
-    shaped-as l m ls q (some L) s h = absurd (bad≢line (sym h))
-
-    go : (ls : List (List ℕ)) → split LF (drop at file) ≡ ls → firstLine LineRead.BadShape (λ n l. lineRead n (anyShape l)) at ls ≡ LineRead.BadShape → R
-    go [] q h = absurd (some-piece LF (drop at file) q)
-    go ([] ∷ []) q h = absurd (one-piece LF (drop at file) (omega (arith, before, length-drop at file)) q)
-    go ((b ∷ l) ∷ []) q h = tail b l q
-    go (l ∷ m ∷ ls) q h = shaped-as l m ls q (anyShape l) refl h
+bad-pieces file at before e tail unshaped =
+    no-line-there LineRead.BadShape (λ n l. lineRead n (anyShape l)) file at before e tail (λ l m ls q h. unshaped l m ls q (no-shape (at + length l + 1) (anyShape l) h))
 
 pub bad-line : {S : Type 0} {run : S → List ℕ → Checked S} {fields : S → LineFields → Checked S} → ByFields run fields
     → (file : List ℕ) (at : ℕ) → at < length file → lineAt file at ≡ LineRead.BadShape → (i : ℕ) (σ : S) → runFrom run file at i (passed σ) ≡ stopped Reason.BadShape (suc i)
