@@ -13,7 +13,7 @@ use Rattle.tableau.specs.Basics.{bytes}
 use Rattle.tableau.specs.Claims.{BeginsWithYes, NoHeap, Demand3}
 use Rattle.tableau.specs.File.{maxBytes}
 use Rattle.tableau.specs.Tree.{passed}
-use Rattle.tableau.specs.Reply.{start, stopped, accept, refuse, atEnd, verdictOn, Verdict, verdict, Reply, replyOf, reply, reasonNumber, replyNumbers, replyBytes}
+use Rattle.tableau.specs.Reply.{start, stopped, accept, refuse, atEnd, verdictOn, Verdict, verdictWithin, verdict, Reply, replyOf, reply, reasonNumber, replyNumbers, replyBytes}
 use Rattle.tableau.specs.Reply.{commaNumbers, yesOrNo, replyLine, call, bufferLength}
 use Rattle.tableau.proofs.Counts.{number-in-range}
 use Rattle.tableau.proofs.Soundness.{demand3}
@@ -28,12 +28,12 @@ use Rattle.file_run.specs.Reached.{Finished}
 
 -- CHECK 1
 pub too-long : (file : List ℕ) → maxBytes < length file → refuse Reason.TooLong 0 ≡ verdict file
-unfolding verdict
-too-long file h = rw (lt-leb (length file) maxBytes h, verdict)
+unfolding verdictWithin
+too-long file h = rw (lt-leb (length file) maxBytes h)
 
 short-enough : (file : List ℕ) → length file ≤ maxBytes → verdictOn (checkFrom file 0 0 (passed start)) ≡ verdict file
-unfolding verdict
-short-enough file h = rw (le-leb (length file) maxBytes h, verdict)
+unfolding verdictWithin
+short-enough file h = rw (le-leb (length file) maxBytes h)
 
 -- THE LINES: one is refused, or all pass
 pub lines-stop : (file : List ℕ) → length file ≤ maxBytes → (r : Reason) (i : ℕ) → checkFrom file 0 0 (passed start) ≡ stopped r i → refuse r i ≡ verdict file

@@ -5,7 +5,7 @@ use mathlib.Core.Option.{some}
 use Prim.Native.Nat.{ℕ}
 use Rattle.tableau.specs.declared.Letter.{Letter}
 use Rattle.tableau.specs.Basics.{bytes, sameBytes, lookup}
-use Rattle.tableau.specs.File.{Line, letters, rank, inOrder, shape, split, comma, LF}
+use Rattle.tableau.specs.File.{Line, letters, rank, inOrder, maxDigits, shape, split, comma, LF}
 use Rattle.tableau.proofs.SixFields.{six-fields}
 use Rattle.tableau.proofs.Checks.{lookup-agree}
 use Rattle.tableau.proofs.Pieces.{eachBehind, pieces}
@@ -15,7 +15,7 @@ use Rattle.evaluation.specs.Evaluation.{beginsStep}
 pub begins-step : {L : Line Letter} (l : List ℕ) → shape letters l ≡ some L → beginsStep l ≡ inOrder Letter.S (L .letter)
 unfolding letters rank bytes sameBytes eachBehind
 begins-step {L} l e =
-    let f = six-fields (lookup letters) (split comma l) e in
+    let f = six-fields maxDigits (lookup letters) (split comma l) e in
     let x = pieces comma l in
     let k : x .first ≡ f .letterText = cc in
     let t = f .texts .a ∷ f .texts .b ∷ f .texts .c ∷ f .texts .d ∷ [] in

@@ -9,7 +9,7 @@ use lib.Dec.{leb}
 use lib.ListN.{length, length-append}
 use Rattle.tableau.specs.declared.Letter.{Letter}
 use Rattle.tableau.specs.declared.Reason.{Reason}
-use Rattle.tableau.specs.File.{letters, rank, inOrder, shape, split, LF, maxBytes}
+use Rattle.tableau.specs.File.{letters, rank, inOrder, maxDigits, shape, split, LF, maxBytes}
 use Rattle.tableau.specs.Terms.{TermNo, Term, Literal, Disjunct, clauseOf, at}
 use Rattle.tableau.specs.Meaning.{FiniteHeap, Values, True, AllTrue, EveryClauseTrue}
 use Rattle.tableau.specs.Tree.{passed, isClosed}
@@ -128,16 +128,16 @@ module _ (file heapFile : List ℕ) (P : Evaluation → Type 0) (refuses : (r : 
       let q = lines-passed FactPassed runFact fact-passed (split LF heapFile) 0 [] e in
       on-heap σ (x ∷ xs) (record { lines = p; said = q; some = refl }) (isOrder (x ∷ xs)) refl
 
-  read-heap : (σ : State) → Run LinePassed start (linesRead file) σ → (b : Bool) → P (readHeap σ b heapFile)
+  read-heap : (σ : State) → Run LinePassed start (linesRead file) σ → (b : Bool) → P (readHeap maxDigits σ b heapFile)
   read-heap σ p true = after-facts σ p (runLines runFact (split LF heapFile) 0 (passed [])) refl
   read-heap σ p false = refuses Reason.TooLong 2 0
 
-  after-lines : (x : RunEnd State) → runLines runLine (beforeSteps (split LF file)) 0 (passed start) ≡ x → P (afterLines x heapFile)
+  after-lines : (x : RunEnd State) → runLines runLine (beforeSteps (split LF file)) 0 (passed start) ≡ x → P (afterLines maxDigits x heapFile)
   after-lines (stopped r i) e = refuses r 1 i
   after-lines (ended σ i) e =
       read-heap σ (lines-passed LinePassed runLine (λ σ σ′. line-passed σ) (beforeSteps (split LF file)) 0 start e) (leb (length heapFile) maxBytes)
 
-  read-checker : (b : Bool) → P (readChecker b file heapFile)
+  read-checker : (b : Bool) → P (readChecker maxDigits b file heapFile)
   read-checker true = after-lines (runLines runLine (beforeSteps (split LF file)) 0 (passed start)) refl
   read-checker false = refuses Reason.TooLong 1 0
 

@@ -16,7 +16,7 @@ use Rattle.tableau.proofs.Decimals.{number-decimal, decimal-free}
 use Rattle.tableau.proofs.Pieces.{eachBehind, free, AllFree, split-behind}
 use Rattle.tableau.proofs.Places.{every-value, every-equal}
 use Rattle.evaluation.specs.declared.FactWord.{FactWord}
-use Rattle.evaluation.specs.Facts.{heapLetters, factWords, factIndex, factFields, Fact, Facts, isNil, zeroUnlessUsed, mayFollow, runFact}
+use Rattle.evaluation.specs.Facts.{heapLetters, factWords, factIndex, factFields, Fact, Facts, isNil, zeroUnlessUsed, mayFollow, runFactRead, runFact}
 use Rattle.evaluation.specs.Sayable.{maxNumber, wordText, joined, factLine}
 use Rattle.evaluation.proofs.FactWord as word-type
 
@@ -60,13 +60,13 @@ Low n = (n .a ≤ maxNumber) × (n .b ≤ maxNumber) × (n .c ≤ maxNumber) × 
 line-shape : (x : Fact) → Low (x .fields) → shape heapLetters (factLine x) ≡ some (record { letter = tt; word = wordText (x .word); fields = x .fields })
 unfolding factLine sixFields heapLetters lookup bytes sameBytes free
 line-shape x l =
-    ap (sixFields (lookup heapLetters)) (split-joined comma (bytes "D") _
+    ap (sixFields maxDigits (lookup heapLetters)) (split-joined comma (bytes "D") _
     (refl, (text-free (x .word), (decimal-free _ comma refl, (decimal-free _ comma refl, (decimal-free _ comma refl, (decimal-free _ comma refl, tt)))))))
     ∙ rw (text-small (x .word), low-read _ (l .0), low-read _ (l .1), low-read _ (l .2), low-read _ (l .3)) refl
 
 pub run-fact : (facts : Facts) (x : Fact) → Low (x .fields) → Bool·beq (isNil facts) (isSize (x .word)) ≡ true
     → every zeroUnlessUsed (factFields (x .word)) (x .fields) ≡ true → mayFollow facts (x .word) (x .fields) ≡ true → runFact facts (factLine x) ≡ passed (facts ++ (x ∷ []))
-unfolding runFact
+unfolding runFactRead
 run-fact facts x l s z m = let k = known (x .word) in rw (line-shape x l, ← is-size _ k, s, k, z, m) refl
 
 -- LINES that are read, and a further one

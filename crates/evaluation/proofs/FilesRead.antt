@@ -16,7 +16,7 @@ use Rattle.tableau.proofs.Bools.{clash}
 use Rattle.tableau.proofs.Checks.{passed-injective, require-passed, requireSome-passed, letterOf, command-letter, LinePassed, Run, done, next}
 use Rattle.tableau.proofs.Soundness.{line-term, line-literal, line-disjunct, line-table, unsplit, line-branch}
 use Rattle.evaluation.specs.declared.FactWord.{FactWord}
-use Rattle.evaluation.specs.Facts.{heapLetters, factWords, factFields, Facts, sizeFirst, zeroUnlessUsed, mayFollow, runFact}
+use Rattle.evaluation.specs.Facts.{heapLetters, factWords, factFields, Facts, sizeFirst, zeroUnlessUsed, mayFollow, runFactRead, runFact}
 use Rattle.evaluation.specs.Evaluation.{beginsStep, beforeSteps}
 use Rattle.evaluation.specs.Claims.{factsIn}
 use Rattle.evaluation.proofs.Begins.{begins-step}
@@ -128,7 +128,7 @@ pub record FactPassed (facts : Facts) (bs : List ℕ) (facts′ : Facts) : Type 
   pub after : facts ++ (record { word = word; fields = line .fields } ∷ []) ≡ facts′
 
 pub fact-passed : (facts facts′ : Facts) (bs : List ℕ) → runFact facts bs ≡ passed facts′ → FactPassed facts bs facts′
-unfolding runFact
+unfolding runFactRead
 fact-passed facts facts′ bs e =
     let e₂ = requireSome-passed (shape heapLetters bs) _ _ e in
     let l = e₂ .0 in

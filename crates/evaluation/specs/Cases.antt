@@ -18,6 +18,10 @@ noRecord =
     "D,rgv,1,1,0,0" ∷
     []
 
+-- two references that differ, by names of which one is the other without its first digit
+unfoldable pub twoNames : List String
+twoNames = "T,rfv,12345,0,0,0" ∷ "T,rfv,2345,0,0,0" ∷ "A,ne,1,2,0,0" ∷ []
+
 -- the value of `rfv` 1 is the one object, and in no region
 unfoldable pub oneObject : List String
 oneObject = "D,siz,2,1,1,0" ∷ "D,alc,1,0,0,0" ∷ "D,rfv,1,1,0,0" ∷ []
@@ -32,7 +36,7 @@ abbrev pub _⊩_⊢_ : List String → List String → String → HeapCase
 c ⊩ h ⊢ r = record { checker = c; file = h; says = r }
 
 unfoldable pub heapCases : List HeapCase
-unfolding F incident noJog witnessInClause gapInNumbers noRecord oneObject
+unfolding F incident noJog witnessInClause gapInNumbers noRecord twoNames oneObject
 heapCases =
     -- all true; the receiver is no object; its class; its record is in the image
     (incident ⊩ noRecord ⊢ "0,0,0") ∷
@@ -48,6 +52,9 @@ heapCases =
     (witnessInClause ⊩ oneObject ++ ("D,rgv,2,1,0,0" ∷ []) ⊢ "0,0,6") ∷
     (witnessInClause ⊩ oneObject ++ ("D,rgv,1,1,0,0" ∷ "D,rgv,2,1,0,0" ∷ []) ⊢ "0,0,4") ∷
     (gapInNumbers ⊩ oneObject ⊢ "21,1,3") ∷
+    -- names of five digits: each has a value of its own
+    (twoNames ⊩ ("D,siz,2,1,1,0" ∷ "D,rfv,12345,1,0,0" ∷ []) ⊢ "0,0,0") ∷
+    (twoNames ⊩ ("D,siz,2,1,1,0" ∷ "D,rfv,12345,1,0,0" ∷ "D,rfv,2345,1,0,0" ∷ []) ⊢ "0,0,3") ∷
     -- nothing assumed, nothing allocated
     ([] ⊩ ("D,siz,1,1,1,0" ∷ []) ⊢ "0,0,0") ∷
     -- the checker file's refusals come first; what follows the first line that begins `S,` is not read
@@ -70,6 +77,10 @@ heapCases =
     (F ⊩ noRecord ++ ("D,sub,1,1,0,0" ∷ []) ⊢ "19,2,6") ∷
     (F ⊩ withLine 2 "D,alc,0,0,0,0" noRecord ⊢ "19,2,2") ∷
     (F ⊩ withLine 2 "D,rgv,1,1,0,0" noRecord ⊢ "19,2,2") ∷
+    -- five digits, and six
+    (F ⊩ withLine 2 "D,alc,99999,0,0,0" noRecord ⊢ "19,2,2") ∷
+    (F ⊩ noRecord ++ ("D,rfv,99999,1,0,0" ∷ "D,rfv,99999,1,0,0" ∷ []) ⊢ "19,2,7") ∷
+    (F ⊩ noRecord ++ ("D,rfv,100000,1,0,0" ∷ []) ⊢ "2,2,6") ∷
     -- 20: a circle, a missing step
     (F ⊩ noRecord ++ ("D,sub,0,1,0,0" ∷ "D,sub,1,0,0,0" ∷ []) ⊢ "20,2,0") ∷
     (F ⊩ ("D,siz,1,1,3,0" ∷ "D,sub,0,1,0,0" ∷ "D,sub,1,2,0,0" ∷ []) ⊢ "20,2,0") ∷

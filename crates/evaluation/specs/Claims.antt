@@ -10,11 +10,11 @@ use Rattle.tableau.specs.File.{Line, letters, shape, split, LF}
 use Rattle.tableau.specs.Terms.{ClauseNo, Literal, clauseOf, at}
 use Rattle.tableau.specs.Meaning.{FiniteHeap, Values, True, AllTrue, AnyTrue, EveryClauseTrue}
 use Rattle.tableau.specs.Reply.{reply}
-use Rattle.tableau.specs.Claims.{allButLast, linesOf, lineLiteral, lineDisjunct, termsIn, literalsIn, clausesIn}
+use Rattle.tableau.specs.Claims.{allButLast, linesOf, lineLiteral, lineDisjunct, termsIn, literalsIn, clausesIn, ShortNumbers}
 use Rattle.evaluation.specs.declared.FactWord.{FactWord}
 use Rattle.evaluation.specs.Facts.{heapLetters, factWords, Facts}
 use Rattle.evaluation.specs.Heaps.{isOrder, heapOf, valuesOf, AsSaid}
-use Rattle.evaluation.specs.Evaluation.{beforeSteps, Evaluation, noRefusal}
+use Rattle.evaluation.specs.Evaluation.{beforeSteps, Evaluation, noRefusal, evaluationWithin}
 
 abbrev pub Evaluator : Type 0
 Evaluator = List ℕ → List ℕ → Evaluation
@@ -63,3 +63,8 @@ EqualsMeaning evaluator = (file heapFile : List ℕ) → evaluator file heapFile
 -- "so no accepted file's assumptions ever evaluate to all true"
 unfoldable pub NeverAllTrue : Evaluator → Type 0
 NeverAllTrue evaluator = (file heapFile : List ℕ) → reply file .isYes ≡ true → ¬ (evaluator file heapFile ≡ noRefusal 0)
+
+-- "Files whose numbers have at most four digits keep their replies": both files
+unfoldable pub KeepsEvaluations : ℕ → Evaluator → Type 0
+KeepsEvaluations limit evaluator = (file heapFile : List ℕ) → ShortNumbers limit file → ShortNumbers limit heapFile
+    → evaluator file heapFile ≡ evaluationWithin limit file heapFile

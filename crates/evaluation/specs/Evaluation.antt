@@ -8,13 +8,13 @@ use lib.ListN.{length, take}
 use Rattle.tableau.specs.declared.Relation.{Relation}
 use Rattle.tableau.specs.declared.Reason.{Reason}
 use Rattle.tableau.specs.Basics.{bytes, sameBytes}
-use Rattle.tableau.specs.File.{split, LF, maxBytes}
+use Rattle.tableau.specs.File.{maxDigits, split, LF, maxBytes}
 use Rattle.tableau.specs.Terms.{TermNo, ClauseNo, Term, Literal, literal, Clauses, clauseOf, lastClause, linesTo, at, sameSort}
 use Rattle.tableau.specs.Meaning.{_and_, same, FiniteHeap, Region, Store, Value, reference, region, heap, field, class, kind, asRef, asRegion, asStore, asField, asClass, Values, value, isIn, isLe}
 use Rattle.tableau.specs.Tree.{passed, Status, isOpen, isClosed}
-use Rattle.tableau.specs.Reply.{reasonNumber, State, start, runLine, RunEnd, stopped, ended, runLines, decimal, commaNumbers, numberBytes, Call}
+use Rattle.tableau.specs.Reply.{reasonNumber, State, start, runLineWithin, RunEnd, stopped, ended, runLines, decimal, commaNumbers, numberBytes, Call}
 use Rattle.evaluation.specs.Orders.{each}
-use Rattle.evaluation.specs.Facts.{Facts, runFact}
+use Rattle.evaluation.specs.Facts.{Facts, runFactWithin}
 use Rattle.evaluation.specs.Heaps.{isOrder, valuesOf}
 
 -- EQUALITY AS A TEST
@@ -118,21 +118,24 @@ afterFacts σ (ended [] i) = refusal Reason.LetterOrder 2 1
 afterFacts σ (ended (x ∷ xs) i) = onHeap σ (x ∷ xs) (isOrder (x ∷ xs)) refl
 
 -- ".. then the heap file; there 1, 2, 4 and 6 are as usual"
-abbrev pub readHeap : State → Bool → List ℕ → Evaluation
-readHeap σ true heapFile = afterFacts σ (runLines runFact (split LF heapFile) 0 (passed []))
-readHeap σ false heapFile = refusal Reason.TooLong 2 0
+abbrev pub readHeap : ℕ → State → Bool → List ℕ → Evaluation
+readHeap limit σ true heapFile = afterFacts σ (runLines (runFactWithin limit) (split LF heapFile) 0 (passed []))
+readHeap limit σ false heapFile = refusal Reason.TooLong 2 0
 
-abbrev pub afterLines : RunEnd State → List ℕ → Evaluation
-afterLines (stopped r i) heapFile = refusal r 1 i
-afterLines (ended σ i) heapFile = readHeap σ (leb (length heapFile) maxBytes) heapFile
+abbrev pub afterLines : ℕ → RunEnd State → List ℕ → Evaluation
+afterLines limit (stopped r i) heapFile = refusal r 1 i
+afterLines limit (ended σ i) heapFile = readHeap limit σ (leb (length heapFile) maxBytes) heapFile
 
 -- "The checker file's T[, A and C] lines are checked first, as by the checker (1 by its whole length, 17 never)"
-abbrev pub readChecker : Bool → List ℕ → List ℕ → Evaluation
-readChecker true file heapFile = afterLines (runLines runLine (beforeSteps (split LF file)) 0 (passed start)) heapFile
-readChecker false file heapFile = refusal Reason.TooLong 1 0
+abbrev pub readChecker : ℕ → Bool → List ℕ → List ℕ → Evaluation
+readChecker limit true file heapFile = afterLines limit (runLines (runLineWithin limit) (beforeSteps (split LF file)) 0 (passed start)) heapFile
+readChecker limit false file heapFile = refusal Reason.TooLong 1 0
+
+abbrev pub evaluationWithin : ℕ → List ℕ → List ℕ → Evaluation
+evaluationWithin limit file heapFile = readChecker limit (leb (length file) maxBytes) file heapFile
 
 unfoldable pub evaluation : List ℕ → List ℕ → Evaluation
-evaluation file heapFile = readChecker (leb (length file) maxBytes) file heapFile
+evaluation = evaluationWithin maxDigits
 
 -- "The reply is one line, parted by commas and ended by LF"
 unfoldable pub evaluationLine : Evaluation → List ℕ

@@ -6,7 +6,7 @@ use Prim.Native.Nat.{ℕ}
 use lib.Dec.{eqb, leb, ltb}
 use Rattle.tableau.specs.declared.Reason.{Reason}
 use Rattle.tableau.specs.Basics.{isSome, Four, four, every, bytes, sameBytes, Named, _↣_, lookup}
-use Rattle.tableau.specs.File.{shape}
+use Rattle.tableau.specs.File.{maxDigits, Line, shapeWithin}
 use Rattle.tableau.specs.Tree.{Checked, passed, _>>=_, _>>_, require, requireSome}
 use Rattle.evaluation.specs.declared.FactWord.{FactWord}
 use Rattle.evaluation.specs.declared.Domain.{Domain}
@@ -148,11 +148,17 @@ abbrev pub mayFollow : Facts → FactWord → Four ℕ → Bool
 mayFollow facts w n = every (inRange (sizes facts)) (factFields w) n && (not (said facts w n) && allowed facts w n)
 
 -- A D LINE after others: checks 2, 3, 4, 6 and 19, a line for each.
-unfoldable pub runFact : Facts → List ℕ → Checked Facts
-runFact facts bs = do
-  l ← requireSome (shape heapLetters bs) Reason.BadShape
+unfoldable pub runFactRead : Facts → Option (Line (Unit {0})) → Checked Facts
+runFactRead facts read = do
+  l ← requireSome read Reason.BadShape
   require (sizeFirst facts (l .word)) Reason.LetterOrder
   w ← requireSome (lookup factWords (l .word)) Reason.UnknownWord
   require (every zeroUnlessUsed (factFields w) (l .fields)) Reason.UnusedField
   require (mayFollow facts w (l .fields)) Reason.BadFact
   passed (facts ++ (record { word = w; fields = l .fields } ∷ []))
+
+abbrev pub runFactWithin : ℕ → Facts → List ℕ → Checked Facts
+runFactWithin limit facts bs = runFactRead facts (shapeWithin limit heapLetters bs)
+
+abbrev pub runFact : Facts → List ℕ → Checked Facts
+runFact = runFactWithin maxDigits

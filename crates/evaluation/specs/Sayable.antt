@@ -3,10 +3,10 @@ use mathlib.Core.Path.{_≡_}
 use mathlib.Core.Bool.{true, false}
 use mathlib.Core.List.{List, [], _∷_, _++_, map}
 use mathlib.Core.Logic.{_⊎_}
-use Prim.Native.Nat.{ℕ, _<_, _≤_}
+use Prim.Native.Nat.{ℕ, _-_, _^_, _<_, _≤_}
 use lib.ListN.{length, getD}
 use Rattle.tableau.specs.Basics.{bytes}
-use Rattle.tableau.specs.File.{comma}
+use Rattle.tableau.specs.File.{comma, maxDigits}
 use Rattle.tableau.specs.Terms.{Name}
 use Rattle.tableau.specs.Meaning.{FiniteHeap, Ref, Field, Values}
 use Rattle.tableau.specs.Tree.{passed}
@@ -17,7 +17,7 @@ use Rattle.evaluation.specs.Heaps.{isOrder, AsSaid}
 
 -- the largest number that a line can hold
 abbrev pub maxNumber : ℕ
-maxNumber = 9999
+maxNumber = 10 ^ maxDigits - 1
 
 -- a heap within the sizes, reference 0 being `nul`
 pub record Small (H : FiniteHeap) : Type 0 where

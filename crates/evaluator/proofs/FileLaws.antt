@@ -7,7 +7,7 @@ use lib.Dec.{leb}
 use lib.ListN.{length, take}
 use borrow.Author.Tests.{le-leb, lt-leb}
 use Rattle.tableau.specs.declared.Reason.{Reason}
-use Rattle.tableau.specs.File.{LF, split, maxBytes}
+use Rattle.tableau.specs.File.{LF, split, maxDigits, maxBytes}
 use Rattle.tableau.specs.Terms.{Literal}
 use Rattle.tableau.specs.Tree.{passed, Status, isOpen, isClosed}
 use Rattle.tableau.specs.Tree as specification
@@ -43,9 +43,9 @@ module _ (file heap : List ℕ) where
     part-lines : split LF (take k file) ≡ beforeSteps (split LF file)
     part-lines = ap (λ (n : ℕ). split LF (take n file)) q ∙ first-part file
 
-    file-runs : {e : RunEnd State} → checkFrom (take k file) 0 0 (passed start) ≡ e → evaluation file heap ≡ afterLines e heap
+    file-runs : {e : RunEnd State} → checkFrom (take k file) 0 0 (passed start) ≡ e → evaluation file heap ≡ afterLines maxDigits e heap
     unfolding evaluation
-    file-runs {e} r = rw (le-leb (length file) maxBytes h, ← part-lines) (ap (λ (x : RunEnd State). afterLines x heap) r)
+    file-runs {e} r = rw (le-leb (length file) maxBytes h, ← part-lines) (ap (λ (x : RunEnd State). afterLines maxDigits x heap) r)
 
     pub file-stops : (r : Reason) (i : ℕ) → checkFrom (take k file) 0 0 (passed start) ≡ stopped r i → evaluation file heap ≡ refusal r 1 i
     file-stops r i e = file-runs e
@@ -54,7 +54,7 @@ module _ (file heap : List ℕ) where
       abbrev state : State
       state = stateAt (F .table) (F .clauses) (treeOf unpackLiteral t) g
 
-      pub file-ends : evaluation file heap ≡ readHeap state (leb (length heap) maxBytes) heap
+      pub file-ends : evaluation file heap ≡ readHeap maxDigits state (leb (length heap) maxBytes) heap
       file-ends = file-runs (F .runs)
 
       assumed : Assumed state

@@ -12,7 +12,7 @@ use Rattle.packing.specs.Packing.{unpackLiteral}
 use borrow.Author.Tests.{le-leb, lt-leb}
 use Rattle.tableau.specs.declared.Reason.{Reason}
 use Rattle.tableau.specs.Basics.{Four}
-use Rattle.tableau.specs.File.{LF, split, maxBytes}
+use Rattle.tableau.specs.File.{LF, split, maxDigits, maxBytes}
 use Rattle.tableau.specs.Terms.{lastClause, at}
 use Rattle.tableau.specs.Tree.{passed}
 use Rattle.tableau.specs.Reply.{State, RunEnd, stopped, ended}
@@ -89,18 +89,18 @@ module _ {g : Facts} {keys values : List ℕ} {n : ℕ} (F : FactsHeld g keys va
 
 -- THE HEAP FILE: too long, with a line refused, without a line, or tried
 module _ (σ : State) (heap : List ℕ) where
-  pub heap-too-long : maxBytes < length heap → readHeap σ (leb (length heap) maxBytes) heap ≡ refusal Reason.TooLong 2 0
+  pub heap-too-long : maxBytes < length heap → readHeap maxDigits σ (leb (length heap) maxBytes) heap ≡ refusal Reason.TooLong 2 0
   heap-too-long h = rw (lt-leb (length heap) maxBytes h)
 
   module _ (h : length heap ≤ maxBytes) where
-    heap-runs : {e : RunEnd Facts} → runFrom runFact heap 0 0 (passed []) ≡ e → readHeap σ (leb (length heap) maxBytes) heap ≡ afterFacts σ e
+    heap-runs : {e : RunEnd Facts} → runFrom runFact heap 0 0 (passed []) ≡ e → readHeap maxDigits σ (leb (length heap) maxBytes) heap ≡ afterFacts σ e
     heap-runs q = rw (le-leb (length heap) maxBytes h) (ap (afterFacts σ) q)
 
-    pub heap-stops : (r : Reason) (i : ℕ) → runFrom runFact heap 0 0 (passed []) ≡ stopped r i → readHeap σ (leb (length heap) maxBytes) heap ≡ refusal r 2 i
+    pub heap-stops : (r : Reason) (i : ℕ) → runFrom runFact heap 0 0 (passed []) ≡ stopped r i → readHeap maxDigits σ (leb (length heap) maxBytes) heap ≡ refusal r 2 i
     heap-stops r i q = heap-runs q
 
     module _ {keys values : List ℕ} {e : FactsRead} (F : Finished heap keys values e) where
-      pub heap-empty : e .count ≡ 0 → readHeap σ (leb (length heap) maxBytes) heap ≡ refusal Reason.LetterOrder 2 1
+      pub heap-empty : e .count ≡ 0 → readHeap maxDigits σ (leb (length heap) maxBytes) heap ≡ refusal Reason.LetterOrder 2 1
       heap-empty z = heap-runs (F .runs) ∙ none (F .facts) (sym (F .held .count) ∙ z)
         where
           none : (g : Facts) → length g ≡ 0 → afterFacts σ (ended g (e .count)) ≡ refusal Reason.LetterOrder 2 1
@@ -117,7 +117,7 @@ module _ (σ : State) (heap : List ℕ) where
       pub heap-passable : (e .count ≡ 0 → ⊥) → Passable (F .facts)
       heap-passable z = run-passable (lines-passed FactPassed runFact fact-passed (split LF heap) 0 [] (F .runs)) (λ q. absurd (true≢false q)) (some z)
 
-      pub heap-tried : (e .count ≡ 0 → ⊥) → readHeap σ (leb (length heap) maxBytes) heap ≡ onHeap σ (F .facts) (isOrder (F .facts)) refl
+      pub heap-tried : (e .count ≡ 0 → ⊥) → readHeap maxDigits σ (leb (length heap) maxBytes) heap ≡ onHeap σ (F .facts) (isOrder (F .facts)) refl
       heap-tried z = heap-runs (F .runs) ∙ tried (F .facts) (some z)
         where
           tried : (g : Facts) → isNil g ≡ false → afterFacts σ (ended g (e .count)) ≡ onHeap σ g (isOrder g) refl

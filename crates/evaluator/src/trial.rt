@@ -19,7 +19,7 @@ use tree::Tree;
 ghost use mathlib.Core.Path.{_≡_, refl};
 ghost use lib.Dec.{leb};
 ghost use lib.ListN.{length};
-ghost use Rattle.tableau.specs.File.{maxBytes};
+ghost use Rattle.tableau.specs.File.{maxDigits, maxBytes};
 ghost use Rattle.tableau.specs.Reply.{State};
 ghost use Rattle.evaluation.specs.Facts.{Facts, sizes as sizesGiven};
 ghost use Rattle.evaluation.specs.Heaps.{isOrder};
@@ -83,7 +83,7 @@ pub fn read_heap(
 ) -> Evaluation
     requires { ⌜ ((σ : State) × StateHeld σ (now terms) n (now branch) len (now clauses) last) ⌝ }
     ensures { λ r. ⌜ ((σ : State) → StateHeld σ (now (terms .entry)) n (now (branch .entry)) len (now (clauses .entry)) last
-        → evaluationRecord r ≡ readHeap σ (leb (length (now (heap .entry))) maxBytes) (now (heap .entry))) ⌝ }
+        → evaluationRecord r ≡ readHeap maxDigits σ (leb (length (now (heap .entry))) maxBytes) (now (heap .entry))) ⌝ }
 {
     if FILE_BYTES < heap.len() {
         return refused(Reason::TooLong, 2, 0);

@@ -11,7 +11,7 @@ use Rattle.tableau.specs.Basics.{then, bytes, sameBytes, every, lookup}
 use Rattle.tableau.specs.File.{comma, split, allSmall, isWord, Line}
 use Rattle.tableau.specs.Tree.{Checked, refused, passed, _>>=_, _>>_, require, requireSome}
 use Rattle.evaluation.specs.declared.FactWord.{FactWord}
-use Rattle.evaluation.specs.Facts.{heapLetters, factWords, factFields, Facts, isNil, sizeFirst, zeroUnlessUsed, mayFollow, runFact}
+use Rattle.evaluation.specs.Facts.{heapLetters, factWords, Facts, isNil, sizeFirst, runFactRead, runFact}
 use Rattle.tableau.proofs.Bools.{some-inj}
 use Rattle.evaluation.proofs.Decision.{beq-eq}
 use Rattle.lines.specs.declared.LineFields.{LineFields}
@@ -66,11 +66,6 @@ first-is-size facts word w o e n =
     sym (some-inj (ap (lookupPacked factWords) (sym q) ∙ e))
 
 -- THE RUN OF A LINE by its fields
-abbrev runRead : Facts → Option (Line (Unit {0})) → Checked Facts
-runRead facts read = requireSome read Reason.BadShape >>= λ l. require (sizeFirst facts (l .word)) Reason.LetterOrder >>
-    (requireSome (lookup factWords (l .word)) Reason.UnknownWord >>= λ w. require (every zeroUnlessUsed (factFields w) (l .fields)) Reason.UnusedField >>
-    (require (mayFollow facts w (l .fields)) Reason.BadFact >> passed (facts ++ (record { word = w; fields = l .fields } ∷ []))))
-
 size-packed : (w : List ℕ) → isWord w ≡ true → sameBytes (bytes "siz") w ≡ eqb (packWord w) sizWord
 unfolding bytes allSmall
 size-packed w h = packed-apart (bytes "siz") w refl (word-small w h)
@@ -80,10 +75,10 @@ unfolding textsAreWords factWords bytes allSmall
 facts-packed = lookup-packed factWords refl
 
 known-fields : (facts : Facts) (k : Line ℕ) (n : ℕ) (m : Option (Unit {0})) → isWord (k .word) ≡ true
-    → runRead facts (then m λ l. some (relettered k l))
+    → runFactRead facts (then m λ l. some (relettered k l))
     ≡ (requireSome m Reason.BadShape >>= λ l. require (Bool·beq (isNil facts) (eqb (packWord (k .word)) sizWord)) Reason.LetterOrder >>
     (requireSome (lookupPacked factWords (packWord (k .word))) Reason.UnknownWord >>= runWord facts (lineFields n k)))
-unfolding runWord
+unfolding runFactRead runWord
 known-fields facts k n none h = refl
 known-fields facts k n (some l) h = rw (size-packed (k .word) h, facts-packed (k .word) h)
 
@@ -92,9 +87,9 @@ unfolding heapLetters allCapitals bytes capital
 capitals = refl
 
 pub fact-fields : ByFields runFact runFactFields
-unfolding runFact runFactFields
+unfolding runFactRead runFactFields
 fact-fields = record {
-  shaped = λ facts l k n e. ap (runRead facts) (shape-lettered heapLetters capitals l ∙ ap (λ m. then m (letteredLine heapLetters)) e)
+  shaped = λ facts l k n e. ap (runFactRead facts) (shape-lettered heapLetters capitals l ∙ ap (λ m. then m (letteredLine heapLetters)) e)
       ∙ known-fields facts k n (lookup heapLetters (k .letter ∷ [])) (shaped (split comma l) k e .word);
-  unshaped = λ facts l e. ap (runRead facts) (shape-lettered heapLetters capitals l ∙ ap (λ m. then m (letteredLine heapLetters)) e);
+  unshaped = λ facts l e. ap (runFactRead facts) (shape-lettered heapLetters capitals l ∙ ap (λ m. then m (letteredLine heapLetters)) e);
 }

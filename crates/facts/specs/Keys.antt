@@ -36,7 +36,7 @@ valuePart (FactField.Value d) n = n
 unfoldable pub valueOf : FactWord → Four ℕ → ℕ
 valueOf w n = valuePart (factFields w .a) (n .a) + valuePart (factFields w .b) (n .b) + valuePart (factFields w .c) (n .c) + valuePart (factFields w .d) (n .d)
 
--- THE KEY of a word and a subject: names are below 10,000, references below 64, fields and classes below 16
+-- THE KEY of a word and a subject: names are below 100,000, references below 64, fields and classes below 16
 unfoldable pub packKey : ℕ → ℕ → ℕ → ℕ → ℕ
 packKey i a b c = ((a * 64 + b) * 16 + c) * 16 + i
 

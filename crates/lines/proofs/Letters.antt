@@ -69,7 +69,7 @@ letter-last look (some x) w true (some a) (some b) (some c) none = no-then (look
 letter-last look (some x) w true (some a) (some b) (some c) (some d) = refl
 
 module _ {L : Type 0} (known : List (Named L)) (capitals : allCapitals known ≡ true) where
-  fields-lettered : (ps : List (List ℕ)) → sixFields (lookup known) ps ≡ then (sixFields capital ps) (letteredLine known)
+  fields-lettered : (ps : List (List ℕ)) → sixFields maxDigits (lookup known) ps ≡ then (sixFields maxDigits capital ps) (letteredLine known)
   unfolding sixFields
   fields-lettered [] = refl
   fields-lettered (k ∷ []) = refl

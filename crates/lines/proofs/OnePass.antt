@@ -12,7 +12,7 @@ use lib.ListN.{length}
 use borrow.Author.Tests.{ne-eqb, le-leb, eqb-true, eqb-false, leb-true}
 use Rattle.tableau.specs.declared.Reason.{Reason}
 use Rattle.tableau.specs.Basics.{then, guard}
-use Rattle.tableau.specs.File.{LF, comma, split, isSmall, allSmall, isWord, isDigit, digits, number, Line, sixFields}
+use Rattle.tableau.specs.File.{LF, comma, split, isSmall, allSmall, isWord, isDigit, maxDigits, digits, number, Line, sixFields}
 use Rattle.tableau.specs.Tree.{refused, requireSome}
 use Rattle.tableau.proofs.Pieces.{pieces}
 use Rattle.lines.specs.declared.ByteStep.{ByteStep}
@@ -279,7 +279,7 @@ pub word-whole : (w : List ℕ) → wordFrom 0 0 w ≡ guard (isWord w) (some (p
 unfolding wordFrom
 word-whole w = let e₁ : 0 + length w ≡ length w = omega arith in let e₂ : 0 + 256 ^ 0 * packWord w ≡ packWord w = omega arith in rw (e₁, e₂)
 
-shape-left : (ps : List (List ℕ)) → remaining sixFieldForm empty ps ≡ readingOf (sixFields capital ps)
+shape-left : (ps : List (List ℕ)) → remaining sixFieldForm empty ps ≡ readingOf (sixFields maxDigits capital ps)
 unfolding sixFields
 shape-left [] = refl
 shape-left (k ∷ []) = simp nowhere

@@ -7,7 +7,7 @@ use Prim.Native.Nat.{ℕ, _+_, _*_, _<_, _≤_}
 use lib.Dec.{eqb, leb}
 use lib.ListN.{length, drop, getD}
 use Rattle.tableau.specs.Basics.{guard, Four, four}
-use Rattle.tableau.specs.File.{LF, comma, split, Line, sixFields}
+use Rattle.tableau.specs.File.{LF, comma, split, maxDigits, Line, sixFields}
 use Rattle.lines.specs.declared.LineFields.{LineFields}
 use Rattle.lines.specs.declared.LineRead.{LineRead}
 
@@ -28,7 +28,7 @@ capital [] = none
 capital (b ∷ bs) = guard (eqb (length bs) 0) (capitalOf b)
 
 abbrev pub anyShape : List ℕ → Option (Line ℕ)
-anyShape l = sixFields capital (split comma l)
+anyShape l = sixFields maxDigits capital (split comma l)
 
 -- a line's six fields, and the position after its LF
 abbrev pub lineRead : ℕ → Option (Line ℕ) → LineRead

@@ -28,8 +28,8 @@ pub enum LineRead {
 
 const LF: u8 = 10;
 
-// "numbers of one to four digits"
-const LINE_DIGITS: usize = 4;
+// "numbers of one to [five] digits"
+const LINE_DIGITS: usize = 5;
 
 // The letter, and the position after its comma.
 enum LetterRead {

@@ -79,9 +79,9 @@ pub record Shaped (ps : List (List ℕ)) (k : Line ℕ) : Type 0 where
   pub small : SmallNumbers (k .fields)
   pub long : leastLine ≤ bytesOf ps
 
-pub shaped : (ps : List (List ℕ)) (k : Line ℕ) → sixFields capital ps ≡ some k → Shaped ps k
+pub shaped : (ps : List (List ℕ)) (k : Line ℕ) → sixFields maxDigits capital ps ≡ some k → Shaped ps k
 shaped ps k e =
-    let f = six-fields capital ps e in
+    let f = six-fields maxDigits capital ps e in
     record {
       word = f .word;
       small = record { a = decimal-of-number maxDigits _ _ (f .a) .1; b = decimal-of-number maxDigits _ _ (f .b) .1; c = decimal-of-number maxDigits _ _ (f .c) .1; d = decimal-of-number maxDigits _ _ (f .d) .1 };

@@ -2,12 +2,12 @@
 use mathlib.Core.Path.{_≡_}
 use mathlib.Core.List.{List, [], _∷_}
 use mathlib.Core.Option.{Option, none, some}
-use Prim.Native.Nat.{ℕ, suc, _+_, _<_, _≤_}
+use Prim.Native.Nat.{ℕ, suc, _+_, _^_, _<_, _≤_}
 use lib.ListN.{length, drop}
 use Rattle.tableau.specs.declared.Letter.{Letter}
 use Rattle.tableau.specs.declared.Reason.{Reason}
 use Rattle.tableau.specs.Basics.{Four, lookup}
-use Rattle.tableau.specs.File.{LF, split, letters, Line}
+use Rattle.tableau.specs.File.{LF, split, letters, maxDigits, Line}
 use Rattle.tableau.specs.Words.{words, relations, ruleNames, Command, make, assume, disjoin, infer, some-of}
 use Rattle.tableau.specs.Tree.{Checked, refused, passed, _>>=_, requireSome}
 use Rattle.tableau.specs.Reply.{State, runCommand, runLine, RunEnd, runLines}
@@ -34,9 +34,9 @@ packedCommand Letter.S w = some-of infer (lookupPacked ruleNames w)
 unfoldable pub runFields : State → LineFields → Checked State
 runFields σ f = requireSome (lookup letters (f .letter ∷ [])) Reason.BadShape >>= λ l. runCommand σ l (packedCommand l (f .word)) (numbersOf f)
 
--- no number of four digits reaches this
+-- no number of a line reaches this
 abbrev pub numberLimit : ℕ
-numberLimit = 10000
+numberLimit = 10 ^ maxDigits
 
 pub record SmallNumbers (n : Four ℕ) : Type 0 where
   pub a : n .a < numberLimit
@@ -57,7 +57,7 @@ pub record ByFields {S : Type 0} (run : S → List ℕ → Checked S) (fields : 
 abbrev pub leastLine : ℕ
 leastLine = 13
 
--- A line with these fields begins at the position: it ends inside the file, its numbers have at most four digits, and a run for which the line comes to what its
+-- A line with these fields begins at the position: it ends inside the file, its numbers are small, and a run for which the line comes to what its
 -- fields come to goes on behind it.
 pub record LineHere {S : Type 0} (run : S → List ℕ → Checked S) (fields : S → LineFields → Checked S) (file : List ℕ) (at : ℕ) (f : LineFields) : Type 0 where
   pub longer : at + leastLine ≤ f .next .at

@@ -12,14 +12,14 @@ use Rattle.tableau.specs.declared.Reason.{Reason}
 use Rattle.tableau.specs.declared.Relation.{Relation}
 use Rattle.tableau.specs.declared.Rule.{Rule}
 use Rattle.tableau.specs.Basics.{Four, every, bytes, sameBytes, Named, lookup}
-use Rattle.tableau.specs.File.{Line, inOrder, shape, letters, split, LF, maxBytes}
+use Rattle.tableau.specs.File.{Line, inOrder, maxDigits, shape, letters, split, LF, maxBytes}
 use Rattle.tableau.specs.declared.Word.{Word}
 use Rattle.tableau.specs.Words.{words, relations, ruleNames, Command, make, assume, disjoin, infer, some-of, commandOf}
 use Rattle.tableau.specs.Fields.{Use, wordFields, sides, clauseFields, ruleUses}
 use Rattle.tableau.specs.Terms.{Table, Literal, literal, Clauses, at, sortOf, written, oneSort, maxTerms}
 use Rattle.tableau.specs.Tree.{Checked, refused, passed, _>>=_, _>>_, require, requireSome, Tree, Status, isOpen, isClosed, maxPlaces, alternatives, grown}
 use Rattle.tableau.specs.Reply.{Counts, State, start, requireOpen, zeroIfUnused, termOrName, ofSort, isNew, termLine, literalLine, assumed, takesDisjunct, disjoined, stepLine}
-use Rattle.tableau.specs.Reply.{counted, withClauses, runOpen, runRead, runLine, RunEnd, stopped, ended, runLines, Verdict, accept, refuse, atEnd, verdictOn, verdictIf, verdict, replyOf, reply}
+use Rattle.tableau.specs.Reply.{counted, withClauses, runOpen, runRead, runLine, RunEnd, stopped, ended, runLines, Verdict, accept, refuse, atEnd, verdictOn, verdictIf, verdictWithin, verdict, replyOf, reply}
 use Rattle.tableau.specs.Claims.{allButLast, linesOf}
 use Rattle.tableau.proofs.Bools.{both-true}
 
@@ -273,10 +273,10 @@ lines-accepted {c} ls i σ = go (runLines runLine ls i (passed σ)) refl
 
 -- a file is too long, or its lines are read
 pub verdict-cases : (P : Verdict → Type 0) (file : List ℕ) → P (refuse Reason.TooLong 0) → P (verdictOn (runLines runLine (split LF file) 0 (passed start))) → P (verdict file)
-unfolding verdict
+unfolding verdictWithin
 verdict-cases P file p q = go (leb (length file) maxBytes)
   where
-    go : (b : Bool) → P (verdictIf b file)
+    go : (b : Bool) → P (verdictIf maxDigits b file)
     go true = q
     go false = p
 

@@ -1,4 +1,4 @@
--- The replies that document 01 marks, those to the files of the old checker's failings, to those about start-up, with clauses, with a used w and with `fin`, by computation.
+-- The replies that document 01 marks, those to the files of the old checker's failings, to those about start-up, with clauses, with a used w, with `fin` and with numbers of five digits, by computation.
 use mathlib.Core.Path.{refl}
 use mathlib.Core.List.{[], _∷_}
 use Rattle.tableau.specs.Cases.{cases, AllReplies, _⊢_}
@@ -7,6 +7,7 @@ use Rattle.tableau.specs.StartUp.{startUpCases}
 use Rattle.tableau.specs.Disjunctions.{clauseCases}
 use Rattle.tableau.specs.UsedWitnesses.{placeCases}
 use Rattle.tableau.specs.InsideImage.{countingCases}
+use Rattle.tableau.specs.LongNumbers.{longNumberCases}
 use Rattle.tableau.proofs.Evaluate.{evaluate}
 
 -- THE CASES MARKED ◆
@@ -42,3 +43,8 @@ place-replies = refl
 pub counting-replies : AllReplies countingCases
 unfolding AllReplies countingCases evaluate
 counting-replies = refl
+
+-- names of five digits, which are as many variables; other numbers of five digits are as much too large as before
+pub long-number-replies : AllReplies longNumberCases
+unfolding AllReplies longNumberCases evaluate
+long-number-replies = refl

@@ -9,9 +9,9 @@ use Rattle.tableau.specs.Terms.{result, sortIndex, operatorIndex, relati
 use Rattle.tableau.specs.Rules.{rule}
 use Rattle.tableau.specs.Steps.{fits, fitsLiteral, met, made, madeLiterals, madeAlternatives, freshness, takesTerms, concludeSub, concludeRep, concludeRows, conclude}
 use Rattle.tableau.specs.Tree.{roomOnBranch, roomToWait, close, grow, answer, alternatives, grown}
-use Rattle.tableau.specs.Reply.{refusalOf, termLine, literalLine, assumed, disjoined, stepLine, runOpen, runRead, runLines, verdict, Reply, replyOf, reply, decimalFrom, commaNumbers, yesOrNo, replyLine}
+use Rattle.tableau.specs.Reply.{refusalOf, termLine, literalLine, assumed, disjoined, stepLine, runOpen, runRead, runLines, verdictWithin, Reply, replyOf, reply, decimalFrom, commaNumbers, yesOrNo, replyLine}
 use Rattle.tableau.specs.Cases.{fileOf}
 
 unfoldable pub evaluate : List ℕ → Reply
-unfolding fileOf bytes sameBytes lookup split letters allSmall digits number sixFields words result arguments sortIndex operatorIndex relationIndex numberFrom layer toDepth fold mentions relations sides oneSort placeFrom clauseOf lastClause rule ruleFields ruleNames fits fitsLiteral met made madeLiterals madeAlternatives freshness takesTerms concludeSub concludeRep concludeRows conclude roomOnBranch roomToWait close grow answer alternatives grown refusalOf commandOf rank termLine literalLine assumed disjoined stepLine runOpen runRead runLines verdict replyOf reply decimalFrom commaNumbers yesOrNo replyLine
+unfolding fileOf bytes sameBytes lookup split letters allSmall digits number sixFields words result arguments sortIndex operatorIndex relationIndex numberFrom layer toDepth fold mentions relations sides oneSort placeFrom clauseOf lastClause rule ruleFields ruleNames fits fitsLiteral met made madeLiterals madeAlternatives freshness takesTerms concludeSub concludeRep concludeRows conclude roomOnBranch roomToWait close grow answer alternatives grown refusalOf commandOf rank termLine literalLine assumed disjoined stepLine runOpen runRead runLines verdictWithin replyOf reply decimalFrom commaNumbers yesOrNo replyLine
 evaluate = reply

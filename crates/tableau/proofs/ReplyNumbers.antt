@@ -12,10 +12,10 @@ use lib.ListN.{length, getElem?}
 use borrow.Author.Tests.{leb-true}
 use Rattle.tableau.specs.declared.Letter.{Letter}
 use Rattle.tableau.specs.declared.Reason.{Reason}
-use Rattle.tableau.specs.File.{Line, shape, letters, split, LF, maxBytes}
+use Rattle.tableau.specs.File.{Line, maxDigits, shape, letters, split, LF, maxBytes}
 use Rattle.tableau.specs.Terms.{Place, ClauseNo, Table, Literal, Clauses, TermNo}
 use Rattle.tableau.specs.Tree.{Checked, refused, passed, Status, isOpen, isClosed, maxPlaces}
-use Rattle.tableau.specs.Reply.{refusalOf, State, start, maxClauseLines, runLine, runLines, Verdict, accept, refuse, atEnd, verdictOn, verdictIf, verdict, replyOf, reply, replyNumbers}
+use Rattle.tableau.specs.Reply.{refusalOf, State, start, maxClauseLines, runLine, runLines, Verdict, accept, refuse, atEnd, verdictOn, verdictIf, verdictWithin, verdict, replyOf, reply, replyNumbers}
 use Rattle.tableau.specs.Claims.{allButLast, linesOf, clausesOf, hasLetter, closesBranch, countIf, countClauses, CountsOf, RightCounts, PlaceSays, StepPlace, RightPlaces, AllBelow}
 use Rattle.tableau.proofs.Bools.{none≢some}
 use Rattle.tableau.proofs.Checks.{yes-accepted, verdict-cases}
@@ -32,10 +32,10 @@ sixDigits = 100000
 
 -- a file is too long, or it fits
 fits-or-too-long : (file : List ℕ) → (length file ≤ maxBytes) ⊎ (verdict file ≡ refuse Reason.TooLong 0)
-unfolding verdict
+unfolding verdictWithin
 fits-or-too-long file = go (leb (length file) maxBytes) refl
   where
-    go : (b : Bool) → leb (length file) maxBytes ≡ b → (length file ≤ maxBytes) ⊎ (verdictIf b file ≡ refuse Reason.TooLong 0)
+    go : (b : Bool) → leb (length file) maxBytes ≡ b → (length file ≤ maxBytes) ⊎ (verdictIf maxDigits b file ≡ refuse Reason.TooLong 0)
     go true e = inl (leb-true (length file) maxBytes e)
     go false e = inr refl
 

@@ -9,22 +9,22 @@ use lib.Dec.{eqb}
 use lib.ListN.{length}
 use borrow.Author.Tests.{eqb-true}
 use Rattle.tableau.specs.Basics.{Four, four}
-use Rattle.tableau.specs.File.{Line, allSmall, isWord, maxDigits, number, sixFields}
+use Rattle.tableau.specs.File.{Line, allSmall, isWord, number, sixFields}
 use Rattle.tableau.proofs.Bools.{both-true, none≢some, some-inj, then-inv, guard-inv}
 
-module _ {L : Type 0} (first : List ℕ → Option L) where
+module _ {L : Type 0} (limit : ℕ) (first : List ℕ → Option L) where
   pub record SixFields (ps : List (List ℕ)) (l : Line L) : Type 0 where
     pub letterText : List ℕ
     pub texts : Four (List ℕ)
     pub pieces : ps ≡ letterText ∷ l .word ∷ texts .a ∷ texts .b ∷ texts .c ∷ texts .d ∷ []
     pub letter : first letterText ≡ some (l .letter)
     pub word : isWord (l .word) ≡ true
-    pub a : number maxDigits (texts .a) ≡ some (l .fields .a)
-    pub b : number maxDigits (texts .b) ≡ some (l .fields .b)
-    pub c : number maxDigits (texts .c) ≡ some (l .fields .c)
-    pub d : number maxDigits (texts .d) ≡ some (l .fields .d)
+    pub a : number limit (texts .a) ≡ some (l .fields .a)
+    pub b : number limit (texts .b) ≡ some (l .fields .b)
+    pub c : number limit (texts .c) ≡ some (l .fields .c)
+    pub d : number limit (texts .d) ≡ some (l .fields .d)
 
-  pub six-fields : {l : Line L} (ps : List (List ℕ)) → sixFields first ps ≡ some l → SixFields ps l
+  pub six-fields : {l : Line L} (ps : List (List ℕ)) → sixFields limit first ps ≡ some l → SixFields ps l
   unfolding sixFields
   six-fields [] e = none≢some e
   six-fields (k ∷ []) e = none≢some e
@@ -35,10 +35,10 @@ module _ {L : Type 0} (first : List ℕ → Option L) where
   six-fields (k ∷ w ∷ a ∷ b ∷ c ∷ d ∷ []) e =
       let h₁ = then-inv (first k) _ e in
       let h₂ = guard-inv (isWord w) _ (h₁ .2) in
-      let h₃ = then-inv (number maxDigits a) _ (h₂ .1) in
-      let h₄ = then-inv (number maxDigits b) _ (h₃ .2) in
-      let h₅ = then-inv (number maxDigits c) _ (h₄ .2) in
-      let h₆ = then-inv (number maxDigits d) _ (h₅ .2) in
+      let h₃ = then-inv (number limit a) _ (h₂ .1) in
+      let h₄ = then-inv (number limit b) _ (h₃ .2) in
+      let h₅ = then-inv (number limit c) _ (h₄ .2) in
+      let h₆ = then-inv (number limit d) _ (h₅ .2) in
       subst (SixFields _) (some-inj (h₆ .2))
       (record { letterText = k; texts = four a b c d; pieces = refl; letter = h₁ .1; word = h₂ .0; a = h₃ .1; b = h₄ .1; c = h₅ .1; d = h₆ .1 })
   six-fields (k ∷ w ∷ a ∷ b ∷ c ∷ d ∷ x ∷ xs) e = none≢some e

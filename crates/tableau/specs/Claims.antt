@@ -4,18 +4,18 @@ use mathlib.Core.Bool.{Bool, true, false, _&&_, _||_, cond}
 use mathlib.Core.List.{List, [], _∷_, _++_}
 use mathlib.Core.Option.{Option, none, some}
 use mathlib.Core.Logic.{_⊎_}
-use Prim.Native.Nat.{ℕ, zero, suc, _+_, _<_}
+use Prim.Native.Nat.{ℕ, zero, suc, _+_, _<_, _≤_}
 use lib.Dec.{eqb}
-use lib.ListN.{length, take}
+use lib.ListN.{length, take, drop}
 use Rattle.tableau.specs.declared.Letter.{Letter}
-use Rattle.tableau.specs.Basics.{Four, bytes, sameBytes}
-use Rattle.tableau.specs.File.{Line, sameLetter, shape, letters, split, LF}
+use Rattle.tableau.specs.Basics.{isSome, Four, bytes, sameBytes}
+use Rattle.tableau.specs.File.{Line, sameLetter, digits, shape, letters, split, LF, comma}
 use Rattle.tableau.specs.Words.{Command, make, assume, disjoin, infer, commandOf}
 use Rattle.tableau.specs.Terms.{Place, TermNo, ClauseNo, Table, Literal, literal, Clauses, disjuncts, at, mentionedIn, mentioned, written}
 use Rattle.tableau.specs.Meaning.{FiniteHeap, Values, AllTrue, EveryClauseTrue}
 use Rattle.tableau.specs.Steps.{isRfv}
 use Rattle.tableau.specs.Tree.{Checked, passed, _>>=_, Tree, isOpen, literalAt}
-use Rattle.tableau.specs.Reply.{State, start, runLine, Reply, reply}
+use Rattle.tableau.specs.Reply.{State, start, runLine, Reply, replyWithin, reply}
 
 -- THE LINES of a file: what each LF ends.
 abbrev pub allButLast : List (List ℕ) → List (List ℕ)
@@ -194,11 +194,29 @@ unfoldable pub RightPlaces : Checker → Type 0
 RightPlaces checker = (file : List ℕ) → (checker file .number ≡ 13 → LinePlace start (linesOf file) (checker file .line) (checker file .place))
     × (¬ (checker file .number ≡ 13) → checker file .place ≡ 0)
 
+-- each of a list
+abbrev pub AllOf : {A : Type 0} → (A → Type 0) → List A → Type 0
+AllOf P [] = Unit {0}
+AllOf P (x ∷ xs) = P x × AllOf P xs
+
+-- SHORT NUMBERS: on every line, a field behind the word that is all digits has at most so many.
+abbrev pub ShortField : ℕ → List ℕ → Type 0
+ShortField limit p = isSome (digits p 0) ≡ true → length p ≤ limit
+
+abbrev pub ShortLine : ℕ → List ℕ → Type 0
+ShortLine limit l = AllOf (ShortField limit) (drop 2 (split comma l))
+
+unfoldable pub ShortNumbers : ℕ → List ℕ → Type 0
+ShortNumbers limit file = AllOf (ShortLine limit) (split LF file)
+
+-- "Files whose numbers have at most four digits keep their replies", of any number of digits: the reply is what it is where numbers can't have more
+unfoldable pub KeepsReplies : ℕ → Checker → Type 0
+KeepsReplies limit checker = (file : List ℕ) → ShortNumbers limit file → checker file ≡ replyWithin limit file
+
 -- "A file is accepted when the checker says yes: its reply line begins with `yes`, or the call returns 0."
 abbrev pub BeginsWithYes : List ℕ → Type 0
 BeginsWithYes text = take 3 text ≡ bytes "yes"
 
 -- every number of a list is below n
 abbrev pub AllBelow : ℕ → List ℕ → Type 0
-AllBelow n [] = Unit {0}
-AllBelow n (x ∷ xs) = (x < n) × AllBelow n xs
+AllBelow n = AllOf (λ x. x < n)

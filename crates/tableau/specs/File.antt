@@ -55,12 +55,12 @@ allSmall (b ∷ bs) = isSmall b && allSmall bs
 abbrev pub isWord : List ℕ → Bool
 isWord w = (eqb (length w) 2 || eqb (length w) 3) && allSmall w
 
--- "Fields 3 to 6 are numbers of one to four digits, with no leading zero unless the number is `0`."
+-- "Fields 3 to 6 are numbers of one to [five] digits, with no leading zero unless the number is `0`."
 abbrev pub isDigit : ℕ → Bool
 isDigit b = leb 48 b && leb b 57
 
 abbrev pub maxDigits : ℕ
-maxDigits = 4
+maxDigits = 5
 
 unfoldable pub digits : List ℕ → ℕ → Option ℕ
 digits [] n = some n
@@ -77,21 +77,24 @@ pub record Line (L : Type 0) : Type 0 where
   pub word : List ℕ
   pub fields : Four ℕ
 
--- "Each line has six fields parted by five commas." The first is a letter by the test that the file's letters give.
-unfoldable pub sixFields : {L : Type 0} → (List ℕ → Option L) → List (List ℕ) → Option (Line L)
-sixFields first [] = none
-sixFields first (k ∷ []) = none
-sixFields first (k ∷ w ∷ []) = none
-sixFields first (k ∷ w ∷ a ∷ []) = none
-sixFields first (k ∷ w ∷ a ∷ b ∷ []) = none
-sixFields first (k ∷ w ∷ a ∷ b ∷ c ∷ []) = none
-sixFields first (k ∷ w ∷ a ∷ b ∷ c ∷ d ∷ []) =
+-- "Each line has six fields parted by five commas." The first is a letter by the test that the file's letters give, a number has at most so many digits.
+unfoldable pub sixFields : {L : Type 0} → ℕ → (List ℕ → Option L) → List (List ℕ) → Option (Line L)
+sixFields limit first [] = none
+sixFields limit first (k ∷ []) = none
+sixFields limit first (k ∷ w ∷ []) = none
+sixFields limit first (k ∷ w ∷ a ∷ []) = none
+sixFields limit first (k ∷ w ∷ a ∷ b ∷ []) = none
+sixFields limit first (k ∷ w ∷ a ∷ b ∷ c ∷ []) = none
+sixFields limit first (k ∷ w ∷ a ∷ b ∷ c ∷ d ∷ []) =
     then (first k) λ letter′.
     guard (isWord w)
-    (then (number maxDigits a) λ a′. then (number maxDigits b) λ b′. then (number maxDigits c) λ c′. then (number maxDigits d) λ d′.
+    (then (number limit a) λ a′. then (number limit b) λ b′. then (number limit c) λ c′. then (number limit d) λ d′.
     some (record { letter = letter′; word = w; fields = four a′ b′ c′ d′ }))
-sixFields first (k ∷ w ∷ a ∷ b ∷ c ∷ d ∷ e ∷ fs) = none
+sixFields limit first (k ∷ w ∷ a ∷ b ∷ c ∷ d ∷ e ∷ fs) = none
 
 -- the fields of a line, its LF taken off, in a file with these letters
+abbrev pub shapeWithin : {L : Type 0} → ℕ → List (Named L) → List ℕ → Option (Line L)
+shapeWithin limit known l = sixFields limit (lookup known) (split comma l)
+
 abbrev pub shape : {L : Type 0} → List (Named L) → List ℕ → Option (Line L)
-shape known l = sixFields (lookup known) (split comma l)
+shape = shapeWithin maxDigits

@@ -1,4 +1,4 @@
--- The specification, in the order of document 01; StartUp, Disjunctions, UsedWitnesses and InsideImage are from document 02.
+-- The specification, in the order of document 01; StartUp, Disjunctions, UsedWitnesses, InsideImage and LongNumbers are from document 02.
 pub mod Basics
 pub mod File
 pub mod Words
@@ -16,4 +16,5 @@ pub mod StartUp
 pub mod Disjunctions
 pub mod UsedWitnesses
 pub mod InsideImage
+pub mod LongNumbers
 pub mod Shams

@@ -11,7 +11,7 @@ use Rattle.tableau.specs.declared.Relation.{Relation}
 use Rattle.tableau.specs.declared.Rule.{Rule}
 use Rattle.tableau.specs.declared.Reason.{Reason}
 use Rattle.tableau.specs.Basics.{isSome, Four, every, bytes}
-use Rattle.tableau.specs.File.{Line, letters, inOrder, shape, split, LF, comma, maxBytes}
+use Rattle.tableau.specs.File.{Line, letters, inOrder, maxDigits, shapeWithin, split, LF, comma, maxBytes}
 use Rattle.tableau.specs.Words.{Command, make, assume, disjoin, infer, commandOf}
 use Rattle.tableau.specs.Fields.{Use, unused, place, name, side, clause, term, of, wordFields, sides, clauseFields, ruleUses}
 use Rattle.tableau.specs.Terms.{Place, TermNo, ClauseNo, Table, Term, Literal, literal, Clauses, clauseOf, lastClause, at, numberOf, maxTerms, sortOf, sameSort, written, oneSort}
@@ -216,8 +216,12 @@ runRead σ read = do
   l ← requireSome read Reason.BadShape
   runCommand σ (l .letter) (commandOf (l .letter) (l .word)) (l .fields)
 
+-- a line, with numbers of at most so many digits
+abbrev pub runLineWithin : ℕ → State → List ℕ → Checked State
+runLineWithin limit σ bs = runRead σ (shapeWithin limit letters bs)
+
 abbrev pub runLine : State → List ℕ → Checked State
-runLine σ bs = runRead σ (shape letters bs)
+runLine = runLineWithin maxDigits
 
 -- THE LINES OF A FILE, one after the other: the first that is refused, with its number; or the state after all of them, and how many there are.
 pub data RunEnd (S : Type 0) : Type 0 where
@@ -252,12 +256,15 @@ verdictOn (stopped r i) = refuse r i
 verdictOn (ended σ i) = atEnd σ (σ .status) i
 
 -- check 1: "over 60,000 bytes; line 0, before any line"
-abbrev pub verdictIf : Bool → List ℕ → Verdict
-verdictIf true file = verdictOn (runLines runLine (split LF file) 0 (passed start))
-verdictIf false file = refuse Reason.TooLong 0
+abbrev pub verdictIf : ℕ → Bool → List ℕ → Verdict
+verdictIf limit true file = verdictOn (runLines (runLineWithin limit) (split LF file) 0 (passed start))
+verdictIf limit false file = refuse Reason.TooLong 0
 
-unfoldable pub verdict : List ℕ → Verdict
-verdict file = verdictIf (leb (length file) maxBytes) file
+unfoldable pub verdictWithin : ℕ → List ℕ → Verdict
+verdictWithin limit file = verdictIf limit (leb (length file) maxBytes) file
+
+abbrev pub verdict : List ℕ → Verdict
+verdict = verdictWithin maxDigits
 
 -- THE REPLY, "fields in order: `yes` or `no`, refusal number, line, T lines, A lines [and clauses], S lines, closings"; "the reply gains a last field `place`".
 pub record Reply : Type 0 where
@@ -275,8 +282,11 @@ unfoldable pub replyOf : Verdict → Reply
 replyOf (accept c) = record { isYes = true; number = 0; line = 0; terms = c .terms; assumptions = c .assumptions; steps = c .steps; closings = c .closings; place = 0 }
 replyOf (refuse r i) = record { isYes = false; number = refusalOf r .number; line = i; terms = 0; assumptions = 0; steps = 0; closings = 0; place = refusalOf r .place }
 
+abbrev pub replyWithin : ℕ → List ℕ → Reply
+replyWithin limit file = replyOf (verdictWithin limit file)
+
 unfoldable pub reply : List ℕ → Reply
-reply file = replyOf (verdict file)
+reply = replyWithin maxDigits
 
 abbrev pub replyNumbers : Reply → List ℕ
 replyNumbers r = r .number ∷ r .line ∷ r .terms ∷ r .assumptions ∷ r .steps ∷ r .closings ∷ r .place ∷ []
