@@ -13,4 +13,4 @@ pub mod Computed
 pub mod Loops
 pub mod Ordered
 pub mod FormatComplete
-pub mod ShortFiles
+pub mod DigitLimit

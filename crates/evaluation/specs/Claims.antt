@@ -10,7 +10,7 @@ use Rattle.tableau.specs.File.{Line, letters, shape, split, LF}
 use Rattle.tableau.specs.Terms.{ClauseNo, Literal, clauseOf, at}
 use Rattle.tableau.specs.Meaning.{FiniteHeap, Values, True, AllTrue, AnyTrue, EveryClauseTrue}
 use Rattle.tableau.specs.Reply.{reply}
-use Rattle.tableau.specs.Claims.{allButLast, linesOf, lineLiteral, lineDisjunct, termsIn, literalsIn, clausesIn, ShortNumbers}
+use Rattle.tableau.specs.Claims.{allButLast, linesOf, lineLiteral, lineDisjunct, termsIn, literalsIn, clausesIn, FileWithin}
 use Rattle.evaluation.specs.declared.FactWord.{FactWord}
 use Rattle.evaluation.specs.Facts.{heapLetters, factWords, Facts}
 use Rattle.evaluation.specs.Heaps.{isOrder, heapOf, valuesOf, AsSaid}
@@ -66,5 +66,5 @@ NeverAllTrue evaluator = (file heapFile : List ℕ) → reply file .isYes ≡ tr
 
 -- "Files whose numbers have at most four digits keep their replies": both files
 unfoldable pub KeepsEvaluations : ℕ → Evaluator → Type 0
-KeepsEvaluations limit evaluator = (file heapFile : List ℕ) → ShortNumbers limit file → ShortNumbers limit heapFile
+KeepsEvaluations limit evaluator = (file heapFile : List ℕ) → FileWithin limit file → FileWithin limit heapFile
     → evaluator file heapFile ≡ evaluationWithin limit file heapFile

@@ -27,5 +27,5 @@ pub mod Pieces
 pub mod Decimals
 pub mod BranchRoom
 pub mod ReplyNumbers
-pub mod ShortNumbers
+pub mod DigitLimit
 pub mod Shams

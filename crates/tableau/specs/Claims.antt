@@ -199,19 +199,19 @@ abbrev pub AllOf : {A : Type 0} → (A → Type 0) → List A → Type 0
 AllOf P [] = Unit {0}
 AllOf P (x ∷ xs) = P x × AllOf P xs
 
--- SHORT NUMBERS: on every line, a field behind the word that is all digits has at most so many.
-abbrev pub ShortField : ℕ → List ℕ → Type 0
-ShortField limit p = isSome (digits p 0) ≡ true → length p ≤ limit
+-- FILES WITHIN A LIMIT: on every line, a field behind the word that is all digits has at most so many.
+abbrev pub FieldWithin : ℕ → List ℕ → Type 0
+FieldWithin limit p = isSome (digits p 0) ≡ true → length p ≤ limit
 
-abbrev pub ShortLine : ℕ → List ℕ → Type 0
-ShortLine limit l = AllOf (ShortField limit) (drop 2 (split comma l))
+abbrev pub LineWithin : ℕ → List ℕ → Type 0
+LineWithin limit l = AllOf (FieldWithin limit) (drop 2 (split comma l))
 
-unfoldable pub ShortNumbers : ℕ → List ℕ → Type 0
-ShortNumbers limit file = AllOf (ShortLine limit) (split LF file)
+unfoldable pub FileWithin : ℕ → List ℕ → Type 0
+FileWithin limit file = AllOf (LineWithin limit) (split LF file)
 
--- "Files whose numbers have at most four digits keep their replies", of any number of digits: the reply is what it is where numbers can't have more
+-- "Files whose numbers have at most four digits keep their replies", with 4 as the limit: the reply is the one by which a number can't have more
 unfoldable pub KeepsReplies : ℕ → Checker → Type 0
-KeepsReplies limit checker = (file : List ℕ) → ShortNumbers limit file → checker file ≡ replyWithin limit file
+KeepsReplies limit checker = (file : List ℕ) → FileWithin limit file → checker file ≡ replyWithin limit file
 
 -- "A file is accepted when the checker says yes: its reply line begins with `yes`, or the call returns 0."
 abbrev pub BeginsWithYes : List ℕ → Type 0

@@ -1,4 +1,4 @@
--- Files with short numbers keep their replies: with a larger limit of digits a line that has no longer number is read as before, and the lines of a file lead where they led.
+-- Files within a limit of digits keep their replies under a larger one: each line is read as before, and the lines lead where they led.
 use mathlib.Core.Path.{_≡_, refl, _∙_, ap}
 use mathlib.Core.Bool.{Bool, true, false, not, _&&_, _||_}
 use mathlib.Core.List.{List, [], _∷_}
@@ -13,7 +13,7 @@ use Rattle.tableau.specs.Basics.{isSome, guard, Named, lookup}
 use Rattle.tableau.specs.File.{comma, LF, split, digits, maxDigits, number, Line, letters, maxBytes, sixFields, shapeWithin}
 use Rattle.tableau.specs.Tree.{Checked, refused, passed}
 use Rattle.tableau.specs.Reply.{start, runRead, runLineWithin, runLine, runLines, verdictOn, verdictIf, verdictWithin, replyOf, reply}
-use Rattle.tableau.specs.Claims.{AllOf, ShortField, ShortLine, ShortNumbers, KeepsReplies}
+use Rattle.tableau.specs.Claims.{AllOf, FieldWithin, LineWithin, FileWithin, KeepsReplies}
 
 no-guard : (b c : Bool) → _≡_ {A = Option ℕ} (guard b none) (guard c none)
 no-guard true true = refl
@@ -22,8 +22,8 @@ no-guard false true = refl
 no-guard false false = refl
 
 module _ (limit larger : ℕ) (h : limit ≤ larger) where
-  -- A LINE with short numbers, by either limit
-  number-agrees : (p : List ℕ) → ShortField limit p → number larger p ≡ number limit p
+  -- A LINE within the smaller limit, read by either
+  number-agrees : (p : List ℕ) → FieldWithin limit p → number larger p ≡ number limit p
   unfolding number
   number-agrees [] s = refl
   number-agrees (b ∷ bs) s = which (digits (b ∷ bs) 0) s
@@ -36,7 +36,7 @@ module _ (limit larger : ℕ) (h : limit ≤ larger) where
       which (some n) s = rw (le-leb _ limit (s refl), le-leb _ larger (le-trans (s refl) h)) refl
 
   module _ {L : Type 0} where
-    fields-agree : (first : List ℕ → Option L) (ps : List (List ℕ)) → AllOf (ShortField limit) (drop 2 ps) → sixFields larger first ps ≡ sixFields limit first ps
+    fields-agree : (first : List ℕ → Option L) (ps : List (List ℕ)) → AllOf (FieldWithin limit) (drop 2 ps) → sixFields larger first ps ≡ sixFields limit first ps
     unfolding sixFields
     fields-agree first [] s = refl
     fields-agree first (k ∷ []) s = refl
@@ -48,7 +48,7 @@ module _ (limit larger : ℕ) (h : limit ≤ larger) where
         rw (number-agrees a (s .0), number-agrees b (s .1 .0), number-agrees c (s .1 .1 .0), number-agrees d (s .1 .1 .1 .0)) refl
     fields-agree first (k ∷ w ∷ a ∷ b ∷ c ∷ d ∷ e ∷ ps) s = refl
 
-    pub shape-agrees : (known : List (Named L)) (l : List ℕ) → ShortLine limit l → shapeWithin larger known l ≡ shapeWithin limit known l
+    pub shape-agrees : (known : List (Named L)) (l : List ℕ) → LineWithin limit l → shapeWithin larger known l ≡ shapeWithin limit known l
     shape-agrees known l = fields-agree (lookup known) (split comma l)
 
 -- THE LINES of a file, by two runs that agree on lines of a kind, if all are of that kind
@@ -63,14 +63,14 @@ runs-agree run other P h ((b ∷ bs) ∷ []) i (passed σ) a = refl
 runs-agree run other P h (l ∷ m ∷ ls) i (passed σ) a = ap (runLines run (m ∷ ls) (suc i)) (h σ l (a .0)) ∙ runs-agree run other P h (m ∷ ls) (suc i) (other σ l) (a .1)
 
 -- those of a checker file
-pub check-agrees : (limit : ℕ) → limit ≤ maxDigits → (ls : List (List ℕ)) → AllOf (ShortLine limit) ls
+pub check-agrees : (limit : ℕ) → limit ≤ maxDigits → (ls : List (List ℕ)) → AllOf (LineWithin limit) ls
     → runLines runLine ls 0 (passed start) ≡ runLines (runLineWithin limit) ls 0 (passed start)
 check-agrees limit h ls =
-    runs-agree runLine (runLineWithin limit) (ShortLine limit) (λ σ l s. ap (runRead σ) (shape-agrees limit maxDigits h letters l s)) ls 0 (passed start)
+    runs-agree runLine (runLineWithin limit) (LineWithin limit) (λ σ l s. ap (runRead σ) (shape-agrees limit maxDigits h letters l s)) ls 0 (passed start)
 
 -- "Files whose numbers have at most four digits keep their replies."
 pub keeps-replies : KeepsReplies 4 reply
-unfolding KeepsReplies reply verdictWithin ShortNumbers
+unfolding KeepsReplies reply verdictWithin FileWithin
 keeps-replies file s = ap replyOf (go (leb (length file) maxBytes))
   where
     go : (b : Bool) → verdictIf maxDigits b file ≡ verdictIf 4 b file
