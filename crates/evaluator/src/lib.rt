@@ -1,7 +1,6 @@
 // The evaluator: a heap file tried against the assumptions of a checker file; the build host's call, the reply line.
 mod assumptions;
 mod disjunctions;
-mod part;
 mod trial;
 mod values;
 
@@ -10,9 +9,9 @@ use evaluation_reply::Evaluation;
 use evaluation_reply::refused;
 use file_run::Run;
 use file_run::RunEnd;
-use part::steps_at;
 use reply::Reply;
 use reply::Text;
+use step_prefix::steps_at;
 use tableau::Reason;
 use tree::Tree;
 use trial::read_heap;

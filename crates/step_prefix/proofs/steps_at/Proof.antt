@@ -6,8 +6,8 @@ use mathlib.Core.Path.{sym, _∙_}
 use borrow.Author.Needs.{needs}
 use Rattle.evaluation.specs.Parts.{StepsAhead}
 use Rattle.evaluation.proofs.StepPrefix.{ahead-start, step-here, step-behind, no-step}
-use Rattle.evaluator.proofs.part.steps_at.Statement.{statement}
-use Rattle.evaluator.proofs.part.steps_at.Tie as tie
+use Rattle.step_prefix.proofs.steps_at.Statement.{statement}
+use Rattle.step_prefix.proofs.steps_at.Tie as tie
 
 abbrev Inv-loop : tie.InvT-loop
 Inv-loop file at₀ line-start₀ at line-start = StepsAhead file at line-start × (at ≤ length file)

@@ -10,8 +10,8 @@ use borrow.Author.Needs.{needs}
 use borrow.Author.Tests.{not-true, not-false, eq-eqb, ne-eqb, eqb-true, eqb-false}
 use Rattle.evaluation.specs.Evaluation.{beginsStep}
 use Rattle.evaluation.proofs.StepPrefix.{begins-bytes}
-use Rattle.evaluator.proofs.part.begins_step.Statement.{statement}
-use Rattle.evaluator.proofs.part.begins_step.Tie as tie
+use Rattle.step_prefix.proofs.begins_step.Statement.{statement}
+use Rattle.step_prefix.proofs.begins_step.Tie as tie
 
 -- the byte after `S`, past the file's end 0
 after-S : (file : List ℕ) (i : ℕ) (b : Bool) → b ≡ true → (getD file i 0 ≡ 83) → (b && beginsStep (drop i file)) ≡ eqb 44 (getD file (i + 1) 0)
