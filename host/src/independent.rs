@@ -3,7 +3,7 @@
 //! struck; clauses and the rule `cla` come from the request "Assumptions with
 //! an or in them", the reply's field `place` and the length of the buffer from
 //! "Where is that witness already used?", the rule `fin` from "Finite heaps have
-//! a counting argument".
+//! a counting argument". What "More names" changed in a sentence is in brackets.
 
 use LiteralWord::*;
 
@@ -18,6 +18,9 @@ const MOST_WAITING: usize = 200;
 /// "with at most 8 literals each and 400 C lines"
 const MOST_LITERALS: usize = 8;
 const MOST_C_LINES: usize = 400;
+/// "Fields 3 to 6 are numbers of one to [five] digits". "the number shape up to
+/// five digits everywhere": the heap file's too.
+const MOST_DIGITS: usize = 5;
 /// "The reply buffer becomes 28 bytes."
 const BUFFER_BYTES: usize = 28;
 
@@ -369,10 +372,10 @@ fn shape_word(field: &[u8]) -> Option<&[u8]> {
     Some(field)
 }
 
-/// "Fields 3 to 6 are numbers of one to four digits, with no leading zero
+/// "Fields 3 to 6 are numbers of one to [five] digits, with no leading zero
 /// unless the number is `0`."
 fn shape_number(field: &[u8]) -> Option<u32> {
-    if field.is_empty() || field.len() > 4 {
+    if field.is_empty() || field.len() > MOST_DIGITS {
         return None;
     }
     if field.len() > 1 && field[0] == b'0' {
@@ -497,8 +500,8 @@ fn arguments_of_word(word: TermWord) -> Vec<Argument> {
     }
 }
 
-/// Whether the word takes a name. "A name is 1 to 9999 and is not a term
-/// number."
+/// Whether the word takes a name. "A name is 1 to [99,999] and is not a term
+/// number." No number of five digits is larger.
 pub fn takes_name(word: TermWord) -> bool {
     arguments_of_word(word).contains(&Argument::Name)
 }

@@ -1,6 +1,7 @@
 //! An evaluator of assumptions in a heap, written from document 01 and from the
-//! requests "Try a heap against the assumptions" and "Assumptions with an or in
-//! them" alone, for plainness only. Sentences in quotes are theirs.
+//! requests "Try a heap against the assumptions", "Assumptions with an or in
+//! them" and "More names" alone, for plainness only. Sentences in quotes are
+//! theirs; brackets have what the last of them changed, `[..]` leaves words out.
 
 use std::collections::BTreeSet;
 
@@ -231,7 +232,7 @@ fn out_of_ranges(said: &Said, fact: &Fact) -> bool {
             Kind::Reference => *number < said.references(),
             Kind::Field => *number < said.fields(),
             Kind::Class => *number < said.classes(),
-            // "A name is 1 to 9999"; a number has four digits at most.
+            // "A name is 1 to [99,999]"; a number has five digits at most.
             Kind::Name => *number != 0,
         };
         if !good {

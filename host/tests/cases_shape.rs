@@ -9,6 +9,12 @@ const RULES: [&str; 31] = [
     "rdm", "cls", "emp", "cla", "fin",
 ];
 
+const TERM_WORDS: [&str; 17] = [
+    "nul", "rfv", "rea", "emp", "all", "rgv", "cup", "cap", "dif", "sin", "img", "arv", "wri",
+    "fnv", "clv", "typ", "dty",
+];
+const LITERAL_WORDS: [&str; 6] = ["in", "ni", "eq", "ne", "le", "nl"];
+
 /// The refusals that a file can get.
 fn refusals() -> impl Iterator<Item = usize> {
     (1..=17).chain([21])
@@ -54,8 +60,8 @@ fn count(file: &[u8], start: &str) -> usize {
 
 /// The count that the documents give.
 #[test]
-fn there_are_3_037_files() {
-    assert_eq!(all().len(), 3_037);
+fn there_are_4_993_files() {
+    assert_eq!(all().len(), 4_993);
 }
 
 #[test]
@@ -238,6 +244,48 @@ fn fir_is_refused_as_a_word() {
         }
     }
     assert_eq!(given, HashSet::from([2, 4]));
+}
+
+/// Numbers of four, five and six digits.
+const ENDS: [&str; 4] = ["9999", "10000", "99999", "100000"];
+
+/// Every field of every word has them, on a line that is refused or in an
+/// accepted file.
+#[test]
+fn every_field_has_numbers_at_the_ends() {
+    let mut seen = HashSet::new();
+    for case in all() {
+        let (yes, [_, line, ..]) = parts(&case);
+        let text = String::from_utf8_lossy(&case.file);
+        let lines = text.lines().enumerate();
+        for (_, text) in lines.filter(|(index, _)| yes || index + 1 == line) {
+            let fields: Vec<&str> = text.split(',').collect();
+            let [letter, word, numbers @ ..] = &fields[..] else {
+                continue;
+            };
+            for (field, number) in (3..).zip(numbers) {
+                if ENDS.contains(number) {
+                    seen.insert((format!("{letter},{word}"), field, number.to_string()));
+                }
+            }
+        }
+    }
+    let words: [(&str, &[&str]); 4] = [
+        ("T", &TERM_WORDS),
+        ("A", &LITERAL_WORDS),
+        ("C", &LITERAL_WORDS),
+        ("S", &RULES),
+    ];
+    for (letter, words) in words {
+        for word in words {
+            for field in 3..=6 {
+                for number in ENDS {
+                    let wanted = (format!("{letter},{word}"), field, number.to_string());
+                    assert!(seen.contains(&wanted), "{wanted:?}");
+                }
+            }
+        }
+    }
 }
 
 /// The cuts before the first closing: each leaves one alternative waiting.

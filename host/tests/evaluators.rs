@@ -2,7 +2,10 @@
 //! are accepted and so have no model, and heaps at random. All of it with clauses
 //! too.
 
-use host::evaluators::{evaluators, Reply};
+mod heap_cases;
+
+use cases::digits::names_changed_over;
+use host::evaluators::{evaluators, reply_line, Reply};
 use host::generator::{batch, neighbour, small_tableau, Expected, Tableau};
 use host::heap_lines::{heap_file, heap_lines, said_otherwise};
 use host::independent::check;
@@ -284,6 +287,24 @@ fn replies_agree_with_the_meaning() {
     assert!(lines.len() > 5, "{lines:?}");
     assert!(clauses_false > 50, "{clauses_false}");
     assert!(clauses_true > 50, "{clauses_true}");
+}
+
+/// Which names the variables have changes no reply, where both files change.
+#[test]
+fn names_may_be_changed_over() {
+    let mut changed = 0;
+    for case in heap_cases::all() {
+        let checker = names_changed_over(&case.checker);
+        let heap = names_changed_over(&case.heap);
+        let files = [&case.checker, &case.heap, &checker, &heap];
+        if files.iter().any(|file| file.len() > 60_000) {
+            continue;
+        }
+        let line = reply_line(reply(&checker, &heap));
+        assert_eq!(line, format!("{}\n", case.reply), "{}", case.name);
+        changed += usize::from(heap != case.heap);
+    }
+    assert!(changed > 500, "{changed}");
 }
 
 fn lines_of_terms(file: &[u8]) -> usize {

@@ -54,8 +54,8 @@ fn has(file: &[u8], start: &str) -> bool {
 
 /// The count that the documents give.
 #[test]
-fn there_are_898_pairs() {
-    assert_eq!(all().len(), 898);
+fn there_are_2_333_pairs() {
+    assert_eq!(all().len(), 2_333);
 }
 
 #[test]
@@ -183,4 +183,36 @@ fn every_heap_word_is_used_and_refused() {
         }
     }
     assert_eq!(refused, expected);
+}
+
+/// Numbers of four, five and six digits stand in every field of every word, on a
+/// line that is refused or in a good heap file.
+#[test]
+fn every_field_has_numbers_at_the_ends() {
+    const ENDS: [&str; 4] = ["9999", "10000", "99999", "100000"];
+    let mut seen = HashSet::new();
+    for case in all() {
+        let [_, file, at] = numbers(&case);
+        let text = String::from_utf8_lossy(&case.heap);
+        let lines = text.lines().enumerate();
+        for (_, text) in lines.filter(|(index, _)| file == 0 || file == 2 && index + 1 == at) {
+            let fields: Vec<&str> = text.split(',').collect();
+            let ["D", word, numbers @ ..] = &fields[..] else {
+                continue;
+            };
+            for (field, number) in (3..).zip(numbers) {
+                if ENDS.contains(number) {
+                    seen.insert((word.to_string(), field, number.to_string()));
+                }
+            }
+        }
+    }
+    for word in HEAP_WORDS {
+        for field in 3..=6 {
+            for number in ENDS {
+                let wanted = (word.to_string(), field, number.to_string());
+                assert!(seen.contains(&wanted), "{wanted:?}");
+            }
+        }
+    }
 }

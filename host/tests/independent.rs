@@ -1,10 +1,11 @@
 //! The cases of document 01 with a stated reply, and their neighbours. Expected
 //! replies are worked out by hand from the document, its rule `fir` struck, and
 //! from the requests "Assumptions with an or in them", "Where is that witness
-//! already used?" and "Finite heaps have a counting argument".
+//! already used?", "Finite heaps have a counting argument" and "More names".
 
 mod examples;
 
+use cases::digits::names_changed_over;
 use examples::{file, rule_files, ALLOCATED, F, FIN, G, IMG, OR, RDM, STRUCK, WIT};
 use host::independent::{call, check, reply_line, Reply};
 
@@ -225,7 +226,7 @@ fn example_18() {
 fn side_of_rep() {
     let files = rule_files();
     let rep = files.iter().find(|example| example.rule == "rep").unwrap();
-    for side in ["0", "2", "3", "9999"] {
+    for side in ["0", "2", "3", "9999", "10001", "65537", "99999"] {
         let line = format!("S,rep,1,2,{side},0");
         assert_eq!(check_lines(&with_line(&rep.lines, 7, &line)), no(12, 7));
     }
@@ -691,6 +692,7 @@ fn fir_is_not_known() {
         "S,fir,0,0,0,9999",
         "S,fir,1,0,0,1",
         "S,fir,9999,9999,9999,9999",
+        "S,fir,99999,99999,99999,99999",
     ] {
         assert_eq!(check_lines(&[line]), no(4, 1), "{line}");
         assert_eq!(check_lines(&with_line(&F, 7, line)), no(4, 7), "{line}");
@@ -704,7 +706,7 @@ fn fir_is_not_known() {
         "S,fir,0,0,0",
         "S,fir,0,0,0,1,",
         "S,fir,0,0,0,01",
-        "S,fir,0,0,0,10000",
+        "S,fir,0,0,0,100000",
         "S,Fir,0,0,0,1",
         "S,firs,0,0,0,1",
         "s,fir,0,0,0,1",
@@ -785,7 +787,7 @@ fn shapes() {
         "T,nul,,0,0,0",
         "T,nul,00,0,0,0",
         "T,nul,01,0,0,0",
-        "T,nul,10000,0,0,0",
+        "T,nul,100000,0,0,0",
         "T,nul,00000,0,0,0",
         "T,nul,-1,0,0,0",
         "T,nul,+1,0,0,0",
@@ -859,7 +861,48 @@ fn order_on_t_lines() {
     // cup(r,s) and cup(s,r) are two terms.
     let turned = "T,rgv,1,0,0,0 T,rgv,2,0,0,0 T,cup,1,2,0,0 T,cup,2,1,0,0 T,cap,1,2,0,0";
     assert_eq!(check_text(turned), no(17, 6));
-    assert_eq!(check(b"T,rfv,9999,0,0,0\n"), no(17, 2));
+    for name in ["9999", "10000", "65536", "99999"] {
+        let line = format!("T,rfv,{name},0,0,0");
+        assert_eq!(check_lines(&[&line]), no(17, 2), "{line}");
+        assert_eq!(check_lines(&[&line, &line]), no(10, 2), "{line}");
+    }
+    let cut = "T,rfv,1,0,0,0 T,rfv,10001,0,0,0 T,rfv,16385,0,0,0 T,rfv,65537,0,0,0";
+    assert_eq!(check_text(cut), no(17, 5));
+}
+
+#[test]
+fn five_digits_are_read_whole() {
+    // The right numbers are the last digit and the low 16 bits of these.
+    for (line, number) in [
+        ("S,cpe,10001,0,0,0", 11),
+        ("S,cpe,65537,0,0,0", 11),
+        ("S,ref,0,0,10001,0", 8),
+        ("S,ref,0,0,65537,0", 8),
+        ("S,ref,0,65536,1,0", 6),
+        ("S,cut,0,0,1,65538", 8),
+        ("C,in,1,2,65537,0", 21),
+        ("C,in,1,65538,1,0", 8),
+        ("S,cpe,100001,0,0,0", 2),
+    ] {
+        let changed = with_line(&F, 7, line);
+        assert_eq!(check_lines(&changed), no(number, 7), "{line}");
+    }
+}
+
+/// Which names the variables have changes no reply.
+#[test]
+fn names_may_be_changed_over() {
+    let mut changed = 0;
+    for case in cases::all() {
+        let other = names_changed_over(&case.file);
+        if case.file.len().max(other.len()) > 60_000 {
+            continue;
+        }
+        let reply = reply_line(&check(&other));
+        assert_eq!(reply, format!("{}\n", case.reply), "{}", case.name);
+        changed += usize::from(other != case.file);
+    }
+    assert!(changed > 4_000, "{changed}");
 }
 
 #[test]
@@ -1137,7 +1180,7 @@ fn a_clause_is_split_into_its_literals() {
 #[test]
 fn cla_on_no_clause() {
     // Terms 1 to 3 and places 1 and 2 are no clauses.
-    for clause in ["0", "2", "3", "9999"] {
+    for clause in ["0", "2", "3", "9999", "10001", "65537", "99999"] {
         let line = format!("S,cla,0,0,{clause},0");
         assert_eq!(check_lines(&with_line(&OR, 8, &line)), no(11, 8), "{line}");
     }
@@ -1186,10 +1229,11 @@ fn example_21() {
         let clauses = *numbers.last().unwrap();
         assert_eq!(check(&numbered(numbers)), yes(2, 1 + clauses, 1, 1));
     }
-    let bad: [&[u32]; 9] = [
+    let bad: [&[u32]; 10] = [
         &[0],
         &[2],
         &[9999],
+        &[99999],
         &[1, 0],
         &[1, 3],
         &[1, 2, 1],

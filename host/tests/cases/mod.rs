@@ -2,15 +2,16 @@
 //!
 //! Every reply is worked out by hand from the scope document, its rule `fir`
 //! struck, and from the requests "Assumptions with an or in them", "Where is
-//! that witness already used?" and "Finite heaps have a counting argument". In
-//! comments `3: u in r` says that place 3 of the branch now holds that literal;
-//! beside a closing it is what the next alternative adds. A number beside a T
-//! line is the number of the term.
+//! that witness already used?", "Finite heaps have a counting argument" and
+//! "More names". In comments `3: u in r` says that place 3 of the branch now
+//! holds that literal; beside a closing it is what the next alternative adds. A
+//! number beside a T line is the number of the term.
 
 mod allocated;
 mod clause_freshness;
 mod clause_splits;
 mod clauses;
+pub mod digits;
 mod failings;
 mod fin;
 mod limits;
@@ -43,6 +44,7 @@ pub fn all() -> Vec<Case> {
         clause_freshness::cases(),
         places::cases(),
         fin::cases(),
+        digits::cases(),
     ];
     topics.into_iter().flatten().collect()
 }

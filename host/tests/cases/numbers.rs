@@ -155,7 +155,7 @@ fn shapes_of_a_line() -> Vec<Case> {
         "T,rfv,1,0,0,00",
         "T,rfv,1,0,0,0000",
         "T,rfv,0001,0,0,0",
-        "T,rfv,10000,0,0,0",
+        "T,rfv,100000,0,0,0",
         "T,rfv,1,0,0,00000",
         "T,rfv,18446744073709551617,0,0,0",
         "T,rfv,-1,0,0,0",
@@ -207,9 +207,10 @@ fn shapes_of_a_line() -> Vec<Case> {
         f_with(8, "S,cls,3,2,0,00000", "no,2,8,0,0,0,0,0"),
         f_with(8, "S,clse,3,2,0,0", "no,2,8,0,0,0,0,0"),
         f_with(8, "s,cls,3,2,0,0", "no,2,8,0,0,0,0,0"),
-        // Names of four digits are well shaped.
+        // Names of four and of five digits are well shaped.
         f_with(1, "T,rfv,9999,0,0,0", "yes,0,0,4,2,2,1,0"),
         f_with(1, "T,rfv,1000,0,0,0", "yes,0,0,4,2,2,1,0"),
+        f_with(1, "T,rfv,10000,0,0,0", "yes,0,0,4,2,2,1,0"),
     ]);
     cases
 }
@@ -361,7 +362,7 @@ fn fir_is_no_rule() -> Vec<Case> {
         (7, "S,fir,0,0,0,1,0"),
         (7, "S,fir,0,0,0,01"),
         (7, "S,fir,0,0,0,00"),
-        (7, "S,fir,0,0,0,10000"),
+        (7, "S,fir,0,0,0,100000"),
         (7, "S,fir,0,0,0,-1"),
         (7, "S,fir,0,0,0,1 "),
         (7, "S,fir ,0,0,0,1"),
@@ -402,6 +403,8 @@ fn fir_is_no_rule() -> Vec<Case> {
         "1,1,1,1",
         "3,2,0,0", // the fields of the closing
         "9999,9999,9999,9999",
+        "0,0,0,10000",
+        "99999,99999,99999,99999",
     ] {
         let line = format!("S,fir,{fields}");
         cases.push(f_with(7, &line, "no,4,7,0,0,0,0,0"));
@@ -532,14 +535,14 @@ fn sorts_with(number: usize, line: &str, reply: &'static str) -> Case {
 }
 
 /// The line with another number in a field, 3 to 6.
-fn with_field(line: &str, field: usize, number: usize) -> String {
+pub fn with_field(line: &str, field: usize, number: usize) -> String {
     let mut fields: Vec<String> = line.split(',').map(String::from).collect();
     fields[field - 1] = number.to_string();
     fields.join(",")
 }
 
 /// The numbers in a right line's fields 3 to 6; 0 is an unused field.
-fn numbers_of(line: &str) -> Vec<(usize, usize)> {
+pub fn numbers_of(line: &str) -> Vec<(usize, usize)> {
     let numbers = line.split(',').skip(2).map(|text| text.parse().unwrap());
     (3..=6).zip(numbers).collect()
 }

@@ -7,7 +7,7 @@
 
 use super::{case, lines, with_line, Case};
 
-const TERMS: [&str; 35] = [
+pub const TERMS: [&str; 35] = [
     "T,nul,0,0,0,0",   // 1
     "T,emp,0,0,0,0",   // 2
     "T,all,0,0,0,0",   // 3
@@ -45,7 +45,7 @@ const TERMS: [&str; 35] = [
     "T,rfv,2,0,0,0",   // 35, z: only a right side
 ];
 
-const LITERALS: [&str; 37] = [
+pub const LITERALS: [&str; 37] = [
     "A,in,4,7,0,0",   // 1: u in r
     "A,ni,4,7,0,0",   // 2: u ni r
     "A,in,4,8,0,0",   // 3: u in s

@@ -75,7 +75,7 @@ fn shapes_of_the_first_line() -> Vec<Case> {
         // numbers
         "D,siz,01,1,1,0",
         "D,siz,1,1,1,00",
-        "D,siz,10000,1,1,0",
+        "D,siz,100000,1,1,0",
         "D,siz,,1,1,0",
         "D,siz,1,1,1,",
         "D,siz,-1,1,1,0",
@@ -101,7 +101,7 @@ fn shapes_of_a_later_line() -> Vec<Case> {
         "D,alc,1,0,0",
         "D,alc,1,0,0,0,0",
         "D,alc,01,0,0,0",
-        "D,rfv,10000,1,0,0",
+        "D,rfv,100000,1,0,0",
         "D,alcc,1,0,0,0",
         "D,a,1,0,0,0",
         // Lines of the checker file. Nothing stops the reading here.

@@ -2,11 +2,12 @@
 //! that it must get.
 //!
 //! Every reply is worked out by hand from document 01 and from the requests "Try
-//! a heap against the assumptions" and "Assumptions with an or in them". A number
-//! beside a T line is the number of the term.
+//! a heap against the assumptions", "Assumptions with an or in them" and "More
+//! names". A number beside a T line is the number of the term.
 
 mod checker_file;
 mod clauses;
+mod digits;
 mod heap_file;
 mod order;
 mod ranges;
@@ -30,6 +31,7 @@ pub fn all() -> Vec<Case> {
         checker_file::cases(),
         order::cases(),
         clauses::cases(),
+        digits::cases(),
     ];
     topics.into_iter().flatten().collect()
 }
