@@ -17,6 +17,7 @@ pub mod independent_figures;
 pub mod meaning;
 pub mod models;
 pub mod nights;
+pub mod numbers;
 #[cfg(reading_alone)]
 pub mod proved_reader;
 pub mod random;

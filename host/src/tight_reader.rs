@@ -2,12 +2,14 @@
 //! every byte is looked at once, and the end of the file is tested for once in
 //! a line.
 
+use crate::numbers::MOST_DIGITS;
+
 /// What a file gives that has a badly shaped line.
 pub const BAD_SHAPE: u64 = u64::MAX;
 
 /// The bytes of the longest line: a letter, a word of three letters, four
-/// numbers of four digits, five commas, LF.
-const LONGEST: usize = 26;
+/// numbers, five commas, LF.
+const LONGEST: usize = 1 + 3 + 4 * MOST_DIGITS + 5 + 1;
 
 /// So many bytes from the start of a line on. Every position in it is known to
 /// be inside, so that none is tested.
@@ -73,7 +75,10 @@ fn head(window: &Window) -> Option<Read> {
     }
 }
 
-/// A number of one to four digits, and the byte that ends it.
+// Written out for five digits: a loop takes half as many instructions again.
+const _: () = assert!(MOST_DIGITS == 5);
+
+/// A number, and the byte that ends it.
 #[inline(always)]
 fn number(window: &Window, at: usize, end: u8) -> Option<Read> {
     let first = digit(window[at])?;
@@ -92,7 +97,11 @@ fn number(window: &Window, at: usize, end: u8) -> Option<Read> {
         return Some((three, at + 4));
     }
     let four = 10 * three + digit(window[at + 3])?;
-    (window[at + 4] == end).then_some((four, at + 5))
+    if window[at + 4] == end {
+        return Some((four, at + 5));
+    }
+    let five = 10 * four + digit(window[at + 4])?;
+    (window[at + 5] == end).then_some((five, at + 6))
 }
 
 #[inline(always)]

@@ -4,7 +4,7 @@
 /// bits.
 pub type Literal = u32;
 
-const NUMBER_BITS: u32 = 10;
+pub const NUMBER_BITS: u32 = 10;
 const NUMBER: Literal = (1 << NUMBER_BITS) - 1;
 const RELATION: u32 = 2 * NUMBER_BITS;
 

@@ -1,12 +1,17 @@
 //! Terms as numbers.
 
-/// A term as one number: its head, and above it four fields of 14 bits, wide
-/// enough for a name.
+use super::literals::NUMBER_BITS;
+use crate::numbers::GREATEST;
+
+/// A term as one number: its head, and above it four fields for term numbers,
+/// the first one highest. A name has the first field and all bits above it.
 pub type Packed = u64;
 
 const HEAD_BITS: u32 = 8;
 const WORD_BITS: u32 = 5;
-const FIELD_BITS: u32 = 14;
+const FIELDS: u32 = 4;
+
+const _: () = assert!((GREATEST as Packed) < 1 << (Packed::BITS - shift(0)));
 
 #[derive(Clone, Copy, PartialEq, Eq)]
 pub enum Sort {
@@ -45,6 +50,7 @@ pub const WRI: Head = head(14, Sort::Heap);
 pub const TYP: Head = head(15, Sort::Class);
 pub const DTY: Head = head(16, Sort::Class);
 
+/// Each field must be a term number, or the only one a name: nothing is cut off.
 #[inline(always)]
 pub fn pack<const N: usize>(Head(head): Head, fields: [u32; N]) -> Packed {
     let mut packed = head;
@@ -55,7 +61,7 @@ pub fn pack<const N: usize>(Head(head): Head, fields: [u32; N]) -> Packed {
 }
 
 const fn shift(index: usize) -> u32 {
-    HEAD_BITS + index as u32 * FIELD_BITS
+    HEAD_BITS + (FIELDS - 1 - index as u32) * NUMBER_BITS
 }
 
 const fn low_bits(count: u32) -> Packed {
@@ -77,10 +83,16 @@ pub fn same_head(left: Packed, right: Packed) -> bool {
     (left ^ right) & low_bits(HEAD_BITS) == 0
 }
 
-/// The field of this index, from 0.
+/// The term number in the field of this index, from 0.
 #[inline(always)]
 pub fn field(packed: Packed, index: usize) -> u32 {
-    (packed >> shift(index) & low_bits(FIELD_BITS)) as u32
+    (packed >> shift(index) & low_bits(NUMBER_BITS)) as u32
+}
+
+/// The name of a variable.
+#[inline(always)]
+pub fn name(packed: Packed) -> u32 {
+    (packed >> shift(0)) as u32
 }
 
 #[inline(always)]

@@ -1,6 +1,10 @@
 //! Lines taken apart in one pass over the bytes.
 
 use super::refusal::{ensure, Refusal};
+use crate::numbers::MOST_DIGITS;
+
+/// The bytes of the longest field: a number, and the byte that ends it.
+const LONGEST: usize = MOST_DIGITS + 1;
 
 /// A line with the right numbers and end. Whether its letter and its word have
 /// the right shape is asked only when they turn out to be none of those known.
@@ -80,10 +84,10 @@ impl<'a> Reader<'a> {
         self.file.get(start..start + N)?.try_into().ok()
     }
 
-    /// A number of one to four digits, and the byte that ends it.
+    /// A number, and the byte that ends it.
     #[inline(always)]
     fn field(&mut self, end: u8) -> Result<u32, Refusal> {
-        let Some(&[a, b, c, d, e]) = self.ahead() else {
+        let Some(&[a, b, c, d, e, f]) = self.ahead::<LONGEST>() else {
             let (field, bytes) = last_field(self.file, self.position, end)?;
             self.position += bytes;
             return Ok(field);
@@ -97,11 +101,15 @@ impl<'a> Reader<'a> {
         } else if d == end {
             self.position += 4;
             Ok(100 * first_digit(a)? + 10 * digit(b)? + digit(c)?)
-        } else {
-            ensure(e == end, Refusal::Shape)?;
+        } else if e == end {
             self.position += 5;
             let high = 10 * first_digit(a)? + digit(b)?;
             Ok(100 * high + 10 * digit(c)? + digit(d)?)
+        } else {
+            ensure(f == end, Refusal::Shape)?;
+            self.position += 6;
+            let high = 100 * first_digit(a)? + 10 * digit(b)? + digit(c)?;
+            Ok(100 * high + 10 * digit(d)? + digit(e)?)
         }
     }
 }
@@ -127,7 +135,7 @@ fn first_digit(byte: u8) -> Result<u32, Refusal> {
 #[cold]
 fn last_field(file: &[u8], position: u32, end: u8) -> Result<(u32, u32), Refusal> {
     let rest = &file[position as usize..];
-    let mut padded = [0; 5];
+    let mut padded = [0; LONGEST];
     padded[..rest.len()].copy_from_slice(rest);
     let mut reader = Reader::new(&padded);
     let field = reader.field(end)?;

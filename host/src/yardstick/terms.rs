@@ -1,5 +1,6 @@
 //! The table of terms, and the T lines that fill it.
 
+use super::literals::NUMBER_BITS;
 use super::packing::{
     has_sort, pack, Head, Packed, Sort, ALL, ARV, CAP, CLV, CUP, DIF, DTY, EMP, FNV, IMG, NUL, REA,
     RFV, RGV, SIN, TYP, WRI,
@@ -9,8 +10,8 @@ use super::refusal::{ensure, unused, Refusal};
 use super::words::term as word;
 
 pub const MOST_TERMS: usize = 600;
-/// A number of ten bits, as a literal holds it, is an index without a test.
-pub const NUMBERS: usize = 1 << 10;
+/// A number of as many bits as a literal holds is an index without a test.
+pub const NUMBERS: usize = 1 << NUMBER_BITS;
 
 pub struct Terms {
     count: usize,

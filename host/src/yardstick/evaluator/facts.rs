@@ -1,13 +1,14 @@
 //! What the D lines say, in their order.
 
 use super::super::refusal::{ensure, Refusal};
+use crate::numbers::GREATEST;
 
 /// What a D line speaks of: its word, a name, a reference and a field.
 pub type Key = u64;
 
 pub const FIELD_BITS: u32 = 4;
 pub const REFERENCE_BITS: u32 = 6;
-const NAME_BITS: u32 = 14;
+const NAME_BITS: u32 = GREATEST.ilog2() + 1;
 const NAME: u32 = FIELD_BITS + REFERENCE_BITS;
 const WORD: u32 = NAME + NAME_BITS;
 

@@ -2,8 +2,8 @@
 
 use super::super::literals::{left, relation, right, Literal, Relation};
 use super::super::packing::{
-    field, has_sort, head_of, Packed, Sort, ALL, ARV, CAP, CLV, CUP, DIF, DTY, FNV, IMG, REA, RFV,
-    RGV, SIN, TYP, WRI,
+    field, has_sort, head_of, name, Packed, Sort, ALL, ARV, CAP, CLV, CUP, DIF, DTY, FNV, IMG, REA,
+    RFV, RGV, SIN, TYP, WRI,
 };
 use super::super::terms::{Terms, NUMBERS};
 use super::facts::{Word, FIELD_BITS};
@@ -38,7 +38,7 @@ impl Values {
     /// The value of a term whose arguments have theirs.
     #[inline(always)]
     fn of_term(&mut self, term: Packed, heap: &Heap, having: &[u64; MOST_FIELDS]) -> u64 {
-        let name = field(term, 0);
+        let name = name(term);
         let [a, b, c] = [0, 1, 2].map(|index| self.number(field(term, index)));
         match head_of(term) {
             RFV => heap.facts.value(Word::Rfv, name),
