@@ -3,6 +3,7 @@
 //! expected of a file comes from how it was made, never from a checker. `heaps`
 //! makes pairs of files for the evaluators.
 
+mod aliases;
 mod builder;
 mod clause_damage;
 mod clause_limits;

@@ -1,6 +1,8 @@
 //! A seeded source of random numbers (SplitMix64), so that every file can be
 //! made again from its seed.
 
+use crate::numbers::MOST_DIGITS;
+
 pub struct Random(u64);
 
 impl Random {
@@ -44,10 +46,10 @@ impl Random {
         }
     }
 
-    /// A number with one to four digits, each count of digits as likely as any
-    /// other, never 0.
+    /// A number of a line, each count of digits as likely as any other, never
+    /// 0.
     pub fn digits(&mut self) -> u32 {
-        let least = self.pick(&[1, 10, 100, 1_000]);
+        let least = 10_usize.pow(self.below(MOST_DIGITS) as u32);
         (least + self.below(9 * least)) as u32
     }
 }

@@ -142,7 +142,10 @@ fn a_line_is_checked_in_the_order_of_the_numbers() {
         ("D,clv,1,2,0,0\n", 19),
         ("D,rgv,1,0,0,0\n", 19),
         ("D,rgv,1,1,0,0\n", 19),
-        ("D,rgv,1,9999,0,0\n", 19),
+        ("D,rgv,1,99999,0,0\n", 19),
+        ("D,rgv,1,65537,0,0\n", 19),
+        ("D,rfv,100000,0,0,0\n", 2),
+        ("D,rfv,1,100000,0,0\n", 2),
         ("D,arv,0,0,0,0\n", 19),
         ("D,arv,1,3,0,0\n", 19),
         ("D,arv,1,0,2,0\n", 19),
@@ -165,7 +168,12 @@ fn a_subject_is_given_once() {
         ("D,sub,0,1,0,0\n", "D,sub,0,2,0,0\n", 0),
         ("D,rfv,7,1,0,0\n", "D,rfv,7,2,0,0\n", 19),
         ("D,rfv,7,1,0,0\n", "D,fnv,7,1,0,0\n", 0),
-        ("D,fnv,9999,1,0,0\n", "D,fnv,9999,1,0,0\n", 19),
+        ("D,fnv,99999,1,0,0\n", "D,fnv,99999,1,0,0\n", 19),
+        ("D,fnv,99999,1,0,0\n", "D,fnv,9999,1,0,0\n", 0),
+        ("D,rfv,10001,1,0,0\n", "D,rfv,1,1,0,0\n", 0),
+        ("D,rfv,12345,1,0,0\n", "D,rfv,12346,1,0,0\n", 0),
+        ("D,clv,16385,1,0,0\n", "D,clv,1,1,0,0\n", 0),
+        ("D,arv,65537,1,0,1\n", "D,arv,1,1,0,1\n", 0),
         ("D,clv,7,1,0,0\n", "D,clv,7,1,0,0\n", 19),
         ("D,arv,7,1,0,1\n", "D,arv,7,1,0,0\n", 19),
         ("D,arv,7,1,0,1\n", "D,arv,7,1,1,1\n", 0),
@@ -188,6 +196,31 @@ fn classes_are_in_a_partial_order() {
     let order = format!("{sizes}D,sub,0,1,0,0\nD,sub,1,2,0,0\nD,sub,0,2,0,0\n");
     expect("", &order, [0, 0, 0]);
     refused(&format!("{order}D,alc,1,0,0,0\n"), 19, 5);
+}
+
+/// A value is that of the whole name, not of one that shares digits or bits.
+#[test]
+fn names_are_told_apart() {
+    let heap = "D,siz,3,1,1,0\nD,alc,1,0,0,0\nD,alc,2,0,0,0\n";
+    for (name, other) in [
+        (1, 10_001),
+        (1, 16_385),
+        (1, 65_537),
+        (9_999, 99_999),
+        (1_234, 12_345),
+        (12_345, 12_346),
+    ] {
+        for [name, other] in [[name, other], [other, name]] {
+            let checker = format!(
+                "T,rfv,{name},0,0,0\nT,rgv,{name},0,0,0\nT,rfv,{other},0,0,0\nT,nul,0,0,0,0\n\
+                 A,in,1,2,0,0\nA,ne,1,3,0,0\nA,ne,1,4,0,0\nA,eq,3,4,0,0\n"
+            );
+            let given = format!("{heap}D,rfv,{name},1,0,0\nD,rgv,{name},1,0,0\n");
+            expect(&checker, &given, [0, 0, 0]);
+            let elsewhere = format!("{given}D,rfv,{other},2,0,0\nD,rgv,{other},2,0,0\n");
+            expect(&checker, &elsewhere, [0, 0, 8]);
+        }
+    }
 }
 
 /// Reference 1 of class 0, 2 of class 1; field 0 is of class 0, which is under

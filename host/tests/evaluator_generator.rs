@@ -1,11 +1,16 @@
 //! The pairs of files for the evaluators have what they are made for, all
 //! evaluators agree on them, and evaluators that are wrong are found.
 
+mod name_parts;
+mod other_numbers;
+
 use std::collections::{BTreeMap, BTreeSet};
 
 use host::evaluators::evaluators;
 use host::generator::heaps::{pairs, Pair, WORDS};
 use host::yardstick::evaluator::evaluate;
+use name_parts::PARTS;
+use other_numbers::{five_digits_refused, numbers_of_16_bits, six_digits_taken, with_names};
 
 type Evaluator = fn(&[u8], &[u8]) -> [u32; 3];
 
@@ -198,10 +203,45 @@ fn all_sizes_from_one_to_the_limits_are_tried() {
     assert!(sizes.len() > 50, "{} different sizes", sizes.len());
 }
 
-/// A pair with every kind of line.
-const CHECKER: &[u8] = b"T,rfv,1,0,0,0\nT,rgv,2,0,0,0\nA,in,1,2,0,0\n\
+/// The words and names of the variables on lines of a letter.
+fn names(file: &[u8], letter: &str) -> BTreeSet<(String, usize)> {
+    let text = String::from_utf8_lossy(file);
+    let variable = |line: &str| match line.split(',').collect::<Vec<&str>>()[..] {
+        [of, word @ ("rfv" | "rgv" | "arv" | "fnv" | "clv"), name, ..] if of == letter => {
+            Some((word.to_string(), name.parse().ok()?))
+        }
+        _ => None,
+    };
+    text.lines().filter_map(variable).collect()
+}
+
+/// A D line gives a name that no T line has, but that shares a part with one
+/// that does.
+#[test]
+fn names_are_easily_confused() {
+    let mut shared = PARTS.map(|_| 0);
+    for pair in some_pairs() {
+        if evaluate(&pair.checker, &pair.heap)[0] != 0 {
+            continue;
+        }
+        let (terms, facts) = (names(&pair.checker, "T"), names(&pair.heap, "D"));
+        let others: Vec<_> = facts.difference(&terms).collect();
+        for (count, (_, of)) in shared.iter_mut().zip(PARTS) {
+            let parts: BTreeSet<_> = terms.iter().map(|(word, name)| (word, of(*name))).collect();
+            let mut shares = others.iter().map(|(word, name)| (word, of(*name)));
+            *count += usize::from(shares.any(|other| parts.contains(&other)));
+        }
+    }
+    for (count, (part, _)) in shared.into_iter().zip(PARTS) {
+        println!("{count} pairs with names that share {part}");
+        assert!(count >= 40, "{count} {part}");
+    }
+}
+
+/// A pair with every kind of line; a byte more makes its longest name too long.
+const CHECKER: &[u8] = b"T,rfv,1,0,0,0\nT,rgv,65538,0,0,0\nA,in,1,2,0,0\n\
     C,ni,1,2,1,0\nC,eq,1,1,1,0\nC,in,1,2,2,0\nS,cls,1,2,0,0\n";
-const HEAP: &[u8] = b"D,siz,12,2,2,0\nD,alc,1,0,0,0\nD,sub,0,1,0,0\nD,rgv,2,1,0,0\n\
+const HEAP: &[u8] = b"D,siz,12,2,2,0\nD,alc,1,0,0,0\nD,sub,0,1,0,0\nD,rgv,65538,1,0,0\n\
     D,rfv,1,1,0,0\nD,arv,1,11,1,10\n";
 
 /// Every byte of each file made every other, and every byte put in.
@@ -326,7 +366,7 @@ fn any_word(checker: &[u8], heap: &[u8]) -> [u32; 3] {
     without_refusal(checker, heap, 4)
 }
 
-const WRONG: [(&str, Evaluator); 11] = [
+const WRONG: [(&str, Evaluator); 18] = [
     ("true to all", all_true),
     ("lines from 0", line_from_0),
     ("the place for the line", place_for_line),
@@ -338,6 +378,27 @@ const WRONG: [(&str, Evaluator); 11] = [
     ("bad D lines left out", any_fact),
     ("any order of classes", any_order),
     ("unknown words left out", any_word),
+    ("the last four digits of a name given", |checker, heap| {
+        evaluate(checker, &with_names(heap, |name| name % 10_000))
+    }),
+    ("the first four digits of a name given", |checker, heap| {
+        evaluate(checker, &with_names(heap, |name| name / 10))
+    }),
+    ("14 bits of a name given", |checker, heap| {
+        evaluate(checker, &with_names(heap, |name| name % (1 << 14)))
+    }),
+    ("16 bits of a name given", |checker, heap| {
+        evaluate(checker, &with_names(heap, |name| name % (1 << 16)))
+    }),
+    ("16 bits of other numbers", |checker, heap| {
+        evaluate(checker, &numbers_of_16_bits(heap))
+    }),
+    ("five digits refused", |checker, heap| {
+        evaluate(checker, &five_digits_refused(heap))
+    }),
+    ("six digits taken", |checker, heap| {
+        evaluate(checker, &six_digits_taken(heap))
+    }),
 ];
 
 /// Alone against what is known, and beside the yardstick.

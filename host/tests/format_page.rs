@@ -10,6 +10,7 @@ use std::collections::BTreeSet;
 use std::fs;
 use std::path::Path;
 use std::process::Command;
+use std::sync::LazyLock;
 
 use built::{built, reply};
 use constants::constants;
@@ -63,6 +64,13 @@ const NAME: u32 = 7;
 /// Every number so far is good, but nothing is closed.
 const OPEN: u32 = 17;
 
+/// As the page has it; a number more is one digit more.
+static GREATEST_NAME: LazyLock<u32> = LazyLock::new(|| {
+    let (_, names) = PAGE.split_once("A name is 1 to ").expect("the names");
+    let (greatest, _) = names.split_once('.').expect("a sentence");
+    greatest.parse().expect("a number")
+});
+
 fn variables() -> Vec<String> {
     VARIABLES.map(|word| line('T', word, [1, 0, 0, 0])).to_vec()
 }
@@ -103,7 +111,10 @@ fn expect_fields(letter: char, word: &str, arguments: &[&str]) {
         };
         match arguments.get(at) {
             None => assert_eq!(with(1), 6, "{word} {at}"),
-            Some(&"name") => assert_eq!([with(0), with(9999)], [8, OPEN], "{word}"),
+            Some(&"name") => {
+                let names = [0, *GREATEST_NAME, *GREATEST_NAME + 1];
+                assert_eq!(names.map(with), [8, OPEN, 2], "{word}");
+            }
             Some(sort) => {
                 assert_eq!([with(0), with(6)], [8, 8], "{word} {at}");
                 for other in (1..=5).filter(|other| *other != term(sort)) {
@@ -112,6 +123,16 @@ fn expect_fields(letter: char, word: &str, arguments: &[&str]) {
             }
         }
     }
+}
+
+/// The first example is a line, the others are not.
+#[test]
+fn lines_and_what_are_none() {
+    let mut paragraphs = PAGE.lines();
+    let examples = paragraphs.find(|line| line.contains("is a line.")).unwrap();
+    let lines = examples.split('`').skip(1).step_by(2);
+    let numbers: Vec<u32> = lines.map(|line| number(&[line.to_string()])).collect();
+    assert_eq!(numbers, [8, 2, 2, 2, 2]);
 }
 
 #[test]
@@ -203,7 +224,7 @@ fn range(cell: &str) -> [u32; 2] {
         "reference" => [0, SIZES[0] - 1],
         "field" => [0, SIZES[1] - 1],
         "class" => [0, SIZES[2] - 1],
-        "name" => [1, 9999],
+        "name" => [1, *GREATEST_NAME],
         _ => {
             let (least, greatest) = cell.split_once(" to ").expect(cell);
             [least, greatest].map(|number| number.parse().expect(cell))
@@ -267,9 +288,8 @@ fn d_lines() {
                 continue;
             }
             let [least, greatest] = range(cell);
-            if greatest < 9999 {
-                assert_eq!(with(greatest + 1), 19, "{word} {at}");
-            }
+            let beyond = if greatest == *GREATEST_NAME { 2 } else { 19 };
+            assert_eq!(with(greatest + 1), beyond, "{word} {at}");
             if least > 0 {
                 assert_eq!([with(least - 1), with(least)], [19, 0], "{word} {at}");
             }

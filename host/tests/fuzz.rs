@@ -1,6 +1,8 @@
 //! Compares the checkers on files made by the generator, and shows that the
 //! comparison finds checkers that are wrong.
 
+mod other_numbers;
+
 use std::collections::BTreeSet;
 use std::thread;
 
@@ -9,6 +11,7 @@ use host::checkers::{plain_rust, Checker, CHECKERS};
 use host::comparison::compare;
 use host::generator::{batch, FORMER_RULE, RULES};
 use host::soundness::try_meaning;
+use other_numbers::{five_digits_refused, numbers_of_16_bits, six_digits_taken, with_names};
 
 const FILES: usize = 20_000;
 const SMALL_TABLEAUX: usize = 600;
@@ -66,8 +69,8 @@ fn a_variable_at_random_is_fresh_in_some_files() {
 }
 
 /// A file with a line of each letter, and one that is refused after the tree
-/// is closed.
-const SMALL: &[u8] = b"T,rfv,1,0,0,0\nT,rgv,20,0,0,0\nA,in,1,2,0,0\nA,ni,1,2,0,0\n\
+/// is closed; a byte more makes its longest name too long.
+const SMALL: &[u8] = b"T,rfv,1,0,0,0\nT,rgv,65537,0,0,0\nA,in,1,2,0,0\nA,ni,1,2,0,0\n\
     C,in,1,2,1,0\nC,ni,1,2,1,0\nC,eq,1,1,2,0\n\
     S,ref,0,0,1,0\nS,cla,0,0,1,0\nS,cls,1,2,0,0\nS,cls,1,4,0,0\nS,cut,0,0,1,2\n";
 
@@ -355,7 +358,7 @@ fn fin_needs_its_union(file: &[u8]) -> Numbers {
     reply
 }
 
-const WRONG: [Checker; 19] = [
+const WRONG: [Checker; 26] = [
     ("yes to all", yes_to_all),
     ("no to all", no_to_all),
     ("60,000 bytes are too many", too_long_early),
@@ -375,6 +378,27 @@ const WRONG: [Checker; 19] = [
     ("the sides of fin exchanged", fin_either_way),
     ("a denial for fin", fin_on_a_denial),
     ("12 for 14 at fin", fin_needs_its_union),
+    ("the last four digits of a name", |file| {
+        plain_rust(&with_names(file, |name| name % 10_000))
+    }),
+    ("the first four digits of a name", |file| {
+        plain_rust(&with_names(file, |name| name / 10))
+    }),
+    ("14 bits of a name", |file| {
+        plain_rust(&with_names(file, |name| name % (1 << 14)))
+    }),
+    ("16 bits of a name", |file| {
+        plain_rust(&with_names(file, |name| name % (1 << 16)))
+    }),
+    ("16 bits of other numbers", |file| {
+        plain_rust(&numbers_of_16_bits(file))
+    }),
+    ("five digits refused", |file| {
+        plain_rust(&five_digits_refused(file))
+    }),
+    ("six digits taken", |file| {
+        plain_rust(&six_digits_taken(file))
+    }),
 ];
 
 /// Alone against what is known beforehand, and beside the plain checker.

@@ -1,10 +1,13 @@
 //! The generator's files have what they are made for. All is read from the
 //! text of the files; no checker is run.
 
+mod name_parts;
+
 use std::collections::{BTreeMap, BTreeSet, HashSet};
 use std::sync::LazyLock;
 
 use host::generator::{batch, not_fresh, refusal, Expected, Sample, FORMER_RULE};
+use name_parts::PARTS;
 
 const BATCHES: u64 = 800;
 const SEED: u64 = 7;
@@ -84,8 +87,7 @@ fn deepest_term(file: &[Line]) -> usize {
     let mut depths = vec![0];
     for (letter, word, numbers) in file {
         if letter == "T" {
-            let named = matches!(word.as_str(), "rfv" | "rgv" | "arv" | "fnv" | "clv");
-            let inside = if named { &[0; 4] } else { numbers };
+            let inside = if is_variable(word) { &[0; 4] } else { numbers };
             let depth = 1 + inside.iter().map(|number| depths[*number]).max().unwrap();
             depths.push(depth);
         }
@@ -100,6 +102,10 @@ fn takes_again(file: &[Line]) -> bool {
         let takes = letter == "S" && matches!(word.as_str(), "ext" | "wit");
         takes && !taken.insert(numbers[3])
     })
+}
+
+fn is_variable(word: &str) -> bool {
+    matches!(word, "rfv" | "rgv" | "arv" | "fnv" | "clv")
 }
 
 fn digits(number: usize) -> usize {
@@ -164,18 +170,90 @@ fn clauses_are_varied() {
 fn names_and_places_of_every_length() {
     let (mut names, mut places) = (BTreeSet::new(), BTreeSet::new());
     for (letter, word, numbers) in accepted_files().into_iter().flatten() {
-        let named = matches!(word.as_str(), "rfv" | "rgv" | "arv" | "fnv" | "clv");
-        if letter == "T" && named {
+        if letter == "T" && is_variable(&word) {
             names.insert(digits(numbers[0]));
         }
         if letter == "S" && numbers[0] > 0 {
             places.insert(digits(numbers[0]));
         }
     }
-    assert_eq!(names, BTreeSet::from([1, 2, 3, 4]));
+    assert_eq!(names, BTreeSet::from([1, 2, 3, 4, 5]));
     assert!(places.is_superset(&BTreeSet::from([1, 2, 3])));
     let ends_at_1000 = |line: &Line| line.1 == "cls" && line.2[1] == 1_000;
     assert!(accepted_files().iter().flatten().any(ends_at_1000));
+}
+
+/// The names of the variables of each word.
+fn names(file: &[Line]) -> BTreeMap<&str, BTreeSet<usize>> {
+    let mut names: BTreeMap<&str, BTreeSet<usize>> = BTreeMap::new();
+    for (letter, word, numbers) in file {
+        if letter == "T" && is_variable(word) {
+            names.entry(word).or_default().insert(numbers[0]);
+        }
+    }
+    names
+}
+
+/// Names that differ, and not in what a checker with too little room keeps.
+#[test]
+fn names_are_easily_confused() {
+    let files = accepted_files();
+    let count = |asked: &dyn Fn(&BTreeSet<usize>) -> bool| {
+        let has = |file: &&Vec<Line>| names(file).values().any(asked);
+        files.iter().filter(has).count()
+    };
+    for (part, of) in PARTS {
+        let shared = count(&|names| {
+            let parts: BTreeSet<usize> = names.iter().map(|name| of(*name)).collect();
+            parts.len() < names.len()
+        });
+        println!("{shared} files with two names that share {part}");
+        assert!(shared >= 40, "{shared} {part}");
+    }
+    for edge in [9_999, 10_000, 99_999] {
+        let with_it = count(&|names| names.contains(&edge));
+        println!("{with_it} files with the name {edge}");
+        assert!(with_it >= 40, "{with_it} {edge}");
+    }
+}
+
+/// Numbers that name nothing have five digits often.
+#[test]
+fn long_numbers_stand_everywhere() {
+    for kind in [
+        "an unused field",
+        "a number of no term",
+        "a place not on the branch",
+        "a split of no clause",
+        "a gap in the clauses",
+        "no side of a literal",
+    ] {
+        let samples = samples_of(kind);
+        let refused = samples.iter().map(|(sample, file)| match sample.expected {
+            Expected::Reply([_, line, ..]) => &file[line as usize - 1],
+            expected => panic!("{kind}: {expected:?}"),
+        });
+        let has_five = |(_, word, numbers): &&Line| {
+            let first = usize::from(is_variable(word));
+            numbers[first..].iter().any(|number| digits(*number) == 5)
+        };
+        let long = refused.filter(has_five).count();
+        println!("{kind}: {long} of {}", samples.len());
+        assert!(long >= 3, "{kind}: {long}");
+    }
+}
+
+/// A line is misshapen in one field: here by a digit too many.
+#[test]
+fn six_digits_stand_in_misshapen_lines() {
+    let samples = SAMPLES.iter();
+    let misshapen = samples.filter(|sample| sample.kind == "a line misshapen");
+    let has_six = |sample: &&Sample| {
+        let mut fields = sample.bytes.split(|byte| !byte.is_ascii_digit());
+        fields.any(|digits| digits.len() == 6)
+    };
+    let count = misshapen.filter(has_six).count();
+    assert!(count >= 5, "{count}");
 }
 
 /// Every kind of damage, of noise and of file at a limit.
@@ -287,8 +365,7 @@ fn lines_with(file: &[Line], letter: &str, w: usize) -> Vec<usize> {
     let mut with_w = HashSet::from([w]);
     let terms = file.iter().filter(|line| line.0 == "T");
     for (index, (_, word, numbers)) in terms.enumerate() {
-        let named = matches!(word.as_str(), "rfv" | "rgv" | "arv" | "fnv" | "clv");
-        if !named && numbers.iter().any(|number| with_w.contains(number)) {
+        if !is_variable(word) && numbers.iter().any(|number| with_w.contains(number)) {
             with_w.insert(index + 1);
         }
     }

@@ -25,12 +25,13 @@ fn no_line_gives_nothing() {
 }
 
 /// "rfv" is 0x76_66_72, "in" is 0x6e_69; 12 is 0x000c, 34 is 0x0022, 567 is
-/// 0x0237, 8901 is 0x22c5.
+/// 0x0237, 8901 is 0x22c5, 98765 is 0x1_81cd.
 #[test]
 fn words_and_numbers_are_mixed() {
     assert_eq!(read(b"T,rfv,1,0,0,0\n"), 0x76_66_73);
     assert_eq!(read(b"A,in,12,34,567,8901\n"), 0x4e_b5);
     assert_eq!(read(b"T,rfv,1,0,0,0\nA,in,12,34,567,8901\n"), 0x76_28_c6);
+    assert_eq!(read(b"T,rfv,98765,0,0,0\n"), 0x77_e7_bf);
     assert_eq!(read(b"S,in,0,0,0,0\nS,in,0,0,0,0\n"), 0);
 }
 
@@ -53,8 +54,11 @@ fn each_number_counts() {
 
 #[test]
 fn the_longest_line_is_read() {
-    assert_eq!(read(b"S,zzz,9999,9999,9999,9999\n"), 0x7a_7a_7a);
-    assert_eq!(read(b"S,zzz,9999,9999,9999,999\n"), 0x7a_7a_7a ^ 9999 ^ 999);
+    assert_eq!(read(b"S,zzz,99999,99999,99999,99999\n"), 0x7a_7a_7a);
+    assert_eq!(
+        read(b"S,zzz,99999,99999,99999,9999\n"),
+        0x7a_7a_7a ^ 99999 ^ 9999
+    );
 }
 
 #[test]
@@ -69,8 +73,11 @@ fn a_bad_shape_is_found() {
         "T,rfv,,0,0,0",
         "T,rfv,01,0,0,0",
         "T,rfv,00,0,0,0",
-        "T,rfv,10000,0,0,0",
-        "T,rfv,1,0,0,10000",
+        "T,rfv,00000,0,0,0",
+        "T,rfv,09999,0,0,0",
+        "T,rfv,100000,0,0,0",
+        "T,rfv,1,100000,0,0",
+        "T,rfv,1,0,0,100000",
         "T,rfv,+1,0,0,0",
         "T,rfv,1,0,0,0 ",
         "T,rfv,1,0,0,0\r",
@@ -113,8 +120,8 @@ fn both_agree_on_generated_files() {
 }
 
 /// Lines with words and numbers of every length, and the longest line last.
-const SMALL: &[u8] = b"T,rfv,1,0,0,0\nA,in,12,345,6789,0\nS,cls,1,20,300,4000\n\
-    S,ref,9876,5432,1234,5678\n";
+const SMALL: &[u8] = b"T,rfv,1,0,0,0\nA,in,12,345,6789,10234\nS,cls,1,20,300,4000\n\
+    S,ref,98765,43210,12345,67890\n";
 
 #[test]
 fn both_agree_whatever_the_byte() {

@@ -3,6 +3,7 @@
 
 use crate::random::Random;
 
+use super::aliases;
 use super::clauses;
 use super::derivations;
 use super::draft::{lit, Draft, Literal, Place, Sort, TermId, MOST_TERMS, MOST_WAITING};
@@ -44,8 +45,9 @@ impl<'a> Builder<'a> {
 
     /// A variable whose name no other of its word has yet.
     fn new_variable(&mut self, word: &'static str) -> TermId {
+        let known = self.draft.names(word);
         loop {
-            let name = self.random.digits();
+            let name = aliases::name(&known, self.random);
             if !self.draft.has_variable(word, name) {
                 return self.draft.variable(word, name);
             }

@@ -2,6 +2,7 @@
 
 use crate::random::Random;
 
+use super::aliases;
 use super::draft::MOST_IN_CLAUSE;
 use super::exact_damage::{changed, miscounted, some_line, without, Damaged};
 use super::refusal;
@@ -20,8 +21,8 @@ fn some_clause_line(tableau: &Tableau, random: &mut Random) -> Option<(usize, us
 }
 
 /// The file with another number on a C line, refused there.
-fn renumbered(tableau: &Tableau, index: usize, number: usize) -> Damaged {
-    changed(tableau, index, NUMBER, Entry::Clause(number as u32), 21)
+fn renumbered(tableau: &Tableau, index: usize, number: u32) -> Damaged {
+    changed(tableau, index, NUMBER, Entry::Clause(number), 21)
 }
 
 pub fn number_0(tableau: &Tableau, random: &mut Random) -> Damaged {
@@ -31,8 +32,8 @@ pub fn number_0(tableau: &Tableau, random: &mut Random) -> Damaged {
 
 pub fn gap(tableau: &Tableau, random: &mut Random) -> Damaged {
     let (index, last) = some_clause_line(tableau, random)?;
-    let further = random.below(9_998 - last);
-    renumbered(tableau, index, last + 2 + random.pick(&[0, further]))
+    let old = tableau.lines[index].clause();
+    renumbered(tableau, index, aliases::above(last + 1, old, random))
 }
 
 pub fn going_back(tableau: &Tableau, random: &mut Random) -> Damaged {
@@ -41,7 +42,8 @@ pub fn going_back(tableau: &Tableau, random: &mut Random) -> Damaged {
         return None;
     }
     let further = random.below(last - 1);
-    renumbered(tableau, index, last - 1 - random.pick(&[0, further]))
+    let number = last - 1 - random.pick(&[0, further]);
+    renumbered(tableau, index, number as u32)
 }
 
 pub fn ninth_literal(tableau: &Tableau, random: &mut Random) -> Damaged {
@@ -86,9 +88,9 @@ fn some_split(tableau: &Tableau, random: &mut Random) -> Option<usize> {
 
 pub fn no_such_clause(tableau: &Tableau, random: &mut Random) -> Damaged {
     let index = some_split(tableau, random)?;
-    let further = random.below(9_999 - tableau.clauses);
-    let beyond = tableau.clauses + 1 + random.pick(&[0, further]);
-    let number = random.pick(&[0, beyond]) as u32;
+    let old = tableau.lines[index].clause();
+    let above = aliases::above(tableau.clauses, old, random);
+    let number = random.pick(&[0, above]);
     changed(tableau, index, NUMBER, Entry::Clause(number), 11)
 }
 

@@ -3,6 +3,7 @@
 
 use crate::random::Random;
 
+use super::aliases;
 use super::exact_damage::{words_of, EXACT};
 use super::planted;
 use super::tableau::{text, Entry, Line, Tableau};
@@ -46,12 +47,13 @@ pub fn neighbour(tableau: &Tableau, random: &mut Random) -> Sample {
     }
 }
 
-/// A number near the old one, or any.
+/// A number near the old one, one like it, or any.
 fn other_number(old: u32, random: &mut Random) -> u32 {
-    match random.below(4) {
+    match random.below(5) {
         0 => old + 1,
         1 => old.saturating_sub(1),
         2 => random.below(old as usize + 5) as u32,
+        3 => aliases::like(old, random),
         _ => random.digits(),
     }
 }

@@ -165,6 +165,12 @@ impl Draft {
         })
     }
 
+    /// The names that variables of this word have.
+    pub fn names(&self, word: &str) -> Vec<u32> {
+        let variables = self.terms.iter().filter(|term| term.word == word);
+        variables.filter_map(|term| term.name).collect()
+    }
+
     pub fn word(&self, term: TermId) -> &'static str {
         self.terms[term.0].word
     }

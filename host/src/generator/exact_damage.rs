@@ -3,8 +3,10 @@
 
 use std::collections::HashSet;
 
+use crate::numbers::GREATEST;
 use crate::random::Random;
 
+use super::aliases;
 use super::clause_damage;
 use super::counting_damage;
 use super::draft::{MOST_PLACES, MOST_TERMS};
@@ -145,19 +147,29 @@ pub fn bad_shape(line: &str, random: &mut Random) -> String {
     let mut fields: Vec<&str> = line.trim_end().split(',').collect();
     let field = 2 + random.below(4);
     let bad_number = random.pick(&[
-        "", "00", "01", "0001", "10000", "00000", "-1", "+1", " 1", "1 ", "1a", "a", "1.0",
+        "", "00", "01", "0001", "00000", "00001", "-1", "+1", " 1", "1 ", "1a", "a", "1.0",
         "\"1\"", "1\r",
     ]);
-    match random.below(5) {
+    let too_long = too_many_digits(random);
+    match random.below(6) {
         0 => fields[0] = random.pick(&["", "t", "a", "s", "B", "TT", "0", " T"]),
         1 => fields[1] = random.pick(&["", "a", "cuts", "Cut", "IN", "r1f", "in ", "no-"]),
         2 => {
             fields.remove(field);
         }
         3 => fields.insert(field, "0"),
-        _ => fields[field] = bad_number,
+        4 => fields[field] = bad_number,
+        _ => fields[field] = &too_long,
     }
     fields.join(",") + "\n"
+}
+
+/// Six digits, or so many that 32 bits have no room for the number.
+fn too_many_digits(random: &mut Random) -> String {
+    let least = GREATEST as usize + 1;
+    let six = least + random.below(9 * least);
+    let beyond = (1 << 32) + random.below(1_000);
+    random.pick(&[six, six, six, beyond]).to_string()
 }
 
 fn last_lf_dropped(tableau: &Tableau, _: &mut Random) -> Damaged {
@@ -213,7 +225,7 @@ fn unknown_word(tableau: &Tableau, random: &mut Random) -> Damaged {
 fn unused_field(tableau: &Tableau, random: &mut Random) -> Damaged {
     let unused = |_: &Line, entry: Entry| entry == Entry::Unused;
     let (index, field) = some_entry(tableau, random, unused)?;
-    let number = random.digits();
+    let number = aliases::not_0(random);
     changed(tableau, index, field, Entry::Name(number), 6)
 }
 
@@ -236,10 +248,10 @@ fn no_such_term(tableau: &Tableau, random: &mut Random) -> Damaged {
         tableau.terms
     };
     let new = match line.entries[field] {
-        Entry::Term(_) if random.chance(3, 4) => known + 1 + random.below(9_999 - known),
+        Entry::Term(old) if random.chance(3, 4) => aliases::above(known, old, random),
         _ => 0,
     };
-    changed(tableau, index, field, Entry::Term(new as u32), 8)
+    changed(tableau, index, field, Entry::Term(new), 8)
 }
 
 /// Both sides of `in`, `ni` or `cut` exchanged.
@@ -262,8 +274,9 @@ fn wrong_sorts(tableau: &Tableau, random: &mut Random) -> Damaged {
 fn no_such_place(tableau: &Tableau, random: &mut Random) -> Damaged {
     let of_place = |_: &Line, entry: Entry| matches!(entry, Entry::Place(_));
     let (index, field) = some_entry(tableau, random, of_place)?;
-    let beyond = MOST_PLACES + 1 + random.below(9_999 - MOST_PLACES);
-    let new = random.pick(&[0, beyond]) as u32;
+    let old = tableau.lines[index].entries[field].number();
+    let above = aliases::above(MOST_PLACES, old, random);
+    let new = random.pick(&[0, above]);
     changed(tableau, index, field, Entry::Place(new), 11)
 }
 
@@ -278,7 +291,9 @@ fn closing_turned(tableau: &Tableau, random: &mut Random) -> Damaged {
 fn no_such_side(tableau: &Tableau, random: &mut Random) -> Damaged {
     let of_side = |_: &Line, entry: Entry| matches!(entry, Entry::Side(_));
     let (index, field) = some_entry(tableau, random, of_side)?;
-    let new = random.pick(&[0, 3, 4, 9_999]);
+    let old = tableau.lines[index].entries[field].number();
+    let above = aliases::above(2, old, random);
+    let new = random.pick(&[0, above]);
     changed(tableau, index, field, Entry::Side(new), 12)
 }
 

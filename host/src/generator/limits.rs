@@ -111,7 +111,7 @@ fn terms(random: &mut Random, samples: &mut Vec<Sample>) {
     for (line, number) in [
         ("T,nul,0,0,0,0\n", 7),
         ("T,rfv,1,0,0,0\n", 7),
-        ("T,sin,9999,0,0,0\n", 7),
+        ("T,sin,99999,0,0,0\n", 7),
         ("T,nul,0,0,0,1\n", 6),
     ] {
         let kept = &tableau.lines[..MOST_TERMS];

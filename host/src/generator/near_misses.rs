@@ -5,6 +5,7 @@
 
 use crate::random::Random;
 
+use super::aliases;
 use super::draft::{denial, lit, Draft, Field, TermId};
 use super::tableau::{self, text};
 use super::{refusal, Expected, Sample};
@@ -255,7 +256,7 @@ impl Instance {
         let mut names = Vec::new();
         let mut taken = Vec::new();
         let mut new_name = || loop {
-            let name = random.digits();
+            let name = aliases::name(&taken, random);
             if !taken.contains(&name) {
                 taken.push(name);
                 return name;

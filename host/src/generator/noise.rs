@@ -49,7 +49,11 @@ fn random_lines(random: &mut Random) -> Vec<u8> {
             let used = random.below(5);
             let mut numbers = [0; 4];
             for number in numbers.iter_mut().take(used) {
-                *number = 1 + random.below(4);
+                *number = if random.chance(1, 20) {
+                    random.digits()
+                } else {
+                    1 + random.below(4) as u32
+                };
             }
             let [a, b, c, d] = numbers;
             text += &format!("{letter},{word},{a},{b},{c},{d}\n");

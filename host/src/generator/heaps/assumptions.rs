@@ -1,5 +1,6 @@
 //! Tables of random terms, deep ones among them, with random assumptions.
 
+use crate::generator::aliases;
 use crate::generator::draft::{lit, Draft, Literal, Sort, TermId, MOST_IN_CLAUSE};
 use crate::generator::tableau::{without_steps, Tableau};
 use crate::random::Random;
@@ -75,9 +76,8 @@ fn variables(draft: &mut Draft, random: &mut Random) {
     for word in ["rfv", "rgv", "arv", "fnv", "clv"] {
         for _ in 0..1 + random.below(3) {
             // Variables of different sorts often have the same name.
-            let name = match random.below(4) {
-                0 => random.digits(),
-                1 => random.pick(&[1, 9, 10, 9_999]),
+            let name = match random.below(2) {
+                0 => aliases::name(&draft.names(word), random),
                 _ => 1 + random.below(3) as u32,
             };
             draft.variable(word, name);

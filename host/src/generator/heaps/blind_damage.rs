@@ -1,6 +1,7 @@
 //! Damage at random to the text of either file.
 
 use crate::byte_damage::byte_damaged;
+use crate::generator::aliases;
 use crate::random::Random;
 
 use super::WORDS;
@@ -46,15 +47,16 @@ fn fields_damaged(line: &str, random: &mut Random) -> String {
     fields.join(",") + "\n"
 }
 
-/// A number near the old one, or any; other fields stay.
+/// A number near the old one, one like it, or any; other fields stay.
 fn other_field(old: &str, random: &mut Random) -> String {
     let Ok(number) = old.parse::<u32>() else {
         return old.to_string();
     };
-    let new = match random.below(4) {
+    let new = match random.below(5) {
         0 => number + 1,
         1 => number.saturating_sub(1),
         2 => random.below(20) as u32,
+        3 => aliases::like(number, random),
         _ => random.digits(),
     };
     new.to_string()

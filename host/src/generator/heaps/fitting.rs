@@ -1,5 +1,6 @@
 //! Heap files without fault, for the variables of a checker file.
 
+use crate::generator::aliases;
 use crate::generator::tableau::{Entry, Tableau};
 use crate::random::Random;
 
@@ -178,7 +179,9 @@ impl Maker<'_> {
     fn other_variables(&mut self, names: &[Name]) {
         for _ in 0..self.random.below(3) {
             let word = self.random.pick(&VARIABLES);
-            let name = self.random.digits();
+            let of_word = names.iter().filter(|known| known.0 == word);
+            let known: Vec<u32> = of_word.map(|known| known.1).collect();
+            let name = aliases::name(&known, self.random);
             let given = |known: &Name| *known == (word, name);
             let again = |number: &u32| *number == name;
             let facts = &self.file.facts;

@@ -1,7 +1,9 @@
 //! Damage to a heap file whose refusal is known from what was damaged. Each
 //! gives `None` when the file has nothing to damage in this way.
 
+use crate::generator::aliases;
 use crate::generator::exact_damage::bad_shape;
+use crate::numbers::GREATEST;
 use crate::random::Random;
 
 use super::heap_file::{fact, Fact, HeapFile, Kind, LIMITS};
@@ -119,7 +121,7 @@ fn sizes_again(file: &HeapFile, random: &mut Random) -> Damaged {
     let index = file.some_index(random);
     let mut again = file.facts[0].clone();
     if random.chance(1, 2) {
-        again.numbers[random.below(4)] = random.pick(&[0, 1, 99, 9_999]);
+        again.numbers[random.below(4)] = random.pick(&[0, 1, 99, GREATEST]);
     }
     refused(&file.with(index, again), 3, index)
 }
@@ -127,7 +129,9 @@ fn sizes_again(file: &HeapFile, random: &mut Random) -> Damaged {
 fn size_out_of_range(file: &HeapFile, random: &mut Random) -> Damaged {
     let mut changed = file.clone();
     let field = random.below(LIMITS.len());
-    changed.facts[0].numbers[field] = random.pick(&[0, LIMITS[field] + 1, 9_999]);
+    let size = &mut changed.facts[0].numbers[field];
+    let above = aliases::above(LIMITS[field] as usize, *size, random);
+    *size = random.pick(&[0, above]);
     refused(&changed, 19, 0)
 }
 
@@ -148,10 +152,10 @@ fn unused_field(file: &HeapFile, random: &mut Random) -> Damaged {
     let mut changed = file.clone();
     let fact = &mut changed.facts[index];
     let used = fact.kinds().len();
-    fact.numbers[used + random.below(4 - used)] = random.digits();
+    fact.numbers[used + random.below(4 - used)] = aliases::not_0(random);
     // A field out of its range too is no matter.
     if random.chance(1, 4) {
-        fact.numbers[0] = 9_999;
+        fact.numbers[0] = GREATEST;
     }
     refused(&changed, 6, index)
 }
@@ -164,8 +168,8 @@ fn out_of_range(file: &HeapFile, random: &mut Random) -> Damaged {
     fact.numbers[field] = match fact.kinds()[field] {
         Kind::Name => 0,
         kind => {
-            let bound = file.count(kind);
-            random.pick(&[bound, bound + 1, 9_999])
+            let last = file.count(kind) as usize - 1;
+            aliases::above(last, fact.numbers[field], random)
         }
     };
     refused(&changed, 19, index)

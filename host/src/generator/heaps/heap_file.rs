@@ -1,5 +1,6 @@
 //! A heap file in the making: its D lines as words and numbers.
 
+use crate::numbers::GREATEST;
 use crate::random::Random;
 
 /// What a field of a D line counts.
@@ -84,14 +85,14 @@ pub struct HeapFile {
 }
 
 impl HeapFile {
-    /// How many there are of a kind; of names those with four digits at most.
+    /// How many there are of a kind; of names as many as there are numbers.
     pub fn count(&self, kind: Kind) -> u32 {
         let [references, fields, classes, _] = self.facts[0].numbers;
         match kind {
             Kind::Reference => references,
             Kind::Field => fields,
             Kind::Class => classes,
-            Kind::Name | Kind::Size => 10_000,
+            Kind::Name | Kind::Size => GREATEST + 1,
         }
     }
 

@@ -3,6 +3,7 @@
 use std::collections::HashSet;
 
 use crate::generator::draft::{MOST_CLAUSE_LINES, MOST_IN_CLAUSE, MOST_PLACES, MOST_TERMS};
+use crate::numbers::{GREATEST, MOST_DIGITS};
 use crate::random::Random;
 
 use super::heap_file::{fact, Fact, HeapFile, LIMITS, MOST_BYTES};
@@ -50,7 +51,7 @@ fn heap_bytes(good: &GoodPair, random: &mut Random, pairs: &mut Vec<Pair>) {
 
 /// "D,rfv,1,0,0,0" and LF; names with more digits make it longer.
 const SHORT: usize = 14;
-const LONG: usize = 17;
+const LONG: usize = SHORT + MOST_DIGITS - 1;
 
 /// The file with as many variables more as make it 60,000 bytes long.
 fn filled(file: &HeapFile, random: &mut Random) -> HeapFile {
@@ -196,7 +197,8 @@ fn clauses(good: &GoodPair, pairs: &mut Vec<Pair>) {
     add("9 literals", MOST_IN_CLAUSE, "C,eq,1,1,1,0\n", expected);
 }
 
-/// The largest heap, its last reference, field and class used.
+/// The largest heap, its last reference, field and class used, and the greatest
+/// name.
 fn largest_heap() -> Pair {
     let [x, f, c] = LIMITS.map(|limit| limit - 1);
     let heap = HeapFile {
@@ -205,17 +207,17 @@ fn largest_heap() -> Pair {
             fact("alc", &[x]),
             fact("typ", &[x, c]),
             fact("dty", &[f, c]),
-            fact("rfv", &[9_999, x]),
-            fact("fnv", &[9_999, f]),
-            fact("rgv", &[9_999, x]),
-            fact("arv", &[9_999, x, f, x]),
+            fact("rfv", &[GREATEST, x]),
+            fact("fnv", &[GREATEST, f]),
+            fact("rgv", &[GREATEST, x]),
+            fact("arv", &[GREATEST, x, f, x]),
         ],
     };
-    let checker = "T,rfv,9999,0,0,0\nT,rgv,9999,0,0,0\nT,arv,9999,0,0,0\nT,fnv,9999,0,0,0\n\
-        T,img,3,2,4,0\nT,sin,1,0,0,0\nA,eq,5,6,0,0\nA,in,1,5,0,0\nA,ni,1,5,0,0\n";
+    let variables = ["rfv", "rgv", "arv", "fnv"].map(|word| format!("T,{word},{GREATEST},0,0,0\n"));
+    let rest = "T,img,3,2,4,0\nT,sin,1,0,0,0\nA,eq,5,6,0,0\nA,in,1,5,0,0\nA,ni,1,5,0,0\n";
     Pair {
         kind: "the largest heap",
-        checker: checker.as_bytes().to_vec(),
+        checker: (variables.concat() + rest).into_bytes(),
         heap: heap.bytes(),
         expected: Evaluation::Reply([0, 0, 9]),
     }
