@@ -73,6 +73,7 @@ fn full_files_are_full() {
         ("600 `arv`, full heap file", "T,arv,"),
         ("600 `rgv`, full heap file", "T,rgv,"),
         ("600 `rfv` that are not given", "T,rfv,"),
+        ("600 `rfv`, names of five digits", "T,rfv,"),
     ] {
         assert_eq!(count(&pair(kind).checker, word), 600);
     }

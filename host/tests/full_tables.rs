@@ -43,6 +43,20 @@ fn clauses_are_many_and_split_often() {
     }
 }
 
+#[test]
+fn names_have_as_many_digits_as_said() {
+    let sizes = [("four", "T,rgv,1234,0,0,0"), ("five", "T,rgv,12345,0,0,0")];
+    for (digits, like) in sizes {
+        let kind = format!("`ref`, names of {digits} digits");
+        let table = all().into_iter().find(|table| table.accepted.kind == kind);
+        let file = table.expect(&kind).accepted.bytes;
+        let regions = file
+            .split(|byte| *byte == b'\n')
+            .filter(|line| line.starts_with(b"T,rgv,") && line.len() == like.len());
+        assert_eq!(regions.count(), 600 - 2, "{kind}");
+    }
+}
+
 /// The refused file differs in its last line alone.
 #[test]
 fn they_are_refused_at_the_last_line() {

@@ -48,6 +48,12 @@ const KINDS: &[Kind] = &[
     ("`rep`, long branch", additions::rep),
     ("`sub`", additions::sub),
     ("`ref`", additions::reflexive),
+    ("`ref`, names of four digits", || {
+        additions::reflexive_from(1_000)
+    }),
+    ("`ref`, names of five digits", || {
+        additions::reflexive_from(10_000)
+    }),
     ("`ext`", freshness::ext),
     ("`wit`", freshness::wit),
     ("`ext`, deep terms", freshness::ext_deep_terms),
@@ -81,7 +87,12 @@ fn full_table(kind: &'static str, tableau: Tableau) -> FullTable {
 /// Makes regions that no step needs, until there is room for so many terms
 /// more.
 fn fill(draft: &mut Draft, room_left: usize) {
-    let mut name = 2;
+    fill_from(draft, room_left, 2);
+}
+
+/// The same, with names from this one on.
+fn fill_from(draft: &mut Draft, room_left: usize, least_name: u32) {
+    let mut name = least_name;
     while room(draft) > room_left {
         draft.variable("rgv", name);
         name += 1;

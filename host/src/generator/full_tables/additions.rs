@@ -1,7 +1,7 @@
 //! Rules that add a literal on a branch as long as it may be.
 
 use super::rounds::Round;
-use super::{fill, room};
+use super::{fill, fill_from, room};
 use crate::generator::closable::Closable;
 use crate::generator::draft::{lit, Place, TermId, MOST_TERMS};
 use crate::generator::tableau::Tableau;
@@ -79,8 +79,13 @@ pub fn sub() -> Tableau {
 }
 
 pub fn reflexive() -> Tableau {
+    reflexive_from(2)
+}
+
+/// The regions have names from this one on.
+pub fn reflexive_from(least_name: u32) -> Tableau {
     let mut made = Closable::new();
-    fill(&mut made.draft, 0);
+    fill_from(&mut made.draft, 0, least_name);
     made.fill_with(Round::of(1, 1), |made, number| {
         made.draft.reflexive(TermId(number % MOST_TERMS));
     })

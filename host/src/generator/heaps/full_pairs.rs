@@ -20,6 +20,7 @@ pub fn full_pairs() -> Vec<Pair> {
         full("600 `arv`, 1,000 `eq`, full heap file", equal_variables()),
         full("600 `rgv`, full heap file", variables("rgv")),
         full("600 `rfv` that are not given", variables("rfv")),
+        full("600 `rfv`, names of five digits", long_names()),
         full("a small pair", small()),
     ]
 }
@@ -103,6 +104,10 @@ fn many_facts() -> Vec<Fact> {
 fn full_heap_file() -> HeapFile {
     let mut facts = many_facts();
     facts.sort_by_cached_key(|fact| fact.text().len());
+    as_many_as_fit(facts)
+}
+
+fn as_many_as_fit(facts: impl IntoIterator<Item = Fact>) -> HeapFile {
     let mut file = HeapFile {
         facts: vec![fact("siz", &LIMITS)],
     };
@@ -250,6 +255,16 @@ fn variables(word: &str) -> (Vec<u8>, HeapFile) {
     checker.variables(word, first..first + MOST_TERMS as u32);
     checker.assume(1, "eq", 1);
     (checker.bytes(), full_heap_file())
+}
+
+/// Reference variables, the last ones of those that the heap file gives.
+fn long_names() -> (Vec<u8>, HeapFile) {
+    let heap = as_many_as_fit((10_000..).map(|name| fact("rfv", &[name, name % 10])));
+    let last = &heap.facts[heap.facts.len() - MOST_TERMS..];
+    let mut checker = Checker::default();
+    checker.variables("rfv", last.iter().map(|fact| fact.numbers[0]));
+    checker.assume(1, "ne", 2);
+    (checker.bytes(), heap)
 }
 
 /// Heap variables, most of them not given and so equal.
