@@ -4,7 +4,7 @@
  * The library is target/staticlib/libchecker.a, which `rt staticlib checker` makes, for x86-64 Linux.
  *
  * A file has at most 60,000 bytes. Each line has six fields parted by five commas, no quoting, ended by one LF. Field 1 is one of
- * the letters T, A, C, S. Field 2 is two or three small letters. Fields 3 to 6 are numbers of one to four digits, with no leading
+ * the letters T, A, C, S. Field 2 is two or three small letters. Fields 3 to 6 are numbers of one to five digits, with no leading
  * zero unless the number is 0. T lines come first, then A, then C, then S; any kind may be missing. A field that the word doesn't
  * use holds 0. A C line holds a literal as an A line does, and then the number of its clause; of a clause at least one literal is
  * assumed. The lines of a clause stand together, and clauses are numbered from 1 without gaps.
