@@ -16,6 +16,7 @@ pub mod independent_evaluator;
 pub mod independent_figures;
 pub mod meaning;
 pub mod models;
+pub mod name_parts;
 pub mod nights;
 pub mod numbers;
 #[cfg(reading_alone)]

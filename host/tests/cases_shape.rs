@@ -1,6 +1,9 @@
 //! Checks the table of cases itself; no checker is run.
 
+mod ends;
+
 use cases::{all, Case};
+use ends::{expect_in_every_field, LITERAL_WORDS, TERM_WORDS};
 use std::collections::{BTreeMap, HashSet};
 
 const RULES: [&str; 31] = [
@@ -8,12 +11,6 @@ const RULES: [&str; 31] = [
     "nul", "sep", "img", "wit", "ref", "sym", "trn", "sub", "rep", "ler", "let", "lea", "rdh",
     "rdm", "cls", "emp", "cla", "fin",
 ];
-
-const TERM_WORDS: [&str; 17] = [
-    "nul", "rfv", "rea", "emp", "all", "rgv", "cup", "cap", "dif", "sin", "img", "arv", "wri",
-    "fnv", "clv", "typ", "dty",
-];
-const LITERAL_WORDS: [&str; 6] = ["in", "ni", "eq", "ne", "le", "nl"];
 
 /// The refusals that a file can get.
 fn refusals() -> impl Iterator<Item = usize> {
@@ -246,27 +243,15 @@ fn fir_is_refused_as_a_word() {
     assert_eq!(given, HashSet::from([2, 4]));
 }
 
-/// Numbers of four, five and six digits.
-const ENDS: [&str; 4] = ["9999", "10000", "99999", "100000"];
-
-/// Every field of every word has them, on a line that is refused or in an
-/// accepted file.
+/// On lines that are refused, or in accepted files.
 #[test]
 fn every_field_has_numbers_at_the_ends() {
-    let mut seen = HashSet::new();
+    let mut lines = Vec::new();
     for case in all() {
         let (yes, [_, line, ..]) = parts(&case);
-        let text = String::from_utf8_lossy(&case.file);
-        let lines = text.lines().enumerate();
-        for (_, text) in lines.filter(|(index, _)| yes || index + 1 == line) {
-            let fields: Vec<&str> = text.split(',').collect();
-            let [letter, word, numbers @ ..] = &fields[..] else {
-                continue;
-            };
-            for (field, number) in (3..).zip(numbers) {
-                if ENDS.contains(number) {
-                    seen.insert((format!("{letter},{word}"), field, number.to_string()));
-                }
+        for (index, text) in String::from_utf8_lossy(&case.file).lines().enumerate() {
+            if yes || index + 1 == line {
+                lines.push(text.to_string());
             }
         }
     }
@@ -276,16 +261,13 @@ fn every_field_has_numbers_at_the_ends() {
         ("C", &LITERAL_WORDS),
         ("S", &RULES),
     ];
-    for (letter, words) in words {
-        for word in words {
-            for field in 3..=6 {
-                for number in ENDS {
-                    let wanted = (format!("{letter},{word}"), field, number.to_string());
-                    assert!(seen.contains(&wanted), "{wanted:?}");
-                }
-            }
-        }
-    }
+    let of_letter = |(letter, words): (&str, &[&str])| -> Vec<String> {
+        words
+            .iter()
+            .map(|word| format!("{letter},{word}"))
+            .collect()
+    };
+    expect_in_every_field(&lines, &words.map(of_letter).concat());
 }
 
 /// The cuts before the first closing: each leaves one alternative waiting.

@@ -1,15 +1,14 @@
 //! The pairs of files for the evaluators have what they are made for, all
 //! evaluators agree on them, and evaluators that are wrong are found.
 
-mod name_parts;
 mod other_numbers;
 
 use std::collections::{BTreeMap, BTreeSet};
 
 use host::evaluators::evaluators;
 use host::generator::heaps::{pairs, Pair, WORDS};
+use host::name_parts::{bits_14, bits_16, first_four_digits, last_four_digits, PARTS};
 use host::yardstick::evaluator::evaluate;
-use name_parts::PARTS;
 use other_numbers::{five_digits_refused, numbers_of_16_bits, six_digits_taken, with_names};
 
 type Evaluator = fn(&[u8], &[u8]) -> [u32; 3];
@@ -379,16 +378,16 @@ const WRONG: [(&str, Evaluator); 18] = [
     ("any order of classes", any_order),
     ("unknown words left out", any_word),
     ("the last four digits of a name given", |checker, heap| {
-        evaluate(checker, &with_names(heap, |name| name % 10_000))
+        evaluate(checker, &with_names(heap, last_four_digits))
     }),
     ("the first four digits of a name given", |checker, heap| {
-        evaluate(checker, &with_names(heap, |name| name / 10))
+        evaluate(checker, &with_names(heap, first_four_digits))
     }),
     ("14 bits of a name given", |checker, heap| {
-        evaluate(checker, &with_names(heap, |name| name % (1 << 14)))
+        evaluate(checker, &with_names(heap, bits_14))
     }),
     ("16 bits of a name given", |checker, heap| {
-        evaluate(checker, &with_names(heap, |name| name % (1 << 16)))
+        evaluate(checker, &with_names(heap, bits_16))
     }),
     ("16 bits of other numbers", |checker, heap| {
         evaluate(checker, &numbers_of_16_bits(heap))

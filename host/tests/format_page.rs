@@ -64,7 +64,7 @@ const NAME: u32 = 7;
 /// Every number so far is good, but nothing is closed.
 const OPEN: u32 = 17;
 
-/// As the page has it; a number more is one digit more.
+/// As the page has it; the next number has one digit more.
 static GREATEST_NAME: LazyLock<u32> = LazyLock::new(|| {
     let (_, names) = PAGE.split_once("A name is 1 to ").expect("the names");
     let (greatest, _) = names.split_once('.').expect("a sentence");

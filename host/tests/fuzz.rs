@@ -10,6 +10,7 @@ use host::call::Numbers;
 use host::checkers::{plain_rust, Checker, CHECKERS};
 use host::comparison::compare;
 use host::generator::{batch, FORMER_RULE, RULES};
+use host::name_parts::{bits_14, bits_16, first_four_digits, last_four_digits};
 use host::soundness::try_meaning;
 use other_numbers::{five_digits_refused, numbers_of_16_bits, six_digits_taken, with_names};
 
@@ -379,16 +380,16 @@ const WRONG: [Checker; 26] = [
     ("a denial for fin", fin_on_a_denial),
     ("12 for 14 at fin", fin_needs_its_union),
     ("the last four digits of a name", |file| {
-        plain_rust(&with_names(file, |name| name % 10_000))
+        plain_rust(&with_names(file, last_four_digits))
     }),
     ("the first four digits of a name", |file| {
-        plain_rust(&with_names(file, |name| name / 10))
+        plain_rust(&with_names(file, first_four_digits))
     }),
     ("14 bits of a name", |file| {
-        plain_rust(&with_names(file, |name| name % (1 << 14)))
+        plain_rust(&with_names(file, bits_14))
     }),
     ("16 bits of a name", |file| {
-        plain_rust(&with_names(file, |name| name % (1 << 16)))
+        plain_rust(&with_names(file, bits_16))
     }),
     ("16 bits of other numbers", |file| {
         plain_rust(&numbers_of_16_bits(file))

@@ -1,13 +1,11 @@
 //! The generator's files have what they are made for. All is read from the
 //! text of the files; no checker is run.
 
-mod name_parts;
-
 use std::collections::{BTreeMap, BTreeSet, HashSet};
 use std::sync::LazyLock;
 
 use host::generator::{batch, not_fresh, refusal, Expected, Sample, FORMER_RULE};
-use name_parts::PARTS;
+use host::name_parts::PARTS;
 
 const BATCHES: u64 = 800;
 const SEED: u64 = 7;

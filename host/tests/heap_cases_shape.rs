@@ -1,17 +1,14 @@
 //! Checks the table of the evaluator's cases itself; no evaluator is run.
 
+mod ends;
 mod heap_cases;
 
+use ends::{expect_in_every_field, LITERAL_WORDS, TERM_WORDS};
 use heap_cases::{all, Case};
 use std::collections::{BTreeSet, HashSet};
 
 const HEAP_WORDS: [&str; 10] = [
     "siz", "alc", "typ", "dty", "sub", "rfv", "fnv", "clv", "rgv", "arv",
-];
-const LITERAL_WORDS: [&str; 6] = ["in", "ni", "eq", "ne", "le", "nl"];
-const TERM_WORDS: [&str; 17] = [
-    "nul", "rfv", "rea", "emp", "all", "rgv", "cup", "cap", "dif", "sin", "img", "arv", "wri",
-    "fnv", "clv", "typ", "dty",
 ];
 
 /// Refusal number, file, line.
@@ -185,34 +182,17 @@ fn every_heap_word_is_used_and_refused() {
     assert_eq!(refused, expected);
 }
 
-/// Numbers of four, five and six digits stand in every field of every word, on a
-/// line that is refused or in a good heap file.
+/// On lines that are refused, or in good heap files.
 #[test]
 fn every_field_has_numbers_at_the_ends() {
-    const ENDS: [&str; 4] = ["9999", "10000", "99999", "100000"];
-    let mut seen = HashSet::new();
+    let mut lines = Vec::new();
     for case in all() {
         let [_, file, at] = numbers(&case);
-        let text = String::from_utf8_lossy(&case.heap);
-        let lines = text.lines().enumerate();
-        for (_, text) in lines.filter(|(index, _)| file == 0 || file == 2 && index + 1 == at) {
-            let fields: Vec<&str> = text.split(',').collect();
-            let ["D", word, numbers @ ..] = &fields[..] else {
-                continue;
-            };
-            for (field, number) in (3..).zip(numbers) {
-                if ENDS.contains(number) {
-                    seen.insert((word.to_string(), field, number.to_string()));
-                }
+        for (index, text) in String::from_utf8_lossy(&case.heap).lines().enumerate() {
+            if file == 0 || file == 2 && index + 1 == at {
+                lines.push(text.to_string());
             }
         }
     }
-    for word in HEAP_WORDS {
-        for field in 3..=6 {
-            for number in ENDS {
-                let wanted = (word.to_string(), field, number.to_string());
-                assert!(seen.contains(&wanted), "{wanted:?}");
-            }
-        }
-    }
+    expect_in_every_field(&lines, &HEAP_WORDS.map(|word| format!("D,{word}")));
 }

@@ -12,7 +12,7 @@ use Rattle.tableau.specs.Reply.{State, start, RunEnd, stopped, ended, runLineWi
 use Rattle.tableau.specs.Claims.{AllOf, LineWithin, FileWithin}
 use Rattle.tableau.proofs.DigitLimit.{shape-agrees, runs-agree, check-agrees}
 use Rattle.evaluation.specs.Facts.{heapLetters, runFactRead, runFactWithin, runFact}
-use Rattle.evaluation.specs.Evaluation.{beginsStep, beforeSteps, Evaluation, afterFacts, readHeap, afterLines, readChecker, evaluation}
+use Rattle.evaluation.specs.Evaluation.{beginsStep, beforeSteps, afterFacts, readHeap, afterLines, readChecker, evaluation}
 use Rattle.evaluation.specs.Claims.{KeepsEvaluations}
 
 -- lines before the first step are lines of the file, or an empty piece

@@ -1,4 +1,4 @@
--- What is claimed of an evaluator: it equals the meaning, and no accepted file's assumptions evaluate to all true.
+-- What is claimed of an evaluator: it equals the meaning, no accepted file's assumptions evaluate to all true, and files within a limit of digits keep their replies.
 use mathlib.Core.Path.{_≡_}
 use mathlib.Core.Bool.{true}
 use mathlib.Core.List.{List, [], _∷_, _++_}

@@ -1,7 +1,7 @@
 -- The reply to both files, by where the checker file's lines lead.
 use mathlib.Core.Path.{_≡_, refl, sym, _∙_, ap, subst}
 use mathlib.Core.Bool.{Bool, true, false, true≢false}
-use mathlib.Core.List.{List, [], _∷_}
+use mathlib.Core.List.{List, []}
 use Prim.Native.Nat.{ℕ, _<_, _≤_}
 use lib.Dec.{leb}
 use lib.ListN.{length, take}
@@ -9,14 +9,14 @@ use borrow.Author.Tests.{le-leb, lt-leb}
 use Rattle.tableau.specs.declared.Reason.{Reason}
 use Rattle.tableau.specs.File.{LF, split, maxDigits, maxBytes}
 use Rattle.tableau.specs.Terms.{Literal}
-use Rattle.tableau.specs.Tree.{passed, Status, isOpen, isClosed}
+use Rattle.tableau.specs.Tree.{passed, Status, isOpen}
 use Rattle.tableau.specs.Tree as specification
-use Rattle.tableau.specs.Reply.{State, start, runLine, RunEnd, stopped, ended}
+use Rattle.tableau.specs.Reply.{State, start, runLine, RunEnd, stopped}
 use Rattle.tableau.specs.Claims.{linesOf}
 use Rattle.tableau.proofs.Checks.{LinePassed, line-passed, Run, lines-passed}
 use Rattle.tableau.proofs.Soundness.{unsplit}
 use Rattle.tableau.proofs.TableGrowth.{empty-well-formed}
-use Rattle.evaluation.specs.Evaluation.{beforeSteps, assumptionsOf, Evaluation, refusal, readHeap, afterLines, evaluation}
+use Rattle.evaluation.specs.Evaluation.{beforeSteps, assumptionsOf, refusal, readHeap, afterLines, evaluation}
 use Rattle.evaluation.specs.Claims.{linesRead}
 use Rattle.evaluation.specs.Parts.{stepsAt}
 use Rattle.evaluation.proofs.FilesRead.{lines-read, NoSteps, no-steps}

@@ -18,7 +18,7 @@ use Rattle.tableau.specs.Tree.{passed}
 use Rattle.tableau.specs.Reply.{State, RunEnd, stopped, ended}
 use Rattle.evaluation.specs.Facts.{Facts, sizes, isNil, runFact}
 use Rattle.evaluation.specs.Heaps.{isOrder, heapOf, valuesOf}
-use Rattle.evaluation.specs.Evaluation.{isTrue, firstFalse, firstFalseClause, orClause, assumptionsOf, Evaluation, refusal, noRefusal, falseLine, onHeap, afterFacts, readHeap}
+use Rattle.evaluation.specs.Evaluation.{isTrue, firstFalse, firstFalseClause, orClause, assumptionsOf, refusal, noRefusal, falseLine, onHeap, afterFacts, readHeap}
 use Rattle.tableau.proofs.Checks.{lines-passed}
 use Rattle.evaluation.proofs.Passable.{Passable}
 use Rattle.evaluation.proofs.FilesRead.{FactPassed, fact-passed}

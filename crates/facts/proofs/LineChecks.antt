@@ -1,21 +1,21 @@
 -- Checks 2, 3 and 4 of a D line that is read, in the specification's run; and the run of a line by the fields that it is read as.
 use mathlib.Core.Path.{_≡_, refl, sym, _∙_, ap}
 use mathlib.Core.Bool.{Bool, true, false, _&&_, Bool·beq}
-use mathlib.Core.List.{List, [], _∷_, _++_}
+use mathlib.Core.List.{List, [], _∷_}
 use mathlib.Core.Option.{Option, none, some}
 use Prim.Native.Nat.{ℕ}
 use lib.Dec.{eqb}
 use borrow.Author.Tests.{ne-eqb, eqb-true}
 use Rattle.tableau.specs.declared.Reason.{Reason}
-use Rattle.tableau.specs.Basics.{then, bytes, sameBytes, every, lookup}
+use Rattle.tableau.specs.Basics.{then, bytes, sameBytes, lookup}
 use Rattle.tableau.specs.File.{comma, split, allSmall, isWord, Line}
-use Rattle.tableau.specs.Tree.{Checked, refused, passed, _>>=_, _>>_, require, requireSome}
+use Rattle.tableau.specs.Tree.{refused, _>>=_, _>>_, require, requireSome}
 use Rattle.evaluation.specs.declared.FactWord.{FactWord}
-use Rattle.evaluation.specs.Facts.{heapLetters, factWords, Facts, isNil, sizeFirst, runFactRead, runFact}
+use Rattle.evaluation.specs.Facts.{heapLetters, factWords, Facts, isNil, runFactRead, runFact}
 use Rattle.tableau.proofs.Bools.{some-inj}
 use Rattle.evaluation.proofs.Decision.{beq-eq}
 use Rattle.lines.specs.declared.LineFields.{LineFields}
-use Rattle.lines.specs.Lines.{packWord, capital, anyShape, numbersOf}
+use Rattle.lines.specs.Lines.{packWord, capital}
 use Rattle.lines.specs.ByteSteps.{allCapitals}
 use Rattle.lines.proofs.Letters.{relettered, letteredLine, shape-lettered}
 use Rattle.lines.proofs.PackedWord.{word-small, packed-apart}

@@ -44,7 +44,7 @@ pub counting-replies : AllReplies countingCases
 unfolding AllReplies countingCases evaluate
 counting-replies = refl
 
--- names of five digits, which are as many variables; other numbers of five digits are as much too large as before
+-- names of five digits, each a variable of its own; other numbers of five digits get what those of four get
 pub long-number-replies : AllReplies longNumberCases
 unfolding AllReplies longNumberCases evaluate
 long-number-replies = refl

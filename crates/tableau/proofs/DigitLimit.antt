@@ -10,7 +10,7 @@ use lib.Dec.{eqb, leb}
 use lib.ListN.{length, drop}
 use borrow.Author.Tests.{le-leb}
 use Rattle.tableau.specs.Basics.{isSome, guard, Named, lookup}
-use Rattle.tableau.specs.File.{comma, LF, split, digits, maxDigits, number, Line, letters, maxBytes, sixFields, shapeWithin}
+use Rattle.tableau.specs.File.{comma, LF, split, digits, maxDigits, number, letters, maxBytes, sixFields, shapeWithin}
 use Rattle.tableau.specs.Tree.{Checked, refused, passed}
 use Rattle.tableau.specs.Reply.{start, runRead, runLineWithin, runLine, runLines, verdictOn, verdictIf, verdictWithin, replyOf, reply}
 use Rattle.tableau.specs.Claims.{AllOf, FieldWithin, LineWithin, FileWithin, KeepsReplies}

@@ -1,4 +1,4 @@
--- What is claimed of a checker: a file's assumed literals and clauses, the demands, the counts, the place.
+-- What is claimed of a checker: a file's assumed literals and clauses, the demands, the counts, the place, what files within a limit of digits keep.
 use mathlib.Core.Path.{_≡_}
 use mathlib.Core.Bool.{Bool, true, false, _&&_, _||_, cond}
 use mathlib.Core.List.{List, [], _∷_, _++_}
@@ -209,7 +209,7 @@ LineWithin limit l = AllOf (FieldWithin limit) (drop 2 (split comma l))
 unfoldable pub FileWithin : ℕ → List ℕ → Type 0
 FileWithin limit file = AllOf (LineWithin limit) (split LF file)
 
--- "Files whose numbers have at most four digits keep their replies", with 4 as the limit: the reply is the one by which a number can't have more
+-- "Files whose numbers have at most four digits keep their replies", with 4 as the limit: the reply is that of the same definitions where a number has at most so many digits
 unfoldable pub KeepsReplies : ℕ → Checker → Type 0
 KeepsReplies limit checker = (file : List ℕ) → FileWithin limit file → checker file ≡ replyWithin limit file
 

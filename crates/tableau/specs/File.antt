@@ -59,6 +59,7 @@ isWord w = (eqb (length w) 2 || eqb (length w) 3) && allSmall w
 abbrev pub isDigit : ℕ → Bool
 isDigit b = leb 48 b && leb b 57
 
+-- "A name is 1 to [99,999]": no number is larger.
 abbrev pub maxDigits : ℕ
 maxDigits = 5
 

@@ -21,7 +21,7 @@ longNumberCases =
     (regionsNamed "T,rgv,12345,0,0,0" "T,rgv,2345,0,0,0" ⊢ "yes,0,0,4,2,2,1,0") ∷
     (regionsNamed "T,rgv,12345,0,0,0" "T,rgv,1234,0,0,0" ⊢ "yes,0,0,4,2,2,1,0") ∷
     (regionsNamed "T,rgv,99999,0,0,0" "T,rgv,99999,0,0,0" ⊢ "no,10,3,0,0,0,0,0") ∷
-    -- "Nothing else moves": a term, a place, a clause, a side and an unused field, too large with five digits as with four
+    -- a term, a place, a side, a clause and an unused field, too large with five digits as with four
     (withLine 4 "T,cap,2,99999,0,0" F ⊢ "no,8,4,0,0,0,0,0") ∷
     (withLine 4 "T,cap,2,100000,0,0" F ⊢ "no,2,4,0,0,0,0,0") ∷
     (withLine 5 "A,in,99999,4,0,0" F ⊢ "no,8,5,0,0,0,0,0") ∷
@@ -30,7 +30,7 @@ longNumberCases =
     (withLine 8 "S,cls,3,99999,0,0" F ⊢ "no,11,8,0,0,0,0,0") ∷
     (withLine 7 "S,ref,0,0,99999,0" F ⊢ "no,8,7,0,0,0,0,0") ∷
     (withLine 7 "S,ext,1,0,0,99999" F ⊢ "no,8,7,0,0,0,0,0") ∷
-    (withLine 7 "S,rep,1,2,99999,0" F ⊢ "no,12,7,0,0,0,0,0") ∷
+    (withLine 6 "A,eq,1,1,0,0" (withLine 7 "S,rep,1,2,99999,0" F) ⊢ "no,12,7,0,0,0,0,0") ∷
     (withLine 7 "S,cla,0,0,99999,0" F ⊢ "no,11,7,0,0,0,0,0") ∷
     (take 6 F ++ ("C,in,1,2,99999,0" ∷ []) ⊢ "no,21,7,0,0,0,0,0") ∷
     (withLine 8 "S,cls,3,2,0,99999" F ⊢ "no,6,8,0,0,0,0,0") ∷

@@ -31,7 +31,7 @@ fn main() {
         row(table.accepted.kind, &table.accepted.bytes);
     }
     for digits in 1..=MOST_DIGITS {
-        row(&format!("numbers of {digits} digits"), &lines_of(digits));
+        row(&format!("digits in a number: {digits}"), &lines_of(digits));
     }
 }
 

@@ -5,9 +5,9 @@ use crate::numbers::GREATEST;
 use crate::random::Random;
 
 /// How many numbers there are with four digits, with 14 bits and with 16.
-const ROOMS: [u32; 3] = [10_000, 1 << 14, 1 << 16];
+const CAPACITIES: [u32; 3] = [10_000, 1 << 14, 1 << 16];
 
-/// The last number of each room and the first beyond it, and the last of all.
+/// The last number of each capacity and the first beyond it, and the last of all.
 const EDGES: [u32; 7] = [9_999, 10_000, 16_383, 16_384, 65_535, 65_536, GREATEST];
 
 /// A name: at an edge, like one of those known, or any.
@@ -31,12 +31,12 @@ pub fn like(number: u32, random: &mut Random) -> u32 {
 }
 
 /// Another number with the same last four digits or the same low bits. For a
-/// number below all rooms it is a greater one that has five digits.
+/// number below 10,000 it is a greater one that has five digits.
 pub fn same_end(number: u32, random: &mut Random) -> u32 {
     loop {
-        let room = random.pick(&ROOMS);
-        let times = random.below((GREATEST / room + 1) as usize) as u32;
-        let other = number % room + room * times;
+        let capacity = random.pick(&CAPACITIES);
+        let times = random.below((GREATEST / capacity + 1) as usize) as u32;
+        let other = number % capacity + capacity * times;
         if other != number && (1..=GREATEST).contains(&other) {
             return other;
         }
@@ -44,7 +44,7 @@ pub fn same_end(number: u32, random: &mut Random) -> u32 {
 }
 
 /// A number above the last one that names something: the next, one with the
-/// same end as the number that it stands for, or any.
+/// same end as the number that it stands for, or any. Both are below 10,000.
 pub fn above(last: usize, number: u32, random: &mut Random) -> u32 {
     match random.below(3) {
         0 => last as u32 + 1,

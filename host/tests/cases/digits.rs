@@ -12,7 +12,9 @@ pub fn cases() -> Vec<Case> {
         c_lines(),
         s_lines(),
         right_steps(),
-        full_tables(),
+        last_term(),
+        last_place(),
+        last_clause(),
         leading_zeros(),
         other_shapes(),
         refused_before(),
@@ -210,35 +212,29 @@ fn right_steps() -> Vec<Case> {
         .collect()
 }
 
-/// The last term, place and clause that there can be, and numbers of five digits
-/// that begin with theirs or end with theirs, or have their low 16 bits.
-fn full_tables() -> Vec<Case> {
+/// The last term that there can be, and numbers of five digits that begin or end
+/// with its own, or have its low 16 bits.
+fn last_term() -> Vec<Case> {
     let mut terms = references(10_001, 599);
     terms.extend(["T,rgv,10600,0,0,0", "A,in,1,600,0,0", "A,ni,1,600,0,0"].map(String::from));
     terms.push("S,cls,1,2,0,0".into());
-
-    let mut places = vec![U, R];
-    places.extend(["A,in,1,2,0,0"; 999]);
-    places.extend(["A,ni,1,2,0,0", "S,cls,999,1000,0,0"]);
-
-    let mut clauses: Vec<String> = [U, R, "A,ni,1,2,0,0"].map(String::from).to_vec();
-    clauses.extend((1..=400).map(|number| format!("C,in,1,2,{number},0")));
-    clauses.extend(["S,cla,0,0,400,0", "S,cls,2,1,0,0"].map(String::from)); // 2: u in r
-
-    let mut cases = vec![
-        case("digits: 600 terms", lines(&terms), "yes,0,0,600,2,1,1,0"),
-        case(
-            "digits: 400 clauses",
-            lines(&clauses),
-            "yes,0,0,2,401,2,1,0",
-        ),
-    ];
+    let whole = lines(&terms);
+    let mut cases = vec![case("digits: 600 terms", whole, "yes,0,0,600,2,1,1,0")];
     for number in [10_600, 60_000, 60_009, 66_136] {
         let line = format!("A,in,1,{number},0,0");
         let changed = with_line(&terms, 601, &line);
         let name = format!("digits: 600 terms, {line}");
         cases.push(case(&name, changed, "no,8,601,0,0,0,0,0"));
     }
+    cases
+}
+
+/// The same of places.
+fn last_place() -> Vec<Case> {
+    let mut places = vec![U, R];
+    places.extend(["A,in,1,2,0,0"; 999]);
+    places.extend(["A,ni,1,2,0,0", "S,cls,999,1000,0,0"]);
+    let mut cases = Vec::new();
     for step in [
         "S,cls,999,10000,0,0",
         "S,cls,999,10009,0,0",
@@ -251,6 +247,16 @@ fn full_tables() -> Vec<Case> {
         let name = format!("digits: 1,000 places, {step}");
         cases.push(case(&name, changed, "no,11,1003,0,0,0,0,0"));
     }
+    cases
+}
+
+/// The same of clauses.
+fn last_clause() -> Vec<Case> {
+    let mut clauses: Vec<String> = [U, R, "A,ni,1,2,0,0"].map(String::from).to_vec();
+    clauses.extend((1..=400).map(|number| format!("C,in,1,2,{number},0")));
+    clauses.extend(["S,cla,0,0,400,0", "S,cls,2,1,0,0"].map(String::from)); // 2: u in r
+    let whole = lines(&clauses);
+    let mut cases = vec![case("digits: 400 clauses", whole, "yes,0,0,2,401,2,1,0")];
     for number in [10_400, 40_000, 40_009, 65_936] {
         let step = format!("S,cla,0,0,{number},0");
         let changed = with_line(&clauses, 404, &step);
@@ -334,7 +340,7 @@ fn f_with((number, line, reply): (usize, &str, &'static str)) -> Case {
     case(&format!("digits: F, line {number} {line}"), file, reply)
 }
 
-/// Six digits get 2 before anything else, five digits the smaller number.
+/// Six digits get 2 before any other check; five digits hide no earlier one.
 fn refused_before() -> Vec<Case> {
     let rows = [
         // 3: T after A or S, A and C after S

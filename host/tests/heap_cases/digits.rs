@@ -114,7 +114,7 @@ fn shapes() -> Vec<Case> {
     cases
 }
 
-/// Six digits get 2 before anything else, five digits the smaller number.
+/// As in the checker file: 2 for six digits, and no earlier check hidden by five.
 fn two_faults() -> Vec<Case> {
     let first = heap_rows(
         "digits",

@@ -2,7 +2,7 @@
 
 /// Keeps only some part of a name of five digits, on T lines or D lines. No
 /// name becomes 0, so that only those matter that become another.
-pub fn with_names(file: &[u8], part: fn(u64) -> u64) -> Vec<u8> {
+pub fn with_names(file: &[u8], part: fn(usize) -> usize) -> Vec<u8> {
     with_numbers(file, |line, field, number| {
         let is_long_name = is_name(line, field) && has_five_digits(number);
         is_long_name.then(|| part(number)).filter(|part| *part != 0)
@@ -24,7 +24,7 @@ fn is_name(line: &[u8], field: usize) -> bool {
     field == 2 && line.get(2..5).is_some_and(has_name)
 }
 
-fn has_five_digits(number: u64) -> bool {
+fn has_five_digits(number: usize) -> bool {
     (10_000..100_000).contains(&number)
 }
 
@@ -38,7 +38,7 @@ pub fn six_digits_taken(file: &[u8]) -> Vec<u8> {
 
 /// The file with other numbers: `change` is given a line, a field, counted from
 /// 0, and its number.
-fn with_numbers(file: &[u8], change: impl Fn(&[u8], usize, u64) -> Option<u64>) -> Vec<u8> {
+fn with_numbers(file: &[u8], change: impl Fn(&[u8], usize, usize) -> Option<usize>) -> Vec<u8> {
     let mut changed = Vec::new();
     for line in lines(file) {
         let (text, end) = line.split_at(line.trim_ascii_end().len());
@@ -72,8 +72,8 @@ fn lines(file: &[u8]) -> impl Iterator<Item = &[u8]> {
 }
 
 /// The number in a field that has no leading zero, whatever its length.
-fn number(field: &[u8]) -> Option<u64> {
+fn number(field: &[u8]) -> Option<usize> {
     let text = std::str::from_utf8(field).ok()?;
-    let number: u64 = text.parse().ok()?;
+    let number: usize = text.parse().ok()?;
     (number.to_string() == text).then_some(number)
 }
