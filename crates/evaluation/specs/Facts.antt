@@ -157,6 +157,7 @@ runFactRead facts read = do
   require (mayFollow facts w (l .fields)) Reason.BadFact
   passed (facts ++ (record { word = w; fields = l .fields } ∷ []))
 
+-- a line, with numbers of at most so many digits
 abbrev pub runFactWithin : ℕ → Facts → List ℕ → Checked Facts
 runFactWithin limit facts bs = runFactRead facts (shapeWithin limit heapLetters bs)
 

@@ -1,5 +1,5 @@
 -- Files within a limit of digits keep their replies under a larger one: each line is read as before, and the lines lead where they led.
-use mathlib.Core.Path.{_≡_, refl, _∙_, ap}
+use mathlib.Core.Path.{_≡_, refl, sym, _∙_, ap}
 use mathlib.Core.Bool.{Bool, true, false, not, _&&_, _||_}
 use mathlib.Core.List.{List, [], _∷_}
 use mathlib.Core.Option.{Option, none, some}
@@ -15,11 +15,9 @@ use Rattle.tableau.specs.Tree.{Checked, refused, passed}
 use Rattle.tableau.specs.Reply.{start, runRead, runLineWithin, runLine, runLines, verdictOn, verdictIf, verdictWithin, replyOf, reply}
 use Rattle.tableau.specs.Claims.{AllOf, FieldWithin, LineWithin, FileWithin, KeepsReplies}
 
-no-guard : (b c : Bool) → _≡_ {A = Option ℕ} (guard b none) (guard c none)
-no-guard true true = refl
-no-guard true false = refl
-no-guard false true = refl
-no-guard false false = refl
+no-guard : (b : Bool) → _≡_ {A = Option ℕ} (guard b none) none
+no-guard true = refl
+no-guard false = refl
 
 module _ (limit larger : ℕ) (h : limit ≤ larger) where
   -- A LINE within the smaller limit, read by either
@@ -32,7 +30,7 @@ module _ (limit larger : ℕ) (h : limit ≤ larger) where
       test n = leb (length (b ∷ bs)) n && (not (eqb b 48) || eqb (length bs) 0)
 
       which : (d : Option ℕ) → (isSome d ≡ true → length (b ∷ bs) ≤ limit) → guard (test larger) d ≡ guard (test limit) d
-      which none s = no-guard (test larger) (test limit)
+      which none s = no-guard (test larger) ∙ sym (no-guard (test limit))
       which (some n) s = rw (le-leb _ limit (s refl), le-leb _ larger (le-trans (s refl) h)) refl
 
   module _ {L : Type 0} where

@@ -93,7 +93,7 @@ sixFields limit first (k ∷ w ∷ a ∷ b ∷ c ∷ d ∷ []) =
     some (record { letter = letter′; word = w; fields = four a′ b′ c′ d′ }))
 sixFields limit first (k ∷ w ∷ a ∷ b ∷ c ∷ d ∷ e ∷ fs) = none
 
--- the fields of a line, its LF taken off, in a file with these letters
+-- the fields of a line, its LF taken off, in a file with these letters, whose numbers have at most so many digits
 abbrev pub shapeWithin : {L : Type 0} → ℕ → List (Named L) → List ℕ → Option (Line L)
 shapeWithin limit known l = sixFields limit (lookup known) (split comma l)
 
