@@ -1,6 +1,6 @@
 -- What a step infers is what the function of its rule concludes.
 use mathlib.Core.Path.{_≡_, refl, sym, _∙_, ap, ap₂, subst}
-use mathlib.Core.Bool.{Bool, true, not, _||_, or-false}
+use mathlib.Core.Bool.{Bool, true, false, not, _||_, or-false}
 use mathlib.Core.List.{List, []}
 use mathlib.Core.Option.{Option}
 use Prim.Native.Nat.{ℕ}
@@ -52,9 +52,9 @@ given-as {t = t} {w = w} e g = subst (λ (z : Rule). Given z t w) e g
 
 -- WHAT A STEP INFERS is what the function of its rule concludes
 same-answer : (table : Table) (fresh : Freshness) (P Q : Option Literal) (t w : ℕ) (x : Rule) → Given x t w
-    → answer table fresh P Q [] t w x ≡ answer table fresh P Q [] (thirdOf (ruleFields x .t) t) (fourthOf (ruleFields x .w) w) x
+    → answer table fresh P Q [] false t w x ≡ answer table fresh P Q [] false (thirdOf (ruleFields x .t) t) (fourthOf (ruleFields x .w) w) x
 same-answer table fresh P Q t w x g =
-    ap₂ (λ (k l : ℕ). answer table fresh P Q [] k l x) (third-of (ruleFields x .t) t (g .third)) (fourth-of (ruleFields x .w) w (g .fourth))
+    ap₂ (λ (k l : ℕ). answer table fresh P Q [] false k l x) (third-of (ruleFields x .t) t (g .third)) (fourth-of (ruleFields x .w) w (g .fourth))
 
 module _ {x y : Rule} {P Q : LiteralView} {t w : ℕ} {fresh : Freshness} {terms chains : List ℕ} {r : Outcome} {A : Table → Type 0} (e : x ≡ y)
     (g : Given x t w) (f : (table : Table) → Searchable table terms chains → A table) where

@@ -1,5 +1,6 @@
 -- What a rule is given, and what it answers: checks 12 to 14.
 use mathlib.Core.Path.{_≡_}
+use mathlib.Core.Bool.{false}
 use mathlib.Core.List.{List, []}
 use mathlib.Core.Option.{Option, none, some}
 use Prim.Native.Nat.{ℕ}
@@ -36,8 +37,8 @@ pub record Given (x : Rule) (t w : ℕ) : Type 0 where
   pub third : ThirdGiven (ruleFields x .t) t
   pub fourth : TermGiven (ruleFields x .w) w
 
--- the outcome is the answer of rule x, which looks at no clause
+-- the outcome is the answer of rule x, which looks at no clause and not at the whole branch
 pub record Infers (x : Rule) (P Q : LiteralView) (t w : ℕ) (fresh : Freshness) (terms chains : List ℕ) (r : Outcome) : Type 0 where
   pub room : Room r
   pub answers : (table : Table) → Searchable table terms chains
-      → answer table fresh (atPlace (ruleFields x .p) P) (atPlace (ruleFields x .q) Q) [] t w x ≡ answerOf r
+      → answer table fresh (atPlace (ruleFields x .p) P) (atPlace (ruleFields x .q) Q) [] false t w x ≡ answerOf r

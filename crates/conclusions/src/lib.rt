@@ -19,7 +19,7 @@ ghost use Rattle.syntax.specs.declared.ThirdField.{ThirdField as Third};
 ghost use Rattle.packing.specs.Packing.{SmallLiteral};
 ghost use Rattle.conclusions.specs.Infers.{Given, Infers};
 
-// The rules whose t is a term; `rep` and `cla` do not come here, and are refused.
+// The rules whose t is a term; `rep`, `cla` and `bck` do not come here, and are refused.
 fn by_rule(
     rule: Rule,
     p: LiteralView,
@@ -66,10 +66,11 @@ fn by_rule(
         Rule::Emp => closing::emp(p, terms),
         Rule::Cla => Outcome::Refused(Reason::NeedNotMet),
         Rule::Fin => images::fin(p, terms, chains),
+        Rule::Bck => Outcome::Refused(Reason::NeedNotMet),
     }
 }
 
-// Every rule but `cla`, which does not come here either.
+// Every rule but `cla` and `bck`, which do not come here either.
 pub fn conclude(
     rule: Rule,
     p: LiteralView,

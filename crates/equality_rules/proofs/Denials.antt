@@ -22,7 +22,7 @@ closes-room : (a b x y : TermNo) → Room (closesIf a b x y)
 closes-room a b x y = by-test (eqb a x) (λ l. by-test (eqb b y) (λ m. rw (l, m) tt) (λ m. rw (l, m) tt)) (λ l. rw l tt)
 
 abbrev Answers : LiteralView → LiteralView → Checked (List (List Literal)) → Type 0
-Answers p q k = (table : Table) (fresh : Freshness) → answer table fresh (some (literalOf p)) (some (literalOf q)) [] 0 0 Rule.Cls ≡ k
+Answers p q k = (table : Table) (fresh : Freshness) → answer table fresh (some (literalOf p)) (some (literalOf q)) [] false 0 0 Rule.Cls ≡ k
 
 -- p and q are of a relation and its denial, and their row looks at the sides alone
 pub on-sides : {A : Table → Type 0} {p q : LiteralView} (F G : TermNumber → TermNumber → LiteralView) {a b x y : TermNumber} {r : Outcome}

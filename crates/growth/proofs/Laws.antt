@@ -24,9 +24,9 @@ abbrev closings : Bool → ℕ
 closings b = cond b 1 0
 
 -- the rules that close are `cls` and `emp`
-closes-not : (x : Rule) → OneOf (placesBut (Rule.Cls ∷ Rule.Emp ∷ [])) (placeOf x) → isClosing x ≡ false
+closes-not : (x : Rule) → OneOf (placesBut (Rule.Cls ∷ Rule.Emp ∷ Rule.Bck ∷ [])) (placeOf x) → isClosing x ≡ false
 unfolding rules ruleNames rule
-closes-not x o = not-true (isClosing x) (other-rule (λ y. not (isClosing y)) (Rule.Cls ∷ Rule.Emp ∷ []) refl refl x o)
+closes-not x o = not-true (isClosing x) (other-rule (λ y. not (isClosing y)) (Rule.Cls ∷ Rule.Emp ∷ Rule.Bck ∷ []) refl refl x o)
 
-pub not-closing : (x : Rule) → OneOf (placesBut (Rule.Cls ∷ Rule.Emp ∷ [])) (placeOf x) → closingsOf x ≡ 0
+pub not-closing : (x : Rule) → OneOf (placesBut (Rule.Cls ∷ Rule.Emp ∷ Rule.Bck ∷ [])) (placeOf x) → closingsOf x ≡ 0
 not-closing x o = ap closings {x = isClosing x} {y = false} (closes-not x o)

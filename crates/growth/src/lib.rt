@@ -49,6 +49,7 @@ fn closings(rule: Rule) -> usize
     match rule {
         Rule::Cls => 1,
         Rule::Emp => 1,
+        Rule::Bck => 1,
         _ => 0,
     }
 }

@@ -33,7 +33,7 @@ use Rattle.freshness.proofs.PrefixLaws.{prefix-less}
 use Rattle.tree.specs.declared.Tree.{Tree}
 use Rattle.tree.specs.declared.Extent.{Extent}
 use Rattle.tree.specs.declared.Growth.{Growth}
-use Rattle.tree.specs.State.{treeOf, Within}
+use Rattle.tree.specs.State.{branchOf, treeOf, Within}
 use Rattle.tree.specs.Change.{extentOf, grownBy, splitBy, SplitFits}
 use Rattle.tree.proofs.Splits.{each-alone, split-full, split-crowded, split-grown}
 use Rattle.rules.specs.declared.outcome.Outcome.{Outcome}
@@ -42,7 +42,6 @@ use Rattle.clauses.specs.declared.Span.{Span}
 use Rattle.clauses.specs.Held.{codesAt, ClausesHeld, SpanOf}
 use Rattle.tableau.proofs.Bools.{dec}
 use borrow.Author.Tests.{ltb-true, ltb-false}
-use Rattle.steps.specs.Reading.{branchOf}
 use Rattle.reply.specs.Verdict.{countsOf}
 use Rattle.growth.specs.declared.Progress.{Progress}
 use Rattle.growth.specs.declared.LineResult.{LineResult}

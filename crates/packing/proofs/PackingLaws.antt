@@ -214,3 +214,7 @@ view-small (literal Relation.Nl m n) h = h
 
 pub literal-view-small : (p : ℕ) (x : LiteralView) → x ≡ literalViewOf (unpackLiteral p) → SmallLiteral x
 literal-view-small p x e = rw e (view-small (unpackLiteral p) (literal-packable p))
+
+-- the literal that was read off its code
+pub literal-read : (p : ℕ) (x : LiteralView) → x ≡ literalViewOf (unpackLiteral p) → unpackLiteral p ≡ literalOf x
+literal-read p x e = sym (ap literalOf e ∙ literal-of-view (unpackLiteral p))

@@ -2,7 +2,7 @@
 use mathlib.Core.List.{List, [], _∷_}
 use Prim.Native.Nat.{ℕ, _+_, _*_, _/_, _%_, _^_, _<_}
 use mathlib.Core.Path.{_≡_}
-use mathlib.Core.Bool.{Bool, _||_, _&&_}
+use mathlib.Core.Bool.{Bool, false, _||_, _&&_}
 use lib.Dec.{eqb, leb}
 use lib.ListN.{getD}
 use Rattle.tableau.specs.declared.Sort.{Sort}
@@ -12,7 +12,7 @@ use Rattle.tableau.specs.declared.Relation.{Relation}
 use Rattle.tableau.specs.declared.TermNumber.{TermNumber}
 use Rattle.tableau.specs.declared.Name.{Name}
 use Rattle.tableau.specs.Basics.{Four, four}
-use Rattle.tableau.specs.Terms.{TermNo, Term, variable, apply, Literal, literal, written, result, sortIndex, operatorIndex, relationIndex}
+use Rattle.tableau.specs.Terms.{TermNo, Term, variable, apply, Literal, literal, written, result, sortIndex, operatorIndex, relationIndex, sameRelation}
 use Rattle.packing.specs.declared.TermView.{TermView}
 use Rattle.packing.specs.declared.LiteralView.{LiteralView}
 
@@ -74,9 +74,15 @@ nameLimit = 2 ^ 17
 abbrev pub termLimit : ℕ
 termLimit = 1024
 
+abbrev pub Small : TermNo → Type 0
+Small n = n < termLimit
+
+abbrev pub AllSmall : Four ℕ → Type 0
+AllSmall k = Small (k .a) × Small (k .b) × Small (k .c) × Small (k .d)
+
 abbrev pub Packable : Term → Type 0
 Packable (variable s n) = n < nameLimit
-Packable (apply o k) = (k .a < termLimit) × (k .b < termLimit) × (k .c < termLimit) × (k .d < termLimit)
+Packable (apply o k) = AllSmall k
 
 -- A TERM'S VIEW, and the term that a view is of.
 abbrev pub number : TermNo → TermNumber
@@ -112,10 +118,14 @@ pub record Packs (e : Term) (p : ℕ) : Type 0 where
 abbrev pub takesArguments : ℕ → Bool
 takesArguments p = eqb (p / 8 % 32) 1 || (leb 4 (p / 8 % 32) && leb (p / 8 % 32) 11)
 
--- the arguments that a view shows are small: a packed field has room for them
-abbrev pub Small : TermNo → Type 0
-Small n = n < termLimit
+-- its arguments, cut to what a field has room for; and the number with others for them
+abbrev pub fieldsIn : ℕ → Four ℕ
+fieldsIn p = four (p / 274877906944 % 1024) (p / 268435456 % 1024) (p / 262144 % 1024) (p / 256 % 1024)
 
+abbrev pub withFields : ℕ → Four ℕ → ℕ
+withFields p k = (((k .a * 1024 + k .b) * 1024 + k .c) * 1024 + k .d) * 256 + p % 256
+
+-- the arguments that a view shows are small: a packed field has room for them
 abbrev pub SmallView : TermView → Type 0
 SmallView (TermView.Variable s n) = Unit {0}
 SmallView TermView.Nul = Unit {0}
@@ -186,6 +196,10 @@ relationOf (LiteralView.Eq m n) = Relation.Eq
 relationOf (LiteralView.Ne m n) = Relation.Ne
 relationOf (LiteralView.Le m n) = Relation.Le
 relationOf (LiteralView.Nl m n) = Relation.Nl
+
+-- a literal of another relation
+abbrev pub IsNot : Relation → LiteralView → Type 0
+IsNot R p = sameRelation R (relationOf p) ≡ false
 
 abbrev pub leftOf : LiteralView → TermNo
 leftOf (LiteralView.In m n) = m .0

@@ -15,8 +15,8 @@ ghost use Rattle.tableau.specs.Terms as specification;
 ghost use Rattle.tableau.specs.Steps as rule;
 ghost use Rattle.tableau.specs.declared.Word.{Word};
 ghost use Rattle.syntax.specs.Syntax.{argumentsIn, termIn};
-ghost use Rattle.packing.specs.Packing.{packTerm, unpackTerm, unpackFields, wordBits, nameLimit, Packable, Packs};
-ghost use Rattle.packing.specs.Packing.{viewOf, takesArguments};
+ghost use Rattle.packing.specs.Packing.{packTerm, unpackTerm, wordBits, nameLimit, Packable, Packs};
+ghost use Rattle.packing.specs.Packing.{viewOf, takesArguments, fieldsIn, withFields, AllSmall};
 
 // The low bits, with the word and the sort, are below LOW; above them a field is one of FIELD numbers. The fourth field is the lowest.
 const LOW: u64 = 256;
@@ -68,13 +68,20 @@ fn pack_variable(sort: Sort, name: Name) -> u64
     name.0 as u64 * FIRST + (96 + 9 * sort_index(sort))
 }
 
+// The packed term with other numbers for its arguments.
+pub fn with_fields(packed: u64, k: Arguments) -> u64
+    requires { ⌜ AllSmall (argumentsIn k) ⌝ }
+    ensures { λ r. ⌜ r ≡ withFields packed (argumentsIn k) ⌝ }
+{
+    (((k.a.0 as u64 * FIELD + k.b.0 as u64) * FIELD + k.c.0 as u64) * FIELD + k.d.0 as u64) * LOW
+        + packed % LOW
+}
+
 fn pack_operation(operator: Operator, k: Arguments) -> u64
     requires { ⌜ Packable (apply operator (argumentsIn k)) ⌝ }
     ensures { λ r. ⌜ r ≡ packTerm (apply operator (argumentsIn k)) ⌝ }
 {
-    let low = operator_bits(operator);
-    (((k.a.0 as u64 * FIELD + k.b.0 as u64) * FIELD + k.c.0 as u64) * FIELD + k.d.0 as u64) * LOW
-        + low
+    with_fields(operator_bits(operator), k)
 }
 
 pub fn pack(term: Term) -> u64
@@ -137,12 +144,12 @@ pub fn has_sort(packed: u64, sort: Sort) -> bool
     sort_index(sort) == packed % 8
 }
 
-// The four fields of a packed term, as an operator's arguments.
-fn arguments(packed: u64) -> Arguments
-    ensures { λ r. ⌜ argumentsIn r ≡ unpackFields packed ⌝ }
+// The arguments of a packed term, cut to what a field has room for.
+pub fn fields(packed: u64) -> Arguments
+    ensures { λ r. ⌜ argumentsIn r ≡ fieldsIn packed ⌝ }
 {
     Arguments {
-        a: TermNumber((packed / FIRST) as usize),
+        a: TermNumber((packed / FIRST % FIELD) as usize),
         b: TermNumber((packed / SECOND % FIELD) as usize),
         c: TermNumber((packed / THIRD % FIELD) as usize),
         d: TermNumber((packed / LOW % FIELD) as usize),
@@ -150,7 +157,7 @@ fn arguments(packed: u64) -> Arguments
 }
 
 // The word of a packed term has arguments, and they are terms.
-fn takes_terms(packed: u64) -> bool
+pub fn takes_terms(packed: u64) -> bool
     ensures { λ r. ⌜ r ≡ takesArguments packed ⌝ }
 {
     let word = packed / 8 % 32;
@@ -186,5 +193,5 @@ pub fn congruent(a: TermNumber, b: TermNumber, x: u64, y: u64) -> bool
     if x % LOW != y % LOW {
         return false;
     }
-    all_agree(a, b, arguments(x), arguments(y))
+    all_agree(a, b, fields(x), fields(y))
 }

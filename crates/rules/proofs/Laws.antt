@@ -23,15 +23,15 @@ use Rattle.packing.specs.declared.TermView.{TermView}
 use Rattle.packing.specs.declared.LiteralView.{LiteralView}
 use Rattle.packing.specs.Packing.{viewOf, viewApply, literalOf, relationOf, leftOf, rightOf, number, unpackLiteral, packLiteral, PackableLiteral, SmallView}
 use Rattle.packing.proofs.PackingLaws.{literal-unpack-pack}
-use Rattle.packing.proofs.ViewLaws.{absent, not-among, operator-tag}
+use Rattle.packing.proofs.ViewLaws.{operator-tag}
+pub use Rattle.packing.proofs.ViewLaws.{except, other-key, relationKeys, is-not}
 use Rattle.packing.proofs.TermView as term-view
-use Rattle.packing.proofs.LiteralView as literal-view
 use Rattle.table.specs.declared.Found.{Found}
 use Rattle.table.specs.Held.{foundOf, FoundAs, ViewAt}
 use Rattle.tree.specs.declared.Alternative.{Alternative}
 use Rattle.tree.specs.State.{AtMost}
 use Rattle.rules.specs.declared.outcome.Outcome.{Outcome}
-use Rattle.rules.specs.Answer.{IsNot, Builds, Forms}
+use Rattle.rules.specs.Answer.{Builds, Forms}
 
 -- The answer of a rule, computed: to unfold this is to unfold all that runs a row.
 unfoldable pub computing : Type 0
@@ -50,18 +50,6 @@ test-fails {r} e h = sym e ∙ not-true r h
 pub test-holds : {r b : Bool} → r ≡ b → not r ≡ false → b ≡ true
 test-holds {r} e h = sym e ∙ not-false r h
 
--- THE KEYS of the other arms of a `let .. else`
-abbrev pub except : ℕ → List ℕ → List ℕ
-except k [] = []
-except k (j ∷ js) = cond (eqb j k) (except k js) (j ∷ except k js)
-
-absent-except : (k : ℕ) (js : List ℕ) → absent (except k js) k ≡ true
-absent-except k [] = refl
-absent-except k (j ∷ js) = by-test (eqb j k) (λ e. rw e (absent-except k js)) (λ e. rw (e, e) (absent-except k js))
-
-other-key : (k : ℕ) (js : List ℕ) (x : ℕ) → OneOf (except k js) x → x ≡ k → ⊥
-other-key k js x = not-among (except k js) k x (absent-except k js)
-
 -- A LITERAL, by its parts
 pub by-sides : (p : LiteralView) → literalOf p ≡ literal (relationOf p) (leftOf p) (rightOf p)
 by-sides (LiteralView.In m n) = refl
@@ -71,24 +59,8 @@ by-sides (LiteralView.Ne m n) = refl
 by-sides (LiteralView.Le m n) = refl
 by-sides (LiteralView.Nl m n) = refl
 
-relation-tag : (p : LiteralView) → Declared.tagOf literal-view.the-type p ≡ relationIndex (relationOf p)
-unfolding relationIndex
-relation-tag (LiteralView.In m n) = refl
-relation-tag (LiteralView.Ni m n) = refl
-relation-tag (LiteralView.Eq m n) = refl
-relation-tag (LiteralView.Ne m n) = refl
-relation-tag (LiteralView.Le m n) = refl
-relation-tag (LiteralView.Nl m n) = refl
-
 pub same : (R : Relation) → sameRelation R R ≡ true
 same R = eq-eqb (relationIndex R) (relationIndex R) refl
-
--- a literal of another relation
-abbrev pub relationKeys : List ℕ
-relationKeys = 0 ∷ 1 ∷ 2 ∷ 3 ∷ 4 ∷ 5 ∷ []
-
-pub is-not : (R : Relation) (p : LiteralView) → OneOf (except (relationIndex R) relationKeys) (Declared.tagOf literal-view.the-type p) → IsNot R p
-is-not R p h = ne-eqb (relationIndex R) (relationIndex (relationOf p)) (λ e. other-key (relationIndex R) relationKeys _ h (relation-tag p ∙ sym e))
 
 -- A TERM of another operator
 abbrev pub operatorKeys : List ℕ

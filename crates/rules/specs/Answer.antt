@@ -14,7 +14,8 @@ use Rattle.tableau.specs.Terms.{Table, Term, sameRelation}
 use Rattle.tableau.specs.Tree.{Checked, refused, passed, answer}
 use Rattle.syntax.specs.declared.Literal.{Literal}
 use Rattle.packing.specs.declared.LiteralView.{LiteralView}
-use Rattle.packing.specs.Packing.{unpackLiteral, relationOf}
+use Rattle.packing.specs.Packing.{unpackLiteral}
+pub use Rattle.packing.specs.Packing.{IsNot}
 use Rattle.table.specs.declared.Found.{Found}
 use Rattle.table.specs.Held.{Entries, Searchable, SmallFound, FoundAs}
 use Rattle.tree.specs.declared.Alternative.{Alternative}
@@ -24,10 +25,6 @@ use Rattle.rules.specs.declared.outcome.Outcome.{Outcome}
 -- a literal of the code, by its parts
 abbrev pub literalWith : Relation → TermNumber → TermNumber → Literal
 literalWith R m n = record { relation = R; left = m; right = n }
-
--- the literal at a place has another relation
-abbrev pub IsNot : Relation → LiteralView → Type 0
-IsNot R p = sameRelation R (relationOf p) ≡ false
 
 -- THE OUTCOME as the specification has it
 abbrev pub literalsOf : Alternative → List specification.Literal
@@ -73,13 +70,13 @@ pub record Finds (terms chains : List ℕ) (e : Term) (f : Found) : Type 0 where
   pub small : SmallFound f
   pub found : (table : Table) → SearchableBy terms chains table → FoundAs table e f
 
--- THE CONTRACT OF A RULE other than `cla`, which looks at no clause: in every table of which the premise holds, the outcome is the rule's answer, whether w is fresh or not.
+-- THE CONTRACT OF A RULE other than `cla` and `bck`, which looks at no clause and not at the whole branch: in every table of which the premise holds, the outcome is the rule's answer, whether w is fresh or not.
 pub record Concludes (premise : Table → Type 0) (x : Rule) (P Q : Option specification.Literal) (t w : ℕ) (r : Outcome) : Type 0 where
   pub room : Room r
-  pub answers : (table : Table) → premise table → (fresh : Freshness) → answer table fresh P Q [] t w x ≡ answerOf r
+  pub answers : (table : Table) → premise table → (fresh : Freshness) → answer table fresh P Q [] false t w x ≡ answerOf r
 
 -- the same for a rule that asks for a fresh w
 pub record ConcludesFresh (premise : Table → Type 0) (fresh : Freshness) (x : Rule) (P Q : Option specification.Literal) (t w : ℕ) (r : Outcome)
     : Type 0 where
   pub room : Room r
-  pub answers : (table : Table) → premise table → answer table fresh P Q [] t w x ≡ answerOf r
+  pub answers : (table : Table) → premise table → answer table fresh P Q [] false t w x ≡ answerOf r

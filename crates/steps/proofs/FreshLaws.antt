@@ -14,7 +14,7 @@ use Rattle.tableau.specs.declared.Rule.{Rule}
 use Rattle.tableau.specs.Basics.{then, guard}
 use Rattle.tableau.specs.Words.{ruleNames}
 use Rattle.tableau.specs.Terms.{Table, Literal, literal, at, sameRelation}
-use Rattle.tableau.specs.Rules.{Row, Kind, rows, congruence, replacement, disjunction, rule}
+use Rattle.tableau.specs.Rules.{Row, Kind, rows, congruence, replacement, disjunction, background, rule}
 use Rattle.tableau.specs.Steps.{Letters, Conclusion, addsOne, congruent, given, met, orElse, concludeRows, concludeSub, concludeRep, conclude}
 use Rattle.tableau.specs.Tree.{Checked, _>>=_, _>>_, requireSome, requireFresh, answer}
 use Rattle.tableau.proofs.Bools.{both-false}
@@ -59,12 +59,14 @@ module _ (table : Table) (P Q : Option Literal) (t w : ℕ) where
       go (some σ) h k = h
 
   -- so no conclusion of a rule that asks nowhere does
-  unasked : (D : List Literal) (k : Kind) → freshKind k ≡ false → Unasked (conclude table P Q t w D k)
+  unasked : (D : List Literal) (E : Bool) (k : Kind) → freshKind k ≡ false → Unasked (conclude table P Q t w D E k)
   unfolding conclude
-  unasked D (rows Rs) h = unasked-rows Rs h
-  unasked D congruence h = unasked-then P _ unasked-sub
-  unasked D replacement h = unasked-then P _ λ L. unasked-then Q _ (unasked-rep L)
-  unasked D disjunction h = refl
+  unasked D E (rows Rs) h = unasked-rows Rs h
+  unasked D E congruence h = unasked-then P _ unasked-sub
+  unasked D E replacement h = unasked-then P _ λ L. unasked-then Q _ (unasked-rep L)
+  unasked D E disjunction h = refl
+  unasked D true background h = refl
+  unasked D false background h = tt
 
 -- checks 12 to 14, from the conclusion
 ending : Freshness → Option Conclusion → Checked (List (List Literal))
@@ -77,9 +79,10 @@ same-ending none h f g = refl
 same-ending (some c) h f g = rw h
 
 -- the answer of a rule that asks for no fresh w does not depend on it
-pub unasked-answer : (table : Table) (P Q : Option Literal) (D : List Literal) (t w : ℕ) (x : Rule) → asksFresh x ≡ false → (f g : Freshness) → answer table f P Q D t w x ≡ answer table g P Q D t w x
+pub unasked-answer : (table : Table) (P Q : Option Literal) (D : List Literal) (E : Bool) (t w : ℕ) (x : Rule) → asksFresh x ≡ false → (f g : Freshness)
+    → answer table f P Q D E t w x ≡ answer table g P Q D E t w x
 unfolding answer ending
-unasked-answer table P Q D t w x h f g = same-ending (conclude table P Q t w D (rule x)) (unasked table P Q t w D (rule x) h) f g
+unasked-answer table P Q D E t w x h f g = same-ending (conclude table P Q t w D E (rule x)) (unasked table P Q t w D E (rule x) h) f g
 
 -- THE RULES THAT ASK are `ext` and `wit`
 pub others-unasked : (x : Rule) → OneOf (placesBut (Rule.Ext ∷ Rule.Wit ∷ [])) (placeOf x) → asksFresh x ≡ false

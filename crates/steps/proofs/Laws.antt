@@ -15,8 +15,8 @@ use Rattle.tableau.specs.Reply.{zeroIfUnused}
 use Rattle.tableau.proofs.Bools.{both-true}
 use Rattle.packing.specs.declared.LiteralView.{LiteralView}
 use Rattle.packing.specs.Packing.{unpackLiteral}
-use Rattle.tree.specs.State.{HasPlace, IsBranch}
-use Rattle.steps.specs.Reading.{branchOf, ReadAt}
+use Rattle.tree.specs.State.{HasPlace, IsBranch, branchOf}
+use Rattle.steps.specs.Reading.{ReadAt}
 use Rattle.conclusions.specs.Infers.{atPlace}
 
 -- check 11 holds of the places from 1 to n

@@ -8,7 +8,7 @@ use Rattle.tableau.specs.declared.Freshness.{Freshness}
 use Rattle.tableau.specs.declared.Rule.{Rule}
 use Rattle.tableau.specs.Fields.{ruleUses}
 use Rattle.tableau.specs.Terms.{Table, Literal, Clauses}
-use Rattle.tableau.specs.Rules.{Row, Kind, rows, congruence, replacement, disjunction, rule}
+use Rattle.tableau.specs.Rules.{Row, Kind, rows, congruence, replacement, disjunction, background, rule}
 use Rattle.tableau.specs.Steps.{freshness}
 use Rattle.tableau.specs.Tree.{answer}
 use Rattle.tableau.specs.Reply.{termOrName}
@@ -17,7 +17,7 @@ use Rattle.syntax.specs.declared.Step.{Step}
 use Rattle.syntax.specs.Syntax.{stepFields}
 use Rattle.freshness.specs.Prefixes.{PrefixRows}
 use Rattle.steps.specs.declared.asking.Asked.{Asked}
-use Rattle.steps.specs.Reading.{branchOf}
+use Rattle.tree.specs.State.{branchOf}
 
 -- check 8 has passed
 abbrev pub TermsNamed : Table → Step → Type 0
@@ -33,13 +33,15 @@ freshKind (rows Rs) = anyFresh Rs
 freshKind congruence = false
 freshKind replacement = false
 freshKind disjunction = false
+freshKind background = false
 
 abbrev pub asksFresh : Rule → Bool
 asksFresh x = freshKind (rule x)
 
 -- the answer of the test says of the step's rule what the freshness of its w would
 abbrev pub TellsFreshness : Table → Clauses → List Literal → Step → Freshness → Type 0
-TellsFreshness table C B s r = (P Q : Option Literal) (D : List Literal) (t : ℕ) → answer table r P Q D t (s .w .0) (s .rule) ≡ answer table (freshness table C B (s .w .0)) P Q D t (s .w .0) (s .rule)
+TellsFreshness table C B s r = (P Q : Option Literal) (D : List Literal) (E : Bool) (t : ℕ)
+    → answer table r P Q D E t (s .w .0) (s .rule) ≡ answer table (freshness table C B (s .w .0)) P Q D E t (s .w .0) (s .rule)
 
 -- what a test of w says, and the rows after it
 pub record Told (table : Table) (C : Clauses) (codes : List ℕ) (len : ℕ) (s : Step) (prefix : List ℕ) (r : Asked) : Type 0 where

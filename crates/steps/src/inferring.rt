@@ -8,21 +8,23 @@ use syntax::ThirdField;
 use tableau::ClauseNumber;
 use tableau::Freshness;
 use tableau::Reason;
+use tableau::Rule;
 use tree::Tree;
 ghost use mathlib.Core.Path.{_≡_};
+ghost use mathlib.Core.Bool.{false};
 ghost use lib.ListN.{length};
 ghost use Rattle.tableau.specs.Terms.{Table, Clauses, lastClause};
+ghost use Rattle.tableau.specs.Saturation.{contradicted};
 ghost use Rattle.tableau.specs.Reply.{stepLine};
 ghost use Rattle.tableau.specs.Tree.{alternatives};
 ghost use Rattle.tableau.proofs.ClauseLaws.{InSequence};
 ghost use Rattle.syntax.specs.Syntax.{stepFields, WellTaken};
-ghost use Rattle.table.specs.Held.{Searchable};
-ghost use Rattle.tree.specs.State.{IsBranch};
+ghost use Rattle.table.specs.Held.{Entries, Searchable};
+ghost use Rattle.tree.specs.State.{IsBranch, branchOf};
 ghost use Rattle.rules.specs.declared.outcome.Outcome.{Outcome as Outcomes};
 ghost use Rattle.steps.specs.declared.inferring.Inference.{Inference as Inferred};
-ghost use Rattle.steps.specs.Reading.{branchOf};
 ghost use Rattle.steps.specs.Freshness.{TellsFreshness, TermsNamed};
-ghost use Rattle.steps.specs.Inference.{RoomFor, inferredIn, namedUpTo};
+ghost use Rattle.steps.specs.Inference.{RoomFor, inferredIn, namedUpTo, isBackground, closingIf};
 
 // What a step adds: the outcome of its rule, or, of `cla`, the literals of a clause, which is named.
 pub enum Inference {
@@ -46,7 +48,35 @@ fn by_clause(last: usize, k: ClauseNumber) -> Inference
     Inference::ByClause(k)
 }
 
-// Checks 11 to 14 of a line that passed those before; `last` is the number of the last clause.
+// The rule that looks at the whole branch.
+fn is_background(rule: Rule) -> bool
+    ensures { λ r. ⌜ r ≡ isBackground rule ⌝ }
+{
+    match rule {
+        Rule::Bck => true,
+        _ => false,
+    }
+}
+
+// `bck`: check 12, where n terms are made. It uses no field, and meets no other.
+fn by_background(
+    branch: &[u32; Tree::PLACES],
+    len: usize,
+    terms: &[u64; table::NUMBERS],
+    n: usize,
+) -> Inference
+    requires { ⌜ ((table : Table) × Entries table (now terms) × (length table ≡ n)) ⌝ }
+    requires { ⌜ IsBranch (now branch) len ⌝ }
+    ensures { λ r. ⌜ ((table : Table) → Entries table (now (terms .entry)) → length table ≡ n
+        → r ≡ closingIf (contradicted table (branchOf (now (branch .entry)) len))) ⌝ }
+{
+    if background::contradicted(terms, n, branch, len) {
+        return Inference::ByRule(Outcome::Closes);
+    }
+    refused(Reason::NeedNotMet)
+}
+
+// Checks 11 to 14 of a line that passed those before, and is no `bck`; `last` is the number of the last clause.
 fn added(
     step: Step,
     fresh: Freshness,
@@ -57,7 +87,7 @@ fn added(
     chains: &[u16; table::LINKS],
 ) -> Inference
     requires { ⌜ ((table : Table) × Searchable table (now terms) (now chains) × TermsNamed table step) ⌝ }
-    requires { ⌜ IsBranch (now branch) len × WellTaken step ⌝ }
+    requires { ⌜ IsBranch (now branch) len × WellTaken step × (isBackground (step .rule) ≡ false) ⌝ }
     ensures { λ r. ⌜ RoomFor last r ⌝ }
     ensures { λ r. ⌜ ((table : Table) (C : Clauses) → Searchable table (now (terms .entry)) (now (chains .entry)) → InSequence C → lastClause C ≡ last
         → TellsFreshness table C (branchOf (now (branch .entry)) len) step fresh
@@ -97,6 +127,10 @@ pub fn infer(
         → TellsFreshness table C (branchOf (now (branch .entry)) len) step fresh
         → inferredIn C r ≡ stepLine table C (branchOf (now (branch .entry)) len) (step .rule) (stepFields step)) ⌝ }
 {
+    let rule = step.rule;
+    if is_background(rule) {
+        return by_background(branch, len, terms, n);
+    }
     if !checks::terms_made(n, step) {
         return refused(Reason::NoSuchTerm);
     }

@@ -11,8 +11,8 @@ use lib.ListN.{length, getD, set, length-set}
 use lib.Seq.{getD-set-same, getD-set-other}
 use borrow.Author.Tests.{eqb-true, eqb-false, leb-true, leb-false}
 use Rattle.tableau.proofs.Bools.{dec}
-use Rattle.tableau.specs.Terms.{Table, maxTerms}
-use Rattle.table.specs.Held.{hashes, hashOf, lastWith, Chains, Searchable, Seeking}
+use Rattle.tableau.specs.Terms.{maxTerms}
+use Rattle.table.specs.Held.{hashes, hashOf, lastWith, Chains, Seeking}
 
 hash-small : (p : ℕ) → hashOf p < hashes
 unfolding hashOf
@@ -80,13 +80,13 @@ module _ (terms chains : List ℕ) (n p : ℕ) (C : Chains terms chains n) where
         ];
       }
 
--- it stands in the table
+-- however many numbers are chained
 abbrev pub AllSeeking : List ℕ → List ℕ → ℕ → ℕ → Type 0
-AllSeeking terms chains p t = (table : Table) → Searchable table terms chains → Seeking terms (length table) p t
+AllSeeking terms chains p t = (n : ℕ) → Chains terms chains n → Seeking terms n p t
 
-pub seek-within : {terms chains : List ℕ} {p t : ℕ} → (table : Table) × Searchable table terms chains → AllSeeking terms chains p t
+pub seek-within : {terms chains : List ℕ} {p t : ℕ} → (n : ℕ) × Chains terms chains n × (n ≤ maxTerms) → AllSeeking terms chains p t
     → (t ≤ maxTerms) × AllSeeking terms chains p t
-seek-within G K = (omega (arith, K (G .0) (G .1) .within, G .1 .entries .few), K)
+seek-within G K = (omega (arith, K (G .0) (G .1) .within, G .2), K)
 
 -- A further term: it changes no chain below itself, and begins its own.
 last-set : (terms : List ℕ) (h t p m : ℕ) → m < t → lastWith (set terms t p) h m ≡ lastWith terms h m

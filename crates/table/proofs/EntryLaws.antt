@@ -3,7 +3,7 @@ use mathlib.Core.Path.{_≡_, refl, sym, _∙_, ap}
 use mathlib.Core.List.{List}
 use mathlib.Core.Logic.{inl, inr}
 use mathlib.Core.Option.{Option, none, some}
-use Prim.Native.Nat.{ℕ, _+_, _<_, _≤_}
+use Prim.Native.Nat.{ℕ, suc, _+_, _<_, _≤_}
 use native.Mathlib.Omega.{arith}
 use lib.Dec.{ltb}
 use lib.ListN.{length, getD}
@@ -11,25 +11,31 @@ use borrow.Author.Tests.{ltb-true, ltb-false}
 use Rattle.tableau.specs.Terms.{TermNo, Table, Term, at, numberOf}
 use Rattle.tableau.proofs.Bools.{dec}
 use Rattle.packing.specs.Packing.{packTerm, Packs}
-use Rattle.table.specs.Held.{Entries, Searchable, Absent, foundOf, SmallFound}
+use Rattle.table.specs.declared.Found.{Found}
+use Rattle.table.specs.Held.{Entries, Searchable, Absent, Sought, foundOf, SmallFound}
 use Rattle.packing.proofs.PackingLaws.{pack-injective}
 use Rattle.table.proofs.NumberLaws.{found-in}
 
--- what a search ends with
+-- WHAT A SEARCH ENDS WITH, in a table that holds no term twice: the number of the term
 module _ (table : Table) (terms chains : List ℕ) (S : Searchable table terms chains) (p : ℕ) (e : Term) (P : Packs e p) where
-  pub here : (t : TermNo) → 0 < t → t ≤ length table → getD terms t 0 ≡ p → foundOf (some t) ≡ foundOf (numberOf table e)
+  here : (t : TermNo) → 0 < t → t ≤ length table → getD terms t 0 ≡ p → foundOf (some t) ≡ foundOf (numberOf table e)
   here t l m q =
       let same : at table t ≡ e = pack-injective (at table t) e (S .entries .packable t) (P .packable) (sym (S .entries .packed t) ∙ q ∙ P .is) in
       ap foundOf (sym (ap (numberOf table) (sym same) ∙ S .numbered t l m))
 
-  pub nowhere : ((j : ℕ) → 0 < j → j ≤ length table → getD terms j 0 ≡ p → ⊥) → foundOf none ≡ foundOf (numberOf table e)
+  nowhere : Absent terms p 1 (suc (length table)) → foundOf none ≡ foundOf (numberOf table e)
   nowhere h = go (numberOf table e) refl
     where
       go : (o : Option TermNo) → numberOf table e ≡ o → foundOf none ≡ foundOf o
       go none q = refl
       go (some j) q =
           let s = found-in table e j q in
-          absurd (h j (s .first) (s .last) (S .entries .packed j ∙ ap packTerm (s .is) ∙ sym (P .is)))
+          let l : j ≤ length table = s .last in
+          absurd (h j (s .first) (omega arith) (S .entries .packed j ∙ ap packTerm (s .is) ∙ sym (P .is)))
+
+  pub found-number : (r : Found) → Sought terms (length table) p r → r ≡ foundOf (numberOf table e)
+  found-number (Found.At t) h = here (t .0) (h .0) (h .1) (h .2)
+  found-number Found.Nothing h = nowhere h
 
 -- what a search finds is small
 pub found-small : (table : Table) (terms : List ℕ) → Entries table terms → (e : Term) → SmallFound (foundOf (numberOf table e))

@@ -16,7 +16,7 @@ use Rattle.tableau.specs.Terms.{TermNo, Table, Term, result, sortIndex, operato
 use Rattle.tableau.proofs.Bools.{dec, eqb-same}
 use Rattle.tableau.proofs.TableGrowth.{at-snoc}
 use Rattle.packing.specs.Packing.{wordCode, wordSort, wordBits, packTerm, Packable}
-use Rattle.table.specs.Held.{Entries, hashes, hashOf, links, lastWith, Searchable}
+use Rattle.table.specs.Held.{Entries, hashes, hashOf, links, lastWith, Chains, Searchable}
 use Rattle.table.proofs.NumberLaws.{number-kept, number-added}
 use Rattle.table.proofs.ChainLaws.{chains-more}
 
@@ -90,14 +90,13 @@ entries-empty n q = record {
   packable = λ t. (omega arith, omega arith, omega arith, omega arith);
 }
 
-pub searchable-empty : (n m : ℕ) → n ≡ 1024 → m ≡ links → Searchable [] (replicate {A = ℕ} n 0) (replicate {A = ℕ} m 0)
+pub chains-empty : (terms : List ℕ) (m : ℕ) → m ≡ links → Chains terms (replicate {A = ℕ} m 0) 0
 unfolding lastWith
+chains-empty terms m q = record { size = length-replicate {A = ℕ} m 0 ∙ q; begins = λ x l. zeros m x; goesOn = λ t l. absurd (omega arith) }
+
+pub searchable-empty : (n m : ℕ) → n ≡ 1024 → m ≡ links → Searchable [] (replicate {A = ℕ} n 0) (replicate {A = ℕ} m 0)
 searchable-empty n m qn qm = record {
   entries = entries-empty n qn;
-  chained = record {
-    size = length-replicate {A = ℕ} m 0 ∙ qm;
-    begins = λ x l. zeros m x;
-    goesOn = λ t l. absurd (omega arith);
-  };
+  chained = chains-empty (replicate {A = ℕ} n 0) m qm;
   numbered = λ t l m. absurd (omega arith);
 }

@@ -61,6 +61,11 @@ abbrev pub AmongFour : List ℕ → ℕ → ℕ → Bool → Type 0
 AmongFour terms p t true = Absent terms p t (t + 4) → ⊥
 AmongFour terms p t false = Absent terms p t (t + 4)
 
+-- what a search for p among the numbers up to n ends with: a number that has it, or that none has
+abbrev pub Sought : List ℕ → ℕ → ℕ → Found → Type 0
+Sought terms n p (Found.At t) = (0 < t .0) × (t .0 ≤ n) × (getD terms (t .0) 0 ≡ p)
+Sought terms n p Found.Nothing = Absent terms p 1 (suc n)
+
 -- THE ANSWER OF A SEARCH for a term
 abbrev pub foundOf : Option TermNo → Found
 foundOf none = Found.Nothing

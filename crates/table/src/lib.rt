@@ -13,7 +13,7 @@ ghost use Rattle.tableau.specs.Terms.{Table, at, numberOf, sortOf, sameSort, ma
 ghost use Rattle.tableau.specs.Terms as specification;
 ghost use Rattle.syntax.specs.Syntax.{termIn};
 ghost use Rattle.packing.specs.Packing.{Packable, Packs, Small};
-ghost use Rattle.table.specs.Held.{Entries, Searchable, Seeking, AmongFour, Absent, hashes, hashOf, foundOf, ViewAt, FoundAs};
+ghost use Rattle.table.specs.Held.{Entries, Chains, Searchable, Seeking, Sought, AmongFour, Absent, hashes, hashOf, foundOf, ViewAt, FoundAs};
 
 // "terms numbered from 1, at most 600"
 pub const TERMS: usize = 600;
@@ -47,7 +47,7 @@ pub enum Found {
     Nothing,
 }
 
-fn wide(x: u16) -> usize
+pub fn wide(x: u16) -> usize
     ensures { λ r. ⌜ r ≡ x ⌝ }
 {
     x as usize
@@ -83,9 +83,7 @@ fn among_four(terms: &[u64; NUMBERS], t: usize, packed: u64) -> bool
 // Looks at the terms from `first` to `last` in their order, where a search stands that has passed the others.
 fn scan_from(terms: &[u64; NUMBERS], first: usize, last: usize, packed: u64) -> Found
     requires { ⌜ Small last × (0 < first) × Absent (now terms) packed 1 first ⌝ }
-    ensures { λ r. ⌜ ((table : Table) (chains : List ℕ) → Searchable table (now (terms .entry)) chains
-        → Seeking (now (terms .entry)) (length table) packed last
-        → (e : specification.Term) → Packs e packed → r ≡ foundOf (numberOf table e)) ⌝ }
+    ensures { λ r. ⌜ ((n : ℕ) → Seeking (now (terms .entry)) n packed last → Sought (now (terms .entry)) n packed r) ⌝ }
 {
     let mut t = first;
     while t <= last {
@@ -100,9 +98,7 @@ fn scan_from(terms: &[u64; NUMBERS], first: usize, last: usize, packed: u64) -> 
 // The same from the first term on, by fours: a test less for each term.
 fn scan(terms: &[u64; NUMBERS], last: usize, packed: u64) -> Found
     requires { ⌜ Small last ⌝ }
-    ensures { λ r. ⌜ ((table : Table) (chains : List ℕ) → Searchable table (now (terms .entry)) chains
-        → Seeking (now (terms .entry)) (length table) packed last
-        → (e : specification.Term) → Packs e packed → r ≡ foundOf (numberOf table e)) ⌝ }
+    ensures { λ r. ⌜ ((n : ℕ) → Seeking (now (terms .entry)) n packed last → Sought (now (terms .entry)) n packed r) ⌝ }
 {
     let mut t = 1;
     while t + 3 <= last {
@@ -114,11 +110,10 @@ fn scan(terms: &[u64; NUMBERS], last: usize, packed: u64) -> Found
     scan_from(terms, t, last, packed)
 }
 
-// The number of a packed term, if it stands in the table.
-pub fn search(terms: &[u64; NUMBERS], chains: &[u16; LINKS], packed: u64) -> Found
-    requires { ⌜ ((table : Table) × Searchable table (now terms) (now chains)) ⌝ }
-    ensures { λ r. ⌜ ((table : Table) → Searchable table (now (terms .entry)) (now (chains .entry))
-        → (e : specification.Term) → Packs e packed → r ≡ foundOf (numberOf table e)) ⌝ }
+// A number with the given entry, if the chains lead to one. The entries may be packed terms or anything else.
+pub fn seek(terms: &[u64; NUMBERS], chains: &[u16; LINKS], packed: u64) -> Found
+    requires { ⌜ ((n : ℕ) × Chains (now terms) (now chains) n × (n ≤ maxTerms)) ⌝ }
+    ensures { λ r. ⌜ ((n : ℕ) → Chains (now (terms .entry)) (now (chains .entry)) n → Sought (now (terms .entry)) n packed r) ⌝ }
 {
     let h = hash(packed);
     let mut t = wide(chains[h]);
@@ -134,6 +129,15 @@ pub fn search(terms: &[u64; NUMBERS], chains: &[u16; LINKS], packed: u64) -> Fou
         hops += 1;
     }
     Found::Nothing
+}
+
+// The number of a packed term, if it stands in the table.
+pub fn search(terms: &[u64; NUMBERS], chains: &[u16; LINKS], packed: u64) -> Found
+    requires { ⌜ ((table : Table) × Searchable table (now terms) (now chains)) ⌝ }
+    ensures { λ r. ⌜ ((table : Table) → Searchable table (now (terms .entry)) (now (chains .entry))
+        → (e : specification.Term) → Packs e packed → r ≡ foundOf (numberOf table e)) ⌝ }
+{
+    seek(terms, chains, packed)
 }
 
 // The number of a term, if it stands in the table.

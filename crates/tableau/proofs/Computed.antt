@@ -1,4 +1,4 @@
--- The replies that document 01 marks, those to the files of the old checker's failings, to those about start-up, with clauses, with a used w, with `fin` and with numbers of five digits, by computation.
+-- The replies that document 01 marks, those to the files of the old checker's failings, to those about start-up, with clauses, with a used w, with `fin`, with numbers of five digits and with `bck`, by computation.
 use mathlib.Core.Path.{refl}
 use mathlib.Core.List.{[], _∷_}
 use Rattle.tableau.specs.Cases.{cases, AllReplies, _⊢_}
@@ -8,6 +8,7 @@ use Rattle.tableau.specs.Disjunctions.{clauseCases}
 use Rattle.tableau.specs.UsedWitnesses.{placeCases}
 use Rattle.tableau.specs.InsideImage.{countingCases}
 use Rattle.tableau.specs.LongNumbers.{longNumberCases}
+use Rattle.tableau.specs.Contradictions.{contradictionCases}
 use Rattle.tableau.proofs.Evaluate.{evaluate}
 
 -- THE CASES MARKED ◆
@@ -48,3 +49,8 @@ counting-replies = refl
 pub long-number-replies : AllReplies longNumberCases
 unfolding AllReplies longNumberCases evaluate
 long-number-replies = refl
+
+-- files closed by `bck`; with names for terms, le for eq, the order reversed, one argument of two, or a field, they are refused
+pub contradiction-replies : AllReplies contradictionCases
+unfolding AllReplies contradictionCases evaluate
+contradiction-replies = refl

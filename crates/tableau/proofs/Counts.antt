@@ -27,10 +27,10 @@ use Rattle.tableau.proofs.Refusals.{reason-fits, OfReason, OfVerdict, e
 use Rattle.tableau.proofs.ClauseLaws.{no-clauses, run-in-sequence, run-clauses}
 
 -- THE COUNTS
--- the rules that close are those with the words `cls` and `emp`
-closing-word : {x : Rule} (w : List ℕ) → lookup ruleNames w ≡ some x → isClosing x ≡ (sameBytes (bytes "cls") w || sameBytes (bytes "emp") w)
+-- the rules that close are those with the words `cls`, `emp` and `bck`
+closing-word : {x : Rule} (w : List ℕ) → lookup ruleNames w ≡ some x → isClosing x ≡ (sameBytes (bytes "cls") w || (sameBytes (bytes "emp") w || sameBytes (bytes "bck") w))
 unfolding ruleNames rule bytes sameBytes
-closing-word w = lookup-agree isClosing (λ w. sameBytes (bytes "cls") w || sameBytes (bytes "emp") w) ruleNames w refl
+closing-word w = lookup-agree isClosing (λ w. sameBytes (bytes "cls") w || (sameBytes (bytes "emp") w || sameBytes (bytes "bck") w)) ruleNames w refl
 
 -- a line adds one to a count if it passes the count's test, and else nothing
 abbrev increase : Bool → ℕ → ℕ

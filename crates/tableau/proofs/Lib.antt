@@ -12,6 +12,8 @@ pub mod Match
 pub mod RuleSound
 pub mod FirstPlace
 pub mod Fresh
+pub mod BackgroundSound
+pub mod SaturationExact
 pub mod StepSound
 pub mod SixFields
 pub mod Checks

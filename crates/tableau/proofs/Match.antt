@@ -4,9 +4,9 @@ use mathlib.Core.Bool.{true, false, cond}
 use mathlib.Core.List.{List, [], _∷_}
 use mathlib.Core.Option.{Option, none, some}
 use mathlib.Core.Logic.{_⊎_, inl, inr}
-use Prim.Native.Nat.{ℕ}
+use Prim.Native.Nat.{ℕ, zero, suc}
 use lib.Dec.{eqb}
-use lib.ListN.{getD}
+use lib.ListN.{getD, getElem?}
 use borrow.Author.Tests.{eqb-true}
 use Rattle.tableau.specs.declared.Sort.{Sort}
 use Rattle.tableau.specs.declared.Operator.{Operator}
@@ -14,7 +14,7 @@ use Rattle.tableau.specs.declared.Relation.{Relation}
 use Rattle.tableau.specs.Basics.{Four, four}
 use Rattle.tableau.specs.Fields.{Argument, unused, of, argumentUse, arguments, ifArgument}
 use Rattle.tableau.specs.Terms.{TermNo, Term, variable, apply, Literal, literal, result, sortOf, sortIndex, operatorIndex, relationIndex, sameSort, sameOperator, sameRelation, layer}
-use Rattle.tableau.specs.Meaning.{FiniteHeap, Value, reference, operation, Values, valueOf, value, Holds, True, kind}
+use Rattle.tableau.specs.Meaning.{FiniteHeap, Value, reference, operation, Values, valueOf, value, Holds, True, AllTrue, kind}
 use Rattle.tableau.specs.Rules.{Pattern, letter, operator, –, LiteralPattern, pattern, Need, p∶, q∶, is, isRegion}
 use Rattle.tableau.specs.Steps.{Letters, fitsLetter, argumentsOf, fits, fitsLiteral, termOf, met}
 use Rattle.tableau.proofs.Bools.{dec, eqb-same, none≢some, some-inj, then-inv, guard-inv}
@@ -202,6 +202,15 @@ module _ (table : TermNo → Term) (wf : WellFormed table) (H : FiniteHeap) (ρ 
   unfolding layer
   value-apply t o k e = value-eq t ∙ ap (λ x. look x t) e
 
+  -- terms with one operator and arguments of equal values have equal values
+  pub same-application : (t w : TermNo) (o : Operator) (k l : Four TermNo) → table t ≡ apply o k → table w ≡ apply o l
+      → val (k .a) ≡ val (l .a) → val (k .b) ≡ val (l .b) → val (k .c) ≡ val (l .c) → val (k .d) ≡ val (l .d) → val t ≡ val w
+  same-application t w o k l p q a b c d =
+      value-apply t o k p
+      ∙ (λ i. operation H o (four (ifArgument (arguments o .a) (a i) nul′) (ifArgument (arguments o .b) (b i) nul′)
+      (ifArgument (arguments o .c) (c i) nul′) (ifArgument (arguments o .d) (d i) nul′)))
+      ∙ sym (value-apply w o l q)
+
   pub value-variable : (t : TermNo) (s : Sort) (n : ℕ) → table t ≡ variable s n → val t ≡ valueOf ρ s n
   unfolding layer
   value-variable t s n e = value-eq t ∙ ap (λ x. look x t) e
@@ -280,6 +289,12 @@ module _ (table : TermNo → Term) (wf : WellFormed table) (H : FiniteHeap) (ρ 
   abbrev pub IfAny : Option Literal → Type 0
   IfAny none = Unit {0}
   IfAny (some L) = True ρ table L
+
+  -- a literal on a true branch is true
+  pub literal-true : (B : List Literal) (n : ℕ) → AllTrue ρ table B → IfAny (getElem? B n)
+  literal-true [] n t = tt
+  literal-true (l ∷ B) zero t = t .0
+  literal-true (l ∷ B) (suc n) t = literal-true B n (t .1)
 
   any-true : (P : Option Literal) (L : Literal) → P ≡ some L → IfAny P → True ρ table L
   any-true P L e h = subst IfAny e h

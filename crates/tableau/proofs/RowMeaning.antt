@@ -9,7 +9,7 @@ use Rattle.tableau.specs.declared.Rule.{Rule}
 use Rattle.tableau.specs.Basics.{Four, four}
 use Rattle.tableau.specs.Fields.{Use, unused, place, name, side, clause, term, of, Argument, argumentUse, arguments, ifArgument, ruleUses}
 use Rattle.tableau.specs.Meaning.{FiniteHeap, Ref, Value, reference, operation, Holds, kind}
-use Rattle.tableau.specs.Rules.{Pattern, letter, operator, –, LiteralPattern, pattern, Need, p∶, q∶, is, isRegion, Row, Kind, rows, congruence, replacement, disjunction, rule, letterT, letterW}
+use Rattle.tableau.specs.Rules.{Pattern, letter, operator, –, LiteralPattern, pattern, Need, p∶, q∶, is, isRegion, Row, Kind, rows, congruence, replacement, disjunction, background, rule, letterT, letterW}
 
 module _ (H : FiniteHeap) where
   abbrev pub ⟦_⟧ : Pattern → (ℕ → Value H) → Value H
@@ -89,6 +89,7 @@ module _ (H : FiniteHeap) where
   KindSound k congruence = Unit {0}
   KindSound k replacement = Unit {0}
   KindSound k disjunction = k .c ≡ clause
+  KindSound k background = Unit {0}
 
   abbrev pub RuleSound : Rule → Type 0
   RuleSound x = KindSound (ruleUses x) (rule x)

@@ -9,10 +9,10 @@ use Rattle.tableau.specs.declared.Rule.{Rule}
 use Rattle.tableau.specs.Basics.{four}
 use Rattle.tableau.specs.Fields.{arguments, ruleFields}
 use Rattle.tableau.specs.Meaning.{_and_, same, FiniteHeap, Ref, Region, Field, Store, Value, reference, region, field, class, asRef, asRegion, asStore, asField, asClass, within, image, operation, isIn}
-use Rattle.tableau.specs.Rules.{rule, letterA, letterB, letterF, letterG, letterH, letterI, letterR, letterS, letterT, letterU, letterV, letterW, letterY}
+use Rattle.tableau.specs.Rules.{rule, letterA, letterB, letterC, letterF, letterG, letterH, letterI, letterR, letterS, letterT, letterU, letterV, letterW, letterY}
 use Rattle.tableau.proofs.Bools.{and-l, and-r, and-i, or-e, or-i1, or-i2, and-false-r, and-false-of, alike, dec, clash}
 use Rattle.tableau.proofs.Numbers.{same-eq, same-refl, any-out, any-in}
-use Rattle.tableau.proofs.Values.{region-path, union-with-part, is-ref, is-class, as-ref, as-region, as-field, kind-class}
+use Rattle.tableau.proofs.Values.{region-path, union-with-part, is-ref, is-class, as-ref, as-region, as-field, kind-class, le-refl, le-trans, le-anti}
 use Rattle.tableau.proofs.Counting.{onto-no-more, no-more-than-part}
 use Rattle.tableau.proofs.RowMeaning.{RuleSound}
 
@@ -167,23 +167,15 @@ module _ (H : FiniteHeap) where
 
   ler : RuleSound H Rule.Ler
   unfolding rule ruleFields
-  ler = (λ φ o _ k. k (and-i (and-i (kind-class (φ letterT) o) (kind-class (φ letterT) o)) (H .le-refl (asClass (φ letterT)))), tt)
+  ler = (λ φ o _ k. k (le-refl (φ letterT) o), tt)
 
   let′ : RuleSound H Rule.Let
   unfolding rule ruleFields
-  let′ = (
-    λ φ _ _ _ _ i _ _ j k.
-        k (and-i (and-i (and-l _ _ (and-l _ _ i)) (and-r _ _ (and-l _ _ j))) (H .le-trans _ _ _ (and-r _ _ i) (and-r _ _ j))),
-    tt,
-  )
+  let′ = (λ φ _ _ _ _ i _ _ j k. k (le-trans (φ letterA) (φ letterB) (φ letterC) i j), tt)
 
   lea : RuleSound H Rule.Lea
   unfolding rule ruleFields
-  lea = (
-    λ φ _ _ _ _ i _ _ j k.
-        k (is-class (φ letterA) (and-l _ _ (and-l _ _ i)) ∙ ap class (H .le-anti _ _ (and-r _ _ i) (and-r _ _ j)) ∙ sym (is-class (φ letterB) (and-r _ _ (and-l _ _ i)))),
-    tt,
-  )
+  lea = (λ φ _ _ _ _ i _ _ j k. k (le-anti (φ letterA) (φ letterB) i j), tt)
 
   rdh : RuleSound H Rule.Rdh
   unfolding rule ruleFields operation arguments
@@ -268,3 +260,4 @@ module _ (H : FiniteHeap) where
   rules-sound Rule.Emp = emp
   rules-sound Rule.Cla = refl
   rules-sound Rule.Fin = fin
+  rules-sound Rule.Bck = tt

@@ -18,17 +18,20 @@ use Rattle.tableau.specs.Basics.{isSome, Four, four}
 use Rattle.tableau.specs.Fields.{Use, Argument, unused, clause, of, arguments, ifArgument, ruleUses}
 use Rattle.tableau.specs.Terms.{TermNo, Table, Term, variable, apply, Literal, literal, at, numberFrom, numberOf, sameTerm, sameSort, sameOperator, sameRelation, mentions, firstPlace, mentioned, Clauses, disjuncts, clauseOf}
 use Rattle.tableau.specs.Meaning.{FiniteHeap, Ref, Value, reference, operation, Values, value, Holds, True, AllTrue, AnyTrue, EveryClauseTrue}
-use Rattle.tableau.specs.Rules.{Pattern, letter, operator, –, LiteralPattern, pattern, Need, Row, Kind, rows, congruence, replacement, disjunction, rule, letterT, letterW}
+use Rattle.tableau.specs.Rules.{Pattern, letter, operator, –, LiteralPattern, pattern, Need, Row, Kind, rows, congruence, replacement, disjunction, background, rule, letterT, letterW}
 use Rattle.tableau.specs.Steps.{Letters, met, made, madeLiterals, madeAlternatives, isRfv, freshIf, freshness, Conclusion, addsOne, splitsInto, agree, takesTerms, congruent, concludeSub, concludeRep, given, orElse, concludeRows, conclude}
+use Rattle.tableau.specs.Saturation.{contradicted}
 use Rattle.tableau.specs.Tree.{passed, literalAt, isThere, requireFresh}
 use Rattle.tableau.proofs.Bools.{every-true, both-true, both-false, one-true, dec, none≢some, some-inj, then-inv, guard-inv}
 use Rattle.tableau.proofs.WellFormed.{WellFormed}
 use Rattle.tableau.proofs.RowMeaning.{⟦_⟧, Asked, CannotHold, SomeHolds, RowSound, RowsSound, KindSound}
-use Rattle.tableau.proofs.Match.{same-operator, same-relation, same-sort, value-apply, Under, Extends, IfAny, met-extends, met-value}
+use Rattle.tableau.proofs.Match.{same-operator, same-relation, same-sort, value-apply, same-application, Under, Extends, IfAny, literal-true, met-extends, met-value}
 use Rattle.tableau.proofs.Checks.{refused≢passed}
 use Rattle.tableau.proofs.FirstPlace.{not-mentioned}
 use Rattle.tableau.proofs.Fresh.{withRfv, WithoutAny, Clean, met-clean, same-value, same-branch, same-clauses, w-value}
 use Rattle.tableau.proofs.RuleSound.{rules-sound}
+use Rattle.tableau.proofs.BackgroundSound.{contradicted-false}
+use Rattle.tableau.proofs.SaturationExact.{contradicted-only}
 
 -- terms that pass the test are equal
 pub same-term : (e x : Term) → sameTerm e x ≡ true → e ≡ x
@@ -169,15 +172,9 @@ fresh-inv table C B w h =
     go true none false h = (refl, refl, refl)
 
 module _ (table : Table) (C : Clauses) (wf : WellFormed (at table)) (H : FiniteHeap) (ρ : Values H) where
-  -- a literal on a true branch is true
-  literal-true : (B : List Literal) (n : ℕ) → AllTrue ρ (at table) B → IfAny (at table) wf H ρ (getElem? B n)
-  literal-true [] n t = tt
-  literal-true (l ∷ B) zero t = t .0
-  literal-true (l ∷ B) (suc n) t = literal-true B n (t .1)
-
   place-true : (B : List Literal) (n : ℕ) → AllTrue ρ (at table) B → IfAny (at table) wf H ρ (literalAt B n)
   place-true B zero t = tt
-  place-true B (suc n) t = literal-true B n t
+  place-true B (suc n) t = literal-true (at table) wf H ρ B n t
 
   -- a literal on a branch without w is without w
   literal-without : (w : TermNo) (n : ℕ) (is-w : at table w ≡ variable Sort.Reference n) (B : List Literal) (k : ℕ) → mentioned (at table) w B ≡ false
@@ -267,20 +264,14 @@ module _ (table : Table) (C : Clauses) (wf : WellFormed (at table)) (H : FiniteH
       | inr k ↦ ap val (eqb-true m a (both-true _ (eqb n b) k .0)) ∙ e ∙ sym (ap val (eqb-true n b (both-true (eqb m a) _ k .1)))
     ]
 
-    if-term-same : (fld : Argument) {x y : Value H} → x ≡ y → ifArgument fld x (reference (H .nul)) ≡ ifArgument fld y (reference (H .nul))
-    if-term-same fld e = ap (λ z. ifArgument fld z (reference (H .nul))) e
-
     congruent-value : (a b : TermNo) → val a ≡ val b → (e e′ : Term) → at table T ≡ e → at table w ≡ e′ → congruent a b e e′ ≡ true → val T ≡ val w
     congruent-value a b q (variable s n) e′ x y h = absurd (false≢true h)
     congruent-value a b q (apply o k) (variable s n) x y h = absurd (false≢true h)
     congruent-value a b q (apply o k) (apply o′ k′) x y h =
         let h₁ = both-true (takesTerms o) _ h .1 in
         let e = every-true (agree a b) k k′ (both-true (sameOperator o o′) _ h₁ .1) in
-        value-apply (at table) wf H ρ T o k x
-        ∙ (λ i. operation H o (four
-        (if-term-same (arguments o .a) (agree-value a b (k .a) (k′ .a) q (e .0)) i) (if-term-same (arguments o .b) (agree-value a b (k .b) (k′ .b) q (e .1)) i)
-        (if-term-same (arguments o .c) (agree-value a b (k .c) (k′ .c) q (e .2)) i) (if-term-same (arguments o .d) (agree-value a b (k .d) (k′ .d) q (e .3)) i)))
-        ∙ sym (value-apply (at table) wf H ρ w o k′ (y ∙ ap (λ (p : Operator). apply p k′) (sym (same-operator o o′ (both-true _ _ h₁ .0)))))
+        same-application (at table) wf H ρ T w o k k′ x (y ∙ ap (λ (p : Operator). apply p k′) (sym (same-operator o o′ (both-true _ _ h₁ .0))))
+        (agree-value a b (k .a) (k′ .a) q (e .0)) (agree-value a b (k .b) (k′ .b) q (e .1)) (agree-value a b (k .c) (k′ .c) q (e .2)) (agree-value a b (k .d) (k′ .d) q (e .3))
 
     sub-sound : (L : Literal) → True ρ (at table) L → Sound (concludeSub table L T w)
     unfolding concludeSub
@@ -320,7 +311,7 @@ module _ (table : Table) (C : Clauses) (wf : WellFormed (at table)) (H : FiniteH
         any-refuted (clauseOf C T) (u T n) (subst (Refuted table C H B) (sym q) r)
 
     kind-sound : (k : Four Use) (K : Kind) → KindSound H k K → isThere C B (k .c) T ≡ true → Asked H (k .c) (value ρ (at table) T) → Asked H (k .d) (value ρ (at table) w)
-        → Sound (conclude table P Q T w (clauseOf C T) K)
+        → Sound (conclude table P Q T w (clauseOf C T) (contradicted table B) K)
     unfolding conclude
     kind-sound k (rows Rs) s i aT aw c e f ls m r = rows-sound k aT aw Rs s c e f ls m r
     kind-sound k congruence s i aT aw c e f ls m r =
@@ -332,8 +323,9 @@ module _ (table : Table) (C : Clauses) (wf : WellFormed (at table)) (H : FiniteH
         rep-sound (L .0) (M .0) (subst (IfAny (at table) wf H ρ) (L .1) (place-true B p t)) (subst (IfAny (at table) wf H ρ) (M .1) (place-true B q t)) c (M .2) f ls m r
     kind-sound k disjunction s i aT aw c e f ls m r =
         cla-sound (leb-true 1 (length (clauseOf C T)) (ap (λ (x : Use). isThere C B x T) (sym s) ∙ i)) c e f ls m r
+    kind-sound k background s i aT aw c e f ls m r = contradicted-false table wf H ρ B t (contradicted-only table B (guard-inv (contradicted table B) _ e .0))
 
     -- A RULE IS SOUND
     pub rule-sound : (x : Rule) → isThere C B (ruleUses x .c) T ≡ true → Asked H (ruleUses x .c) (value ρ (at table) T) → Asked H (ruleUses x .d) (value ρ (at table) w)
-        → Sound (conclude table P Q T w (clauseOf C T) (rule x))
+        → Sound (conclude table P Q T w (clauseOf C T) (contradicted table B) (rule x))
     rule-sound x = kind-sound (ruleUses x) (rule x) (rules-sound H x)

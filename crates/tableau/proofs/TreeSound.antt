@@ -15,6 +15,7 @@ use Rattle.tableau.specs.Terms.{TermNo, Table, Term, Literal, Clauses, c
 use Rattle.tableau.specs.Meaning.{FiniteHeap, Values, value, AllTrue, EveryClauseTrue}
 use Rattle.tableau.specs.Rules.{rule}
 use Rattle.tableau.specs.Steps.{freshness, conclude}
+use Rattle.tableau.specs.Saturation.{contradicted}
 use Rattle.tableau.specs.Tree.{passed, Waiting, Tree, Status, isOpen, isClosed, literalAt, isThere, roomOnBranch, roomToWait, close, grow, requireFresh, answer, alternatives, grown}
 use Rattle.tableau.specs.Reply.{ofSort}
 use Rattle.tableau.proofs.Bools.{every-true}
@@ -125,7 +126,7 @@ module _ (table : Table) (C : Clauses) (wf : WellFormed (at table)) (H : FiniteH
       let a = every-true (ofSort table) (ruleUses x) n sorts in
       let e₁₁ = require-passed (every (isThere C B) (ruleUses x) n) _ _ e in
       let there = every-true (isThere C B) (ruleUses x) n (e₁₁ .0) in
-      let e₁₂ = requireSome-passed (conclude table (literalAt B (n .a)) (literalAt B (n .b)) (n .c) (n .d) (clauseOf C (n .c)) (rule x)) _ _ (e₁₁ .1) in
+      let e₁₂ = requireSome-passed (conclude table (literalAt B (n .a)) (literalAt B (n .b)) (n .c) (n .d) (clauseOf C (n .c)) (contradicted table B) (rule x)) _ _ (e₁₁ .1) in
       let e₁₃ = next-passed (requireFresh (e₁₂ .0 .fresh) (freshness table C B (n .d))) _ (e₁₂ .2) in
       let e₁₄ = requireSome-is (e₁₂ .0 .adds) _ (e₁₃ .1) in
       let e₁₅ = require-passed (roomOnBranch (length B) ks) _ _ g in

@@ -1,11 +1,11 @@
 -- Facts on values.
-use mathlib.Core.Path.{_≡_, refl, _∙_, ap}
+use mathlib.Core.Path.{_≡_, refl, sym, _∙_, ap}
 use mathlib.Core.Bool.{true, Bool-set, false≢true}
 use mathlib.Core.HLevel.{isProp→PathP, Π-prop}
 use mathlib.Core.Logic.{inl, inr}
 use Rattle.tableau.specs.declared.Sort.{Sort}
-use Rattle.tableau.specs.Meaning.{_or_, FiniteHeap, Region, within, Ref, Value, reference, region, heap, field, class, kind, isRef, isClass, asRef, asRegion, asStore, asField, asClass}
-use Rattle.tableau.proofs.Bools.{and-i, and-r, or-e, or-i2, alike, dec, clash}
+use Rattle.tableau.specs.Meaning.{_or_, FiniteHeap, Region, within, Ref, Value, reference, region, heap, field, class, kind, isRef, isClass, asRef, asRegion, asStore, asField, asClass, isLe}
+use Rattle.tableau.proofs.Bools.{and-i, and-l, and-r, or-e, or-i2, alike, dec, clash}
 
 -- regions with the same members are equal
 pub region-path : {H : FiniteHeap} (R S : Region H) → ((x : Ref H) → R .has x ≡ S .has x) → R ≡ S
@@ -66,3 +66,15 @@ module _ {H : FiniteHeap} where
 
   pub kind-class : (a : Value H) → kind a ≡ Sort.Class → isClass a ≡ true
   kind-class a e = ap isClass (as-sort a Sort.Class e)
+
+-- THE ORDER OF CLASSES, of values
+module _ {H : FiniteHeap} where
+  pub le-refl : (x : Value H) → kind x ≡ Sort.Class → isLe x x ≡ true
+  le-refl x s = let c = kind-class x s in and-i (and-i c c) (H .le-refl (asClass x))
+
+  pub le-trans : (x y z : Value H) → isLe x y ≡ true → isLe y z ≡ true → isLe x z ≡ true
+  le-trans x y z i j = and-i (and-i (and-l _ _ (and-l _ _ i)) (and-r _ _ (and-l _ _ j))) (H .le-trans _ _ _ (and-r _ _ i) (and-r _ _ j))
+
+  pub le-anti : (x y : Value H) → isLe x y ≡ true → isLe y x ≡ true → x ≡ y
+  le-anti x y i j =
+      is-class x (and-l _ _ (and-l _ _ i)) ∙ ap class (H .le-anti _ _ (and-r _ _ i) (and-r _ _ j)) ∙ sym (is-class y (and-r _ _ (and-l _ _ i)))

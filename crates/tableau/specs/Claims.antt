@@ -14,6 +14,7 @@ use Rattle.tableau.specs.Words.{Command, make, assume, disjoin, infer, c
 use Rattle.tableau.specs.Terms.{Place, TermNo, ClauseNo, Table, Literal, literal, Clauses, disjuncts, at, mentionedIn, mentioned, written}
 use Rattle.tableau.specs.Meaning.{FiniteHeap, Values, AllTrue, EveryClauseTrue}
 use Rattle.tableau.specs.Steps.{isRfv}
+use Rattle.tableau.specs.Background.{Contradicted}
 use Rattle.tableau.specs.Tree.{Checked, passed, _>>=_, Tree, isOpen, literalAt}
 use Rattle.tableau.specs.Reply.{State, start, runLine, Reply, replyWithin, reply}
 
@@ -106,14 +107,18 @@ Demand2 checker = (file : List ℕ) → checker file ≡ reply file
 unfoldable pub Demand3 : Checker → Type 0
 Demand3 checker = (file : List ℕ) → checker file .isYes ≡ true → NoHeap file
 
--- THE FILE'S OWN COUNTS: lines by their first field, `cls` and `emp` lines by their second, clauses by the numbers on C lines.
+-- "`bck` closes exactly when" Background.antt says so; `contradicted`, by which `reply` is computed, is such a test.
+abbrev pub ExactlyContradicted : (Table → List Literal → Bool) → Type 0
+ExactlyContradicted test = (table : Table) (branch : List Literal) → (test table branch ≡ true → Contradicted table branch) × (Contradicted table branch → test table branch ≡ true)
+
+-- THE FILE'S OWN COUNTS: lines by their first field, `cls`, `emp` and `bck` lines by their second, clauses by the numbers on C lines.
 abbrev pub hasLetter : Letter → Option (Line Letter) → Bool
 hasLetter k none = false
 hasLetter k (some l) = sameLetter k (l .letter)
 
 abbrev pub closesBranch : Option (Line Letter) → Bool
 closesBranch none = false
-closesBranch (some l) = sameLetter Letter.S (l .letter) && (sameBytes (bytes "cls") (l .word) || sameBytes (bytes "emp") (l .word))
+closesBranch (some l) = sameLetter Letter.S (l .letter) && (sameBytes (bytes "cls") (l .word) || (sameBytes (bytes "emp") (l .word) || sameBytes (bytes "bck") (l .word)))
 
 unfoldable pub countIf : (Option (Line Letter) → Bool) → List (List ℕ) → ℕ
 countIf f [] = 0

@@ -91,7 +91,7 @@ pub record RuleFields : Type 0 where
 abbrev pub fields : PlaceField → PlaceField → ThirdField → TermField → RuleFields
 fields p′ q′ t′ w′ = record { p = p′; q = q′; t = t′; w = w′ }
 
--- "Which fields each rule uses is one fixed table of [thirty-one] rows."
+-- "Which fields each rule uses is one fixed table of [thirty-two] rows."
 unfoldable pub ruleFields : Rule → RuleFields
 ruleFields Rule.Eqr = fields place place unused unused
 ruleFields Rule.Eql = fields place place unused unused
@@ -124,6 +124,7 @@ ruleFields Rule.Cls = fields place place unused unused
 ruleFields Rule.Emp = fields place unused unused unused
 ruleFields Rule.Cla = fields unused unused clause unused
 ruleFields Rule.Fin = fields place unused unused unused
+ruleFields Rule.Bck = fields unused unused unused unused
 
 -- the fields of a rule, as uses
 abbrev pub placeUse : PlaceField → Use

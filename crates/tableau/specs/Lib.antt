@@ -1,4 +1,4 @@
--- The specification, in the order of document 01; StartUp, Disjunctions, UsedWitnesses, InsideImage and LongNumbers are from document 02.
+-- The specification, in the order of document 01; Background, Saturation, StartUp, Disjunctions, UsedWitnesses, InsideImage, LongNumbers and Contradictions are from document 02.
 pub mod Basics
 pub mod File
 pub mod Words
@@ -7,6 +7,8 @@ pub mod Terms
 pub mod Meaning
 pub mod Rules
 pub mod Steps
+pub mod Background
+pub mod Saturation
 pub mod Tree
 pub mod Reply
 pub mod Claims
@@ -17,4 +19,5 @@ pub mod Disjunctions
 pub mod UsedWitnesses
 pub mod InsideImage
 pub mod LongNumbers
+pub mod Contradictions
 pub mod Shams

@@ -15,7 +15,7 @@ use Rattle.tableau.specs.File.{Line, letters, inOrder, maxDigits, shapeW
 use Rattle.tableau.specs.Words.{Command, make, assume, disjoin, infer, commandOf}
 use Rattle.tableau.specs.Fields.{Use, unused, place, name, side, clause, term, of, wordFields, sides, clauseFields, ruleUses}
 use Rattle.tableau.specs.Terms.{Place, TermNo, ClauseNo, Table, Term, Literal, literal, Clauses, clauseOf, lastClause, at, numberOf, maxTerms, sortOf, sameSort, written, oneSort}
-use Rattle.tableau.specs.Rules.{Row, Kind, rows, congruence, replacement, disjunction, rule}
+use Rattle.tableau.specs.Rules.{Row, Kind, rows, congruence, replacement, disjunction, background, rule}
 use Rattle.tableau.specs.Tree.{Checked, refused, passed, _>>=_, _>>_, require, requireSome, Tree, Status, isOpen, isClosed, root, maxPlaces, alternatives, grown}
 
 -- THE REFUSALS: the number of each, and the reply's last field, `place`, "0 for every other reply".
@@ -163,7 +163,7 @@ stepLine table C B x n = do
   require (every (ofSort table) (ruleUses x) n) Reason.WrongSort
   alternatives table C B x n
 
--- the rules that close, `cls` and `emp`: those whose rows have no alternative
+-- the rules that close, `cls` and `emp`, whose rows have no alternative, and `bck`
 abbrev pub addsNothing : List Row → Bool
 addsNothing [] = true
 addsNothing (R ∷ Rs) = eqb (length (R .adds)) 0 && addsNothing Rs
@@ -173,6 +173,7 @@ closingKind (rows Rs) = addsNothing Rs
 closingKind congruence = false
 closingKind replacement = false
 closingKind disjunction = false
+closingKind background = true
 
 abbrev pub isClosing : Rule → Bool
 isClosing x = closingKind (rule x)

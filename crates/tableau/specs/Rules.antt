@@ -1,4 +1,4 @@
--- 'The rules': a row for each of the thirty-one, in the order of document 01, then those of document 02. Nothing here knows of replies.
+-- 'The rules': a row for each of the thirty-two, in the order of document 01, then those of document 02. Nothing here knows of replies.
 use mathlib.Core.Path.{_≡_, refl}
 use mathlib.Core.Bool.{Bool, true, false}
 use mathlib.Core.List.{List, [], _∷_}
@@ -195,12 +195,13 @@ pub record Row : Type 0 where
   pub fresh : Bool
   pub adds : List (List LiteralPattern)
 
--- A rule: one row, several of which the first whose needs are met is taken ("or"), or one of the three that no row says.
+-- A rule: one row, several of which the first whose needs are met is taken ("or"), or one of the four that no row says.
 pub data Kind : Type 0 where
   rows : List Row → Kind
   congruence : Kind
   replacement : Kind
   disjunction : Kind
+  background : Kind
 
 infix 3 _⟶_ _；w-fresh⟶_
 infixr 2 _or_
@@ -248,5 +249,7 @@ rule Rule.Emp = rows (p∶ (u ∈ emp) ∷ [] ⟶ closes)
 rule Rule.Cla = disjunction
 -- "place p holds cup(r,i) eq i with i = img(h,r,f), and cup(i,r) eq r is added"
 rule Rule.Fin = rows (p∶ (cup r i ≈ i) ∷ i≐ (img h r f) ∷ [] ⟶ only ⟨ cup i r ≈ r ⟩)
+-- "Add the closing `bck`, with no fields."
+rule Rule.Bck = background
 
--- What `sub`, `rep` and `cla` need and add is in Steps.antt.
+-- What `sub`, `rep` and `cla` need and add is in Steps.antt; when `bck` closes, in Background.antt.

@@ -11,7 +11,7 @@ use Rattle.tableau.specs.declared.Relation.{Relation}
 use Rattle.tableau.specs.Basics.{then, guard, Four, four, every}
 use Rattle.tableau.specs.Fields.{arguments, ifArgument}
 use Rattle.tableau.specs.Terms.{Place, TermNo, Table, Term, variable, apply, Literal, literal, at, numberOf, sortOf, sameSort, sameOperator, sameRelation, firstPlace, mentioned, Clauses, disjuncts}
-use Rattle.tableau.specs.Rules.{Pattern, letter, operator, –, LiteralPattern, pattern, Need, p∶, q∶, is, isRegion, Row, Kind, rows, congruence, replacement, disjunction, letterT, letterW}
+use Rattle.tableau.specs.Rules.{Pattern, letter, operator, –, LiteralPattern, pattern, Need, p∶, q∶, is, isRegion, Row, Kind, rows, congruence, replacement, disjunction, background, letterT, letterW}
 
 -- An instance of a row: the term that each of its letters stands for.
 abbrev pub Letters : Type 0
@@ -141,6 +141,10 @@ concludeRep (literal R m n) (literal E a b) t =
 abbrev pub splitsInto : List Literal → Conclusion
 splitsInto D = record { fresh = false; adds = some (map (λ l. l ∷ []) D) }
 
+-- a closing
+abbrev pub closing : Conclusion
+closing = record { fresh = false; adds = some [] }
+
 -- The letters t and w as the line gives them; a row that asks for a fresh w uses no t.
 abbrev pub given : Bool → TermNo → TermNo → Letters
 given true t w = bind unbound letterW w
@@ -156,9 +160,10 @@ module _ (table : Table) (P Q : Option Literal) (t w : ℕ) where
   concludeRows [] = none
   concludeRows (R ∷ Rs) = orElse (met (at table) (R .needs) P Q (given (R .fresh) t w)) R (concludeRows Rs)
 
-  -- D are the literals of clause t; none: what the rule needs isn't so
-  unfoldable pub conclude : List Literal → Kind → Option Conclusion
-  conclude D (rows Rs) = concludeRows Rs
-  conclude D congruence = then P λ L. concludeSub table L t w
-  conclude D replacement = then P λ L. then Q λ M. concludeRep L M t
-  conclude D disjunction = some (splitsInto D)
+  -- D are the literals of clause t, E says whether the branch's equalities and order contradict it; none: what the rule needs isn't so
+  unfoldable pub conclude : List Literal → Bool → Kind → Option Conclusion
+  conclude D E (rows Rs) = concludeRows Rs
+  conclude D E congruence = then P λ L. concludeSub table L t w
+  conclude D E replacement = then P λ L. then Q λ M. concludeRep L M t
+  conclude D E disjunction = some (splitsInto D)
+  conclude D E background = guard E (some closing)

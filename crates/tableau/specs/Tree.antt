@@ -13,6 +13,7 @@ use Rattle.tableau.specs.Fields.{Use, unused, place, name, side, clause,
 use Rattle.tableau.specs.Terms.{Place, ClauseNo, Table, Literal, Clauses, clauseOf}
 use Rattle.tableau.specs.Rules.{rule}
 use Rattle.tableau.specs.Steps.{freshness, conclude}
+use Rattle.tableau.specs.Saturation.{contradicted}
 
 -- The answer of a check: a reason to refuse, or what follows.
 pub data Checked (A : Type 0) : Type 0 where
@@ -112,11 +113,11 @@ requireFresh false f = passed tt
 requireFresh true Freshness.Fresh = passed tt
 requireFresh true (Freshness.NotFresh p) = refused (Reason.NotFresh p)
 
--- The alternatives that rule x adds, where P and Q are the literals at places p and q, D those of clause t, and f says whether w is fresh: checks 12 to 14, a line
--- for each, in the order of their numbers.
-unfoldable pub answer : Table → Freshness → Option Literal → Option Literal → List Literal → ℕ → ℕ → Rule → Checked (List (List Literal))
-answer table f P Q D t w x = do
-  c ← requireSome (conclude table P Q t w D (rule x)) Reason.NeedNotMet
+-- The alternatives that rule x adds, where P and Q are the literals at places p and q, D those of clause t, E says whether the branch's equalities and order contradict it, and f
+-- whether w is fresh: checks 12 to 14, a line for each, in the order of their numbers.
+unfoldable pub answer : Table → Freshness → Option Literal → Option Literal → List Literal → Bool → ℕ → ℕ → Rule → Checked (List (List Literal))
+answer table f P Q D E t w x = do
+  c ← requireSome (conclude table P Q t w D E (rule x)) Reason.NeedNotMet
   requireFresh (c .fresh) f
   requireSome (c .adds) Reason.TermNotMade
 
@@ -124,7 +125,7 @@ answer table f P Q D t w x = do
 unfoldable pub alternatives : Table → Clauses → List Literal → Rule → Four ℕ → Checked (List (List Literal))
 alternatives table C B x n = do
   require (every (isThere C B) (ruleUses x) n) Reason.NoSuchPlace
-  answer table (freshness table C B (n .d)) (literalAt B (n .a)) (literalAt B (n .b)) (clauseOf C (n .c)) (n .c) (n .d) x
+  answer table (freshness table C B (n .d)) (literalAt B (n .a)) (literalAt B (n .b)) (clauseOf C (n .c)) (contradicted table B) (n .c) (n .d) x
 
 -- What they make of an open tree: checks 15 and 16.
 unfoldable pub grown : Tree → List (List Literal) → Checked Status

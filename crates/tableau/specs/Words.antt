@@ -77,6 +77,7 @@ ruleNames =
     ("emp" ↣ Rule.Emp) ∷
     ("cla" ↣ Rule.Cla) ∷
     ("fin" ↣ Rule.Fin) ∷
+    ("bck" ↣ Rule.Bck) ∷
     []
 
 -- What a line asks for, by its letter and word: a term, an assumption, a literal of a clause, a step.

@@ -82,6 +82,7 @@ pub enum Rule {
     Emp,
     Cla,
     Fin,
+    Bck,
 }
 
 // Why a file is refused, in the order of the refusal numbers 1 to 21.

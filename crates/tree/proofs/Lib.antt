@@ -3,3 +3,4 @@ pub mod Branch
 pub mod Waiting
 pub mod Changes
 pub mod Splits
+pub mod BranchLaws

@@ -8,7 +8,7 @@ use lib.ListN.{length, take, getD}
 use Rattle.tableau.specs.Terms.{Literal}
 use Rattle.tableau.specs.Tree as specification
 use Rattle.tableau.specs.Tree.{literalAt, onBranch, maxPlaces, maxWaiting, Waiting}
-use Rattle.packing.specs.Packing.{codeLimit}
+use Rattle.packing.specs.Packing.{codeLimit, unpackLiteral}
 use Rattle.tree.specs.declared.Alternative.{Alternative}
 use Rattle.tree.specs.declared.Begun.{Begun}
 use Rattle.tree.specs.declared.Tree.{Tree}
@@ -51,6 +51,10 @@ pub record IsBranch (array : List ℕ) (n : ℕ) : Type 0 where
   pub size : length array ≡ maxPlaces
   pub room : n ≤ maxPlaces
   pub bounded : (k : ℕ) → getD array k 0 < codeLimit
+
+-- the literals that they stand for, each a packed literal
+abbrev pub branchOf : List ℕ → ℕ → List Literal
+branchOf array n = map unpackLiteral (take n array)
 
 -- r is what check 11 says of place p, on every branch of n literals
 abbrev pub HasPlace : ℕ → ℕ → Bool → Type 0

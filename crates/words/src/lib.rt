@@ -118,7 +118,7 @@ const RELATIONS: [Relation; RELATION_COUNT] = [
     Relation::Nl,
 ];
 
-const RULE_COUNT: usize = 31;
+const RULE_COUNT: usize = 32;
 
 const RULES: [Rule; RULE_COUNT] = [
     Rule::Eqr,
@@ -152,9 +152,10 @@ const RULES: [Rule; RULE_COUNT] = [
     Rule::Emp,
     Rule::Cla,
     Rule::Fin,
+    Rule::Bck,
 ];
 
-// "Which fields each rule uses is one fixed table of [thirty-one] rows."
+// "Which fields each rule uses is one fixed table of [thirty-two] rows."
 const RULE_MASKS: [u8; RULE_COUNT] = [
     Mask::P | Mask::Q, // eqr
     Mask::P | Mask::Q, // eql
@@ -187,6 +188,7 @@ const RULE_MASKS: [u8; RULE_COUNT] = [
     Mask::P, // emp
     Mask::T, // cla
     Mask::P, // fin
+    0, // bck
 ];
 
 fn pack(a: u8, b: u8, c: u8) -> usize
@@ -251,7 +253,7 @@ pub fn rule_of(word: usize) -> RuleFound
     let masks = RULE_MASKS;
     let index = search(
         word,
-        b"eqr eql ext cpe cpi cue cui dfe dfi sge sgi cut all nul sep img wit ref sym trn sub rep ler let lea rdh rdm cls emp cla fin ",
+        b"eqr eql ext cpe cpi cue cui dfe dfi sge sgi cut all nul sep img wit ref sym trn sub rep ler let lea rdh rdm cls emp cla fin bck ",
     );
     if index < RULE_COUNT {
         let rule = rules[index];

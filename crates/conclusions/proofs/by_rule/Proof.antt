@@ -1,9 +1,12 @@
 -- Each arm is the function of its rule.
-use mathlib.Core.Path.{_≡_}
+use mathlib.Core.Path.{_≡_, refl}
 use denote.Ref.{now}
 use Rattle.tableau.specs.declared.Reason.{Reason}
 use Rattle.tableau.specs.declared.Rule.{Rule}
 use Rattle.tableau.specs.Fields.{ruleFields}
+use Rattle.tableau.specs.Rules.{rule}
+use Rattle.tableau.specs.Steps.{conclude}
+use Rattle.tableau.specs.Tree.{answer}
 use Rattle.rules.specs.declared.outcome.Outcome.{Outcome}
 use Rattle.conclusions.specs.Infers.{Given, Infers}
 use Rattle.conclusions.proofs.Laws.{given-as, infers, infers-fresh, not-rep, not-cla}
@@ -135,7 +138,7 @@ fin : (c : tie.After-fin) → Answers (c .before .before .before) (c .fin .resul
 unfolding ruleFields
 fin c = infers {y = Rule.Fin} (cc) (c .before .before .before .pre .1 .2) (λ table S. S) (c .fin .ensures)
 
--- these two do not come here
+-- these do not come here
 rep : (c : tie.After-enum-told22) → Answers (c .before .before) (Outcome.Refused Reason.NeedNotMet)
 unfolding ruleFields
 rep c = let s = c .before .before in absurd (not-rep {x = s .args .rule} (s .pre .1 .3) (cc))
@@ -143,6 +146,10 @@ rep c = let s = c .before .before in absurd (not-rep {x = s .args .rule} (s .pre
 cla : (c : tie.After-enum-told30) → Answers (c .before .before) (Outcome.Refused Reason.NeedNotMet)
 unfolding ruleFields
 cla c = let s = c .before .before in absurd (not-cla {x = s .args .rule} (s .pre .1 .3) (cc))
+
+bck : (c : tie.After-enum-told32) → Answers (c .before .before) (Outcome.Refused Reason.NeedNotMet)
+unfolding ruleFields answer conclude rule
+bck c = infers {y = Rule.Bck} {A = λ table. Unit {0}} (cc) (c .before .before .pre .1 .2) (λ table S. tt) (record { room = tt; answers = λ table p fresh. refl })
 
 pub by-rule-spec : {M : Type 1} → statement M
 unfolding ruleFields
@@ -209,6 +216,7 @@ by-rule-spec =
     (λ c. search needs)
     (λ c. search needs)
     (λ c κs. let s = c .before .before in (s .pre .0, s .pre .1 .0))
+    (λ c. search needs)
     eqr
     eql
     ext
@@ -239,4 +247,5 @@ by-rule-spec =
     cls
     emp
     cla
-    fin)
+    fin
+    bck)

@@ -8,7 +8,7 @@ use borrow.Author.Needs.{needs}
 use borrow.Author.Tests.{ltb-true, ltb-false}
 use Rattle.tableau.proofs.Bools.{dec}
 use Rattle.table.specs.Held.{Absent}
-use Rattle.table.proofs.EntryLaws.{here, nowhere, absent-more}
+use Rattle.table.proofs.EntryLaws.{absent-more}
 use Rattle.table.proofs.scan_from.Statement.{statement}
 use Rattle.table.proofs.scan_from.Tie as tie
 
@@ -19,7 +19,7 @@ abbrev μ-loop : tie.MeasureT-loop
 μ-loop terms first last packed t₀ t = last + 1 - t
 
 returns : tie.Need-returns Inv-loop μ-loop
-returns c table chains S K e P = here table _ _ S _ e P _ (omega arith) (omega (arith, K .within)) (c .if1 .taken)
+returns c n K = (omega arith, omega (arith, K .within), c .if1 .taken)
 
 loop-again : tie.Need-loop-again Inv-loop μ-loop
 loop-again c =
@@ -28,12 +28,12 @@ loop-again c =
     (omega arith, absent-more (s .terms .now) (s .packed) 1 (l .loop .t) _ (l .loop .inv .1) (c .if1 .left) refl)
 
 returns-2 : tie.Need-returns-2 Inv-loop μ-loop
-returns-2 c table chains S K e P =
+returns-2 c n K =
     let t = c .before .loop .t in
-    nowhere table _ _ S _ e P (λ j l m q. elim (dec (ltb j t)) [
+    λ j l m q. elim (dec (ltb j t)) [
       | inl z ↦ c .before .loop .inv .1 j l (ltb-true j t z) q
-      | inr z ↦ K .passed j (omega (arith, ltb-false j t z)) m q
-    ])
+      | inr z ↦ K .passed j (omega (arith, ltb-false j t z)) (omega arith) q
+    ]
 
 pub scan-from-spec : {M : Type 1} → statement M
 scan-from-spec =

@@ -26,7 +26,7 @@ returns-3 c = λ e f h k.
     let takes = sym (d .before .before .takes-terms .ensures) ∙ not-false _ (d .before .if1 .left) in
     sym (congruent-packed _ _ e f h k
     ∙ rw (takes, eq-eqb _ _ (d .if2 .left))
-    (sym (c .all-agree .ensures ∙ ap₂ (λ (m n : Four ℕ). every (agree (a .a .0) (a .b .0)) m n) (c .before .before .arguments .ensures) (c .before .arguments2 .ensures))))
+    (sym (c .all-agree .ensures ∙ ap₂ (λ (m n : Four ℕ). every (agree (a .a .0) (a .b .0)) m n) (c .before .before .fields .ensures) (c .before .fields2 .ensures))))
 
 pub congruent-spec : {M : Type 1} → statement M
 congruent-spec =

@@ -15,7 +15,7 @@ returns c = (
   λ table C E M q P.
       let s = c .before .before .before .args in
       record {
-        fresh = λ L R D t. unasked-answer table L R D t (s .step .w .0) (s .step .rule) (sym (c .before .asks-fresh .ensures) ∙ not-true _ (c .if1 .taken)) _ _;
+        fresh = λ L R D b t. unasked-answer table L R D b t (s .step .w .0) (s .step .rule) (sym (c .before .asks-fresh .ensures) ∙ not-true _ (c .if1 .taken)) _ _;
         rows = P;
       },
 )
@@ -27,7 +27,7 @@ returns-2 c =
       λ table C E M q P.
           let rows = c .before .before .note .ensures table C M q P in
           record {
-            fresh = λ L R D t. ap (λ (f : Freshness). answer table f L R D t (s .args .step .w .0) (s .args .step .rule)) (c .test .ensures table C E M q rows);
+            fresh = λ L R D b t. ap (λ (f : Freshness). answer table f L R D b t (s .args .step .w .0) (s .args .step .rule)) (c .test .ensures table C E M q rows);
             rows = rows;
           },
     )

@@ -1,0 +1,4 @@
+pub mod LiteralLaws
+pub mod OrderLaws
+pub mod SaturatedLaws
+pub mod RoundLaws

@@ -1,0 +1,2 @@
+pub mod SignatureLaws
+pub mod AlikeLaws
