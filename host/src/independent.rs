@@ -3,8 +3,10 @@
 //! struck; clauses and the rule `cla` come from the request "Assumptions with
 //! an or in them", the reply's field `place` and the length of the buffer from
 //! "Where is that witness already used?", the rule `fin` from "Finite heaps have
-//! a counting argument". What "More names" changed in a sentence is in brackets.
+//! a counting argument", the closing `bck` from "Let the checker close on
+//! equalities by itself". What "More names" changed in a sentence is in brackets.
 
+use crate::independent_closure;
 use LiteralWord::*;
 
 /// "At most 60,000 bytes."
@@ -135,18 +137,27 @@ impl From<u32> for LineRefusal {
     }
 }
 
+/// Whether `bck` closes a branch over these terms.
+pub type Closes = fn(&[Term], &[Literal]) -> bool;
+
 /// Checks a whole file: any bytes get one reply.
 pub fn check(file: &[u8]) -> Reply {
-    match closed_tree(file) {
+    check_by(file, independent_closure::closes)
+}
+
+/// The same with another `bck`, for one who wants a wrong checker.
+pub fn check_by(file: &[u8], closes: Closes) -> Reply {
+    match closed_tree(file, closes) {
         Ok(state) => yes(&state),
         Err((refusal, line)) => no(refusal, line),
     }
 }
 
 /// The state after all lines of an accepted file, or a refusal and its line.
-fn closed_tree(file: &[u8]) -> Result<State, (LineRefusal, u32)> {
+fn closed_tree(file: &[u8], closes: Closes) -> Result<State, (LineRefusal, u32)> {
     check_length(file).map_err(|(number, line)| (number.into(), line))?;
     let mut state = State::new();
+    state.closes = closes;
     let lines = each_line(file, |text| check_line(&mut state, text))?;
     // 17: "input ends with a branch open; line is last line plus 1"
     if !state.closed {
@@ -698,6 +709,7 @@ struct State {
     closed: bool,
     steps: u32,
     closings: u32,
+    closes: Closes,
 }
 
 impl State {
@@ -715,6 +727,7 @@ impl State {
             closed: false,
             steps: 0,
             closings: 0,
+            closes: independent_closure::closes,
         }
     }
 
@@ -904,6 +917,7 @@ enum Rule {
     Emp,
     Cla,
     Fin,
+    Bck,
 }
 
 fn rule_of_word(word: &[u8]) -> Option<Rule> {
@@ -939,12 +953,13 @@ fn rule_of_word(word: &[u8]) -> Option<Rule> {
         b"emp" => Some(Rule::Emp),
         b"cla" => Some(Rule::Cla),
         b"fin" => Some(Rule::Fin),
+        b"bck" => Some(Rule::Bck),
         _ => None,
     }
 }
 
 /// The column "Uses": "Which fields each rule uses is one fixed table", of
-/// thirty-one rows without `fir` and with `cla` and `fin`.
+/// thirty-two rows without `fir` and with `cla`, `fin` and `bck`.
 fn uses(rule: Rule) -> &'static str {
     match rule {
         Rule::Eqr => "pq",
@@ -978,6 +993,8 @@ fn uses(rule: Rule) -> &'static str {
         Rule::Emp => "p",
         Rule::Cla => "t",
         Rule::Fin => "p",
+        // "with no fields"
+        Rule::Bck => "",
     }
 }
 
@@ -1220,6 +1237,7 @@ fn conclude(state: &State, step: &Step) -> Option<Conclusion> {
         Rule::Emp => emp(state, p),
         Rule::Cla => cla(state, t),
         Rule::Fin => fin(state, p),
+        Rule::Bck => bck(state),
     }
 }
 
@@ -1553,4 +1571,11 @@ fn fin(state: &State, p: u32) -> Option<Conclusion> {
     need(r_again == r)?;
     let turned = state.find(TermWord::Cup, &[i, r]);
     adds(vec![maybe(turned, Eq, Some(r))])
+}
+
+/// "Add the closing `bck`, with no fields." "It counts as a closing", "Otherwise
+/// it gets 12."
+fn bck(state: &State) -> Option<Conclusion> {
+    need((state.closes)(&state.terms, &state.branch))?;
+    Some(Conclusion::Closes)
 }

@@ -12,6 +12,7 @@ pub mod evaluators;
 pub mod generator;
 pub mod heap_lines;
 pub mod independent;
+pub mod independent_closure;
 pub mod independent_evaluator;
 pub mod independent_figures;
 pub mod meaning;

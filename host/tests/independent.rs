@@ -1,7 +1,8 @@
 //! The cases of document 01 with a stated reply, and their neighbours. Expected
 //! replies are worked out by hand from the document, its rule `fir` struck, and
 //! from the requests "Assumptions with an or in them", "Where is that witness
-//! already used?", "Finite heaps have a counting argument" and "More names".
+//! already used?", "Finite heaps have a counting argument", "More names" and "Let
+//! the checker close on equalities by itself".
 
 mod examples;
 
@@ -9,10 +10,10 @@ use cases::digits::names_changed_over;
 use examples::{file, rule_files, ALLOCATED, F, FIN, G, IMG, OR, RDM, STRUCK, WIT};
 use host::independent::{call, check, reply_line, Reply};
 
-const RULES: [&str; 31] = [
+const RULES: [&str; 32] = [
     "eqr", "eql", "ext", "cpe", "cpi", "cue", "cui", "dfe", "dfi", "sge", "sgi", "cut", "all",
     "nul", "sep", "img", "wit", "ref", "sym", "trn", "sub", "rep", "ler", "let", "lea", "rdh",
-    "rdm", "cls", "emp", "cla", "fin",
+    "rdm", "cls", "emp", "cla", "fin", "bck",
 ];
 
 fn yes(terms: u32, assumptions: u32, steps: u32, closings: u32) -> Reply {
@@ -606,11 +607,11 @@ fn every_rule_uses_its_fields() {
     let table = "eqr pq, eql pq, ext pw, cpe p, cpi pqt, cue p, cui pt, dfe p, dfi pqt, sge p,
                  sgi t, cut tw, all p, nul p, sep pq, img pt, wit pw, ref t, sym p, trn pq,
                  sub ptw, rep pqt, ler t, let pq, lea pq, rdh t, rdm t, cls pq, emp p, cla t,
-                 fin p";
+                 fin p, bck";
     let mut rows = 0;
     for row in table.split(',') {
         let words: Vec<&str> = row.split_whitespace().collect();
-        let (rule, used) = (words[0], words[1]);
+        let (rule, used) = (words[0], words.get(1).unwrap_or(&""));
         rows += 1;
         for (index, field) in ["p", "q", "t", "w"].iter().enumerate() {
             let mut numbers = [0, 0, 0, 0];
@@ -624,7 +625,7 @@ fn every_rule_uses_its_fields() {
             assert_eq!(reply.line, 1);
         }
     }
-    assert_eq!(rows, 31);
+    assert_eq!(rows, 32);
 }
 
 #[test]
@@ -643,7 +644,7 @@ fn no_other_word_is_a_rule() {
             }
         }
     }
-    assert_eq!(rules, 31);
+    assert_eq!(rules, 32);
 }
 
 #[test]

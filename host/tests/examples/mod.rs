@@ -393,5 +393,14 @@ pub fn rule_files() -> Vec<Accepted> {
              S,emp,1,0,0,0",
             [2, 1, 1, 1],
         ),
+        // 1 u, 2 v, 3 f, 4 g, 5 typ(u), 6 typ(v), 7 dty(f), 8 dty(g).
+        accepted(
+            "bck",
+            "T,rfv,1,0,0,0 T,rfv,2,0,0,0 T,fnv,1,0,0,0 T,fnv,2,0,0,0
+             T,typ,1,0,0,0 T,typ,2,0,0,0 T,dty,3,0,0,0 T,dty,4,0,0,0
+             A,eq,2,1,0,0 A,eq,3,4,0,0 A,le,6,7,0,0 A,nl,5,8,0,0
+             S,bck,0,0,0,0",
+            [8, 4, 1, 1],
+        ),
     ]
 }
