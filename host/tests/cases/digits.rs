@@ -93,7 +93,7 @@ pub const C_LINES: [Row; 6] = [
 ];
 
 /// As the step of `bench`.
-const S_LINES: [Row; 31] = [
+const S_LINES: [Row; 32] = [
     ("S,eqr,8,1,0,0", [11, 11, 6, 6]),
     ("S,eql,8,3,0,0", [11, 11, 6, 6]),
     ("S,ext,9,0,0,6", [11, 6, 6, 8]),
@@ -125,6 +125,7 @@ const S_LINES: [Row; 31] = [
     ("S,emp,20,0,0,0", [11, 6, 6, 6]),
     ("S,cla,0,0,1,0", [6, 6, 11, 6]), // t is a clause number
     ("S,fin,38,0,0,0", [11, 6, 6, 6]),
+    ("S,bck,0,0,0,0", [6, 6, 6, 6]), // r eq s, r ne s
 ];
 
 /// A row's line with other numbers in each field in turn, and what each gets:
@@ -201,7 +202,8 @@ fn right_steps() -> Vec<Case> {
     S_LINES
         .iter()
         .map(|(step, _)| {
-            let closes = step.starts_with("S,cls,") || step.starts_with("S,emp,");
+            let closings = ["S,cls,", "S,emp,", "S,bck,"];
+            let closes = closings.iter().any(|rule| step.starts_with(rule));
             let reply = if closes {
                 "yes,0,0,37,39,1,1,0"
             } else {

@@ -2,12 +2,14 @@
 //!
 //! Every reply is worked out by hand from the scope document, its rule `fir`
 //! struck, and from the requests "Assumptions with an or in them", "Where is
-//! that witness already used?", "Finite heaps have a counting argument" and
-//! "More names". In comments `3: u in r` says that place 3 of the branch now
+//! that witness already used?", "Finite heaps have a counting argument", "More
+//! names" and "Let the checker close on equalities by itself". In comments `3: u in r` says that place 3 of the branch now
 //! holds that literal; beside a closing it is what the next alternative adds. A
 //! number beside a T line is the number of the term.
 
 mod allocated;
+mod bck;
+mod bck_steps;
 mod clause_freshness;
 mod clause_splits;
 mod clauses;
@@ -45,6 +47,8 @@ pub fn all() -> Vec<Case> {
         places::cases(),
         fin::cases(),
         digits::cases(),
+        bck::cases(),
+        bck_steps::cases(),
     ];
     topics.into_iter().flatten().collect()
 }
