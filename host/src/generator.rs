@@ -9,10 +9,12 @@ mod clause_damage;
 mod clause_limits;
 mod clauses;
 mod closable;
+mod closures;
 mod counting_damage;
 mod damage;
 mod derivations;
 mod draft;
+mod entailed;
 mod exact_damage;
 pub mod full_tables;
 mod heap_refutations;
@@ -23,14 +25,16 @@ mod near_misses;
 mod noise;
 mod planted;
 mod refutations;
+mod relation_refutations;
 mod rules;
 mod tableau;
+mod translation;
 
 use crate::call::Numbers;
 use crate::random::Random;
 
 use builder::Builder;
-use draft::MOST_WAITING;
+use draft::{Draft, MOST_WAITING};
 
 pub use damage::neighbour;
 pub use exact_damage::{FORMER_RULE, RULES};
@@ -72,9 +76,11 @@ const BATCHES_PER_LIMIT: u64 = 100;
 const DAMAGED_PER_TABLEAU: usize = 8;
 const NOISE_PER_TABLEAU: usize = 2;
 const NEAR_MISSES_PER_TABLEAU: usize = 2;
+const CLOSURES_PER_TABLEAU: usize = 2;
 
 /// The samples of one batch: a closed tableau, damaged neighbours, noise,
-/// single steps, and now and then the files at the limits.
+/// single steps, single closings by `bck`, and now and then the files at the
+/// limits.
 pub fn batch(seed: u64, batch: u64) -> Vec<Sample> {
     let mut random = Random::of_batch(seed, batch);
     let tableau = closed_tableau(&mut random);
@@ -87,6 +93,9 @@ pub fn batch(seed: u64, batch: u64) -> Vec<Sample> {
     }
     for _ in 0..NEAR_MISSES_PER_TABLEAU {
         samples.push(near_misses::sample(&mut random));
+    }
+    for _ in 0..CLOSURES_PER_TABLEAU {
+        samples.push(closures::sample(&mut random));
     }
     if batch.is_multiple_of(BATCHES_PER_LIMIT) {
         samples.extend(limits::samples(&mut random));
@@ -108,7 +117,15 @@ pub fn small_tableau(random: &mut Random) -> Tableau {
     let depth = random.below(2);
     let mut builder = Builder::new(random, budget, depth);
     builder.close_branch(1);
-    let draft = builder.draft;
+    finished(builder.draft, random)
+}
+
+/// The tableau of a closed draft, now and then with `bck` in place of chains of
+/// steps.
+fn finished(mut draft: Draft, random: &mut Random) -> Tableau {
+    if random.chance(1, 3) {
+        translation::put_bck(&mut draft, || random.chance(1, 2));
+    }
     tableau::shuffled(&draft, random)
 }
 
@@ -132,6 +149,5 @@ fn closed_tableau(random: &mut Random) -> Tableau {
     while !builder.draft.is_closed() {
         builder.close_branch(nesting);
     }
-    let draft = builder.draft;
-    tableau::shuffled(&draft, random)
+    finished(builder.draft, random)
 }

@@ -8,13 +8,13 @@ use super::refusal;
 use super::tableau::{plain_line, text, Entry, Line, Tableau};
 
 /// An assumption cup(r,i) eq i, by its line, and the first step that uses it,
-/// which is one by `fin`.
+/// which is one by `fin`. A `bck` names no place, and may use it too.
 fn assumed_premise(tableau: &Tableau, random: &mut Random) -> Option<(usize, usize)> {
     let is_assumed = |place: u32| place as usize <= tableau.assumptions;
     let by_assumption = |line: &Line| line.word == "fin" && is_assumed(line.entries[0].number());
     let index = some_line(tableau, random, by_assumption)?;
     let place = tableau.lines[index].entries[0];
-    let uses_it = |line: &Line| line.entries.contains(&place);
+    let uses_it = |line: &Line| line.entries.contains(&place) || line.word == "bck";
     let first = tableau.lines.iter().position(uses_it)?;
     let assumption = tableau.terms + place.number() as usize - 1;
     (tableau.lines[first].word == "fin").then_some((assumption, first))

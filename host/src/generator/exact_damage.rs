@@ -192,10 +192,10 @@ const TERM_WORDS: [&str; 17] = [
 ];
 const LITERAL_WORDS: [&str; 6] = ["in", "ni", "eq", "ne", "le", "nl"];
 /// The rules.
-pub const RULES: [&str; 31] = [
+pub const RULES: [&str; 32] = [
     "eqr", "eql", "ext", "cpe", "cpi", "cue", "cui", "dfe", "dfi", "sge", "sgi", "cut", "all",
     "nul", "sep", "img", "wit", "ref", "sym", "trn", "sub", "rep", "ler", "let", "lea", "rdh",
-    "rdm", "cla", "fin", "cls", "emp",
+    "rdm", "cla", "fin", "cls", "emp", "bck",
 ];
 /// A rule in older files; now no letter has the word.
 pub const FORMER_RULE: &str = "fir";

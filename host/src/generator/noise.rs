@@ -88,6 +88,7 @@ fn used_fields(rule: &str) -> [bool; 4] {
         "sgi" | "ref" | "ler" | "rdh" | "rdm" | "cla" => "t",
         "cut" => "tw",
         "sub" => "ptw",
+        "bck" => "",
         _ => "p",
     };
     ['p', 'q', 't', 'w'].map(|field| used.contains(field))

@@ -6,12 +6,14 @@ use super::builder::Builder;
 use super::clauses;
 use super::derivations::obtain;
 use super::draft::{denial, lit, Literal, Place, Sort, TermId};
+use super::entailed::WORDS;
 use super::heap_refutations as heaps;
 use super::identities;
+use super::relation_refutations as relations;
 
 type Refutation = fn(&mut Builder, usize);
 
-const REFUTATIONS: [Refutation; 37] = [
+const REFUTATIONS: [Refutation; 41] = [
     eqr,
     eql,
     ext_of_all,
@@ -49,6 +51,10 @@ const REFUTATIONS: [Refutation; 37] = [
     empty,
     identities::unequal,
     identities::member,
+    relations::chained,
+    relations::chained,
+    relations::bck,
+    relations::bck_of_itself,
 ];
 
 /// Closes the branch by a refutation chosen at random.
@@ -308,22 +314,6 @@ fn trn(builder: &mut Builder, depth: usize) {
     let added = builder.draft.trn(p, q);
     builder.draft.cls(added, unequal);
 }
-
-/// Each word with arguments, and their sorts.
-const WORDS: [(&str, &[Sort]); 9] = [
-    ("rea", &[Sort::Heap, Sort::Reference, Sort::Field]),
-    ("cup", &[Sort::Region, Sort::Region]),
-    ("cap", &[Sort::Region, Sort::Region]),
-    ("dif", &[Sort::Region, Sort::Region]),
-    ("sin", &[Sort::Reference]),
-    ("img", &[Sort::Heap, Sort::Region, Sort::Field]),
-    (
-        "wri",
-        &[Sort::Heap, Sort::Reference, Sort::Field, Sort::Reference],
-    ),
-    ("typ", &[Sort::Reference]),
-    ("dty", &[Sort::Field]),
-];
 
 /// a eq b, and two terms that differ only where one has a and the other b.
 fn sub(builder: &mut Builder, depth: usize) {
