@@ -4,6 +4,7 @@
 //! makes pairs of files for the evaluators.
 
 mod aliases;
+mod bck_damage;
 mod builder;
 mod clause_damage;
 mod clause_limits;
@@ -75,7 +76,7 @@ pub struct Sample {
 const BATCHES_PER_LIMIT: u64 = 100;
 const DAMAGED_PER_TABLEAU: usize = 8;
 const NOISE_PER_TABLEAU: usize = 2;
-const NEAR_MISSES_PER_TABLEAU: usize = 2;
+const NEAR_MISSES_PER_TABLEAU: usize = 3;
 const CLOSURES_PER_TABLEAU: usize = 2;
 
 /// The samples of one batch: a closed tableau, damaged neighbours, noise,

@@ -4,6 +4,7 @@
 use crate::random::Random;
 
 use super::aliases;
+use super::bck_damage;
 use super::exact_damage::{words_of, EXACT};
 use super::planted;
 use super::tableau::{text, Entry, Line, Tableau};
@@ -11,7 +12,7 @@ use super::{Expected, Sample};
 
 type Blind = fn(&Tableau, &mut Random) -> Vec<u8>;
 
-const BLIND: [(&str, Blind); 14] = [
+const BLIND: [(&str, Blind); 16] = [
     ("a number changed", number_changed),
     ("a number changed", number_changed),
     ("two fields exchanged", fields_exchanged),
@@ -22,6 +23,8 @@ const BLIND: [(&str, Blind); 14] = [
     ("a line moved", line_moved),
     ("two alternatives exchanged", alternatives_exchanged),
     ("a variable taken at random", variable_at_random),
+    ("bck put in", bck_damage::put_in),
+    ("bck for another closing", bck_damage::for_another_closing),
     ("a byte changed", byte_changed),
     ("a byte dropped", byte_dropped),
     ("a byte doubled", byte_doubled),

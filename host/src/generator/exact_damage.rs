@@ -7,6 +7,7 @@ use crate::numbers::GREATEST;
 use crate::random::Random;
 
 use super::aliases;
+use super::bck_damage;
 use super::clause_damage;
 use super::counting_damage;
 use super::draft::{MOST_PLACES, MOST_TERMS};
@@ -17,7 +18,7 @@ use super::{not_fresh, refusal, Expected};
 pub type Damaged = Option<(Vec<u8>, Expected)>;
 pub type Damage = fn(&Tableau, &mut Random) -> Damaged;
 
-pub const EXACT: [(&str, Damage); 40] = [
+pub const EXACT: [(&str, Damage); 43] = [
     ("last closing dropped", last_closing_dropped),
     ("last closing doubled", last_closing_doubled),
     ("a line misshapen", misshapen),
@@ -48,6 +49,12 @@ pub const EXACT: [(&str, Damage); 40] = [
     ("w in a clause too", planted::in_a_clause_too),
     ("w in assumptions", planted::in_assumptions),
     ("a step by fir", planted::former_rule),
+    ("a field of bck", bck_damage::field_used),
+    ("bck on a closed tree", bck_damage::after_the_end),
+    (
+        "bck under another letter",
+        bck_damage::word_of_another_letter,
+    ),
     ("a clause numbered 0", clause_damage::number_0),
     ("a gap in the clauses", clause_damage::gap),
     ("clauses going back", clause_damage::going_back),

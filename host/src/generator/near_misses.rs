@@ -1,7 +1,7 @@
 //! Single steps whose premises fit, or fail to fit in just one spot: a term
 //! that should stand in two places stands in one only, a premise is denied, or
 //! its sides are exchanged. Where they fit, the terms to be added may be
-//! missing.
+//! missing. `bck` names no premises, but has them all the same.
 
 use crate::random::Random;
 
@@ -56,7 +56,7 @@ const fn replacing(
     }
 }
 
-const SCHEMAS: [Schema; 41] = [
+const SCHEMAS: [Schema; 65] = [
     schema("eqr", &[("r", "eq", "s"), ("u", "in", "r")], &[]),
     schema("eql", &[("r", "eq", "s"), ("u", "in", "s")], &[]),
     schema("cpi", &[("u", "in", "r"), ("u", "in", "s")], &["cap(r,s)"]),
@@ -114,6 +114,81 @@ const SCHEMAS: [Schema; 41] = [
     misfit("fin", &[("cup(r,img(h,s,f))", "eq", "img(h,s,f)")], &[]),
     misfit("fin", &[("cap(r,img(h,r,f))", "eq", "img(h,r,f)")], &[]),
     misfit("fin", &[("cup(r,s)", "eq", "s")], &[]),
+    schema("bck", &[("u", "ne", "u")], &[]),
+    schema("bck", &[("a", "nl", "a")], &[]),
+    schema("bck", &[("v", "eq", "u"), ("u", "ne", "v")], &[]),
+    schema("bck", &[("a", "eq", "b"), ("a", "nl", "b")], &[]),
+    schema("bck", &[("a", "eq", "b"), ("b", "nl", "a")], &[]),
+    schema("bck", &[("a", "le", "b"), ("a", "nl", "b")], &[]),
+    schema(
+        "bck",
+        &[("u", "eq", "v"), ("y", "eq", "v"), ("u", "ne", "y")],
+        &[],
+    ),
+    schema(
+        "bck",
+        &[("a", "le", "b"), ("b", "le", "c"), ("a", "nl", "c")],
+        &[],
+    ),
+    schema(
+        "bck",
+        &[("a", "le", "b"), ("b", "le", "a"), ("a", "ne", "b")],
+        &[],
+    ),
+    schema(
+        "bck",
+        &[("a", "le", "b"), ("c", "eq", "b"), ("a", "nl", "c")],
+        &[],
+    ),
+    schema(
+        "bck",
+        &[("a", "le", "b"), ("a", "eq", "c"), ("c", "nl", "b")],
+        &[],
+    ),
+    schema("bck", &[("u", "eq", "v"), ("sin(v)", "ne", "sin(u)")], &[]),
+    schema("bck", &[("u", "eq", "v"), ("typ(u)", "nl", "typ(v)")], &[]),
+    schema(
+        "bck",
+        &[("r", "eq", "s"), ("cup(r,s)", "ne", "cup(s,r)")],
+        &[],
+    ),
+    schema(
+        "bck",
+        &[
+            ("u", "eq", "v"),
+            ("r", "eq", "s"),
+            ("cup(r,sin(u))", "ne", "cup(s,sin(v))"),
+        ],
+        &[],
+    ),
+    schema(
+        "bck",
+        &[
+            ("u", "eq", "v"),
+            ("r", "eq", "s"),
+            ("img(wri(h,u,f,y),r,f)", "ne", "img(wri(h,v,f,y),s,f)"),
+        ],
+        &[],
+    ),
+    schema(
+        "bck",
+        &[
+            ("u", "eq", "rea(h,u,f)"),
+            ("u", "ne", "rea(h,rea(h,u,f),f)"),
+        ],
+        &[],
+    ),
+    misfit("bck", &[("a", "le", "b"), ("b", "nl", "a")], &[]),
+    misfit("bck", &[("a", "le", "b"), ("a", "ne", "b")], &[]),
+    misfit("bck", &[("u", "in", "r"), ("u", "ni", "r")], &[]),
+    misfit("bck", &[("u", "in", "sin(v)"), ("u", "ne", "v")], &[]),
+    misfit("bck", &[("sin(u)", "eq", "sin(v)"), ("u", "ne", "v")], &[]),
+    misfit(
+        "bck",
+        &[("r", "eq", "s"), ("cup(r,s)", "ne", "cap(r,s)")],
+        &[],
+    ),
+    misfit("bck", &[("cup(r,s)", "ne", "cup(s,r)")], &[]),
 ];
 
 /// The terms that `img` and `fin` find in the table, beside `all`. They are
@@ -139,7 +214,10 @@ pub fn sample(random: &mut Random) -> Sample {
             word
         };
         let literal = lit(instance.term(left), word, instance.term(right));
-        fields[index] = Field::Place(instance.draft.assume(literal));
+        let place = Field::Place(instance.draft.assume(literal));
+        if schema.rule != "bck" {
+            fields[index] = place;
+        }
     }
     for (index, pattern) in schema.terms.iter().enumerate() {
         fields[2 + index] = Field::Term(instance.term(pattern));
@@ -176,7 +254,8 @@ fn finish(
     outcome: Outcome,
     random: &mut Random,
 ) -> Sample {
-    if rule == "cls" {
+    let closes = matches!(rule, "cls" | "bck");
+    if closes {
         draft.close(rule, fields);
     } else {
         draft.add(rule, fields, vec![Vec::new()]);
@@ -186,7 +265,7 @@ fn finish(
     let expected = match outcome {
         Outcome::Misfit => refusal(12, lines.len()),
         Outcome::Missing => refusal(14, lines.len()),
-        Outcome::Fit if rule == "cls" => Expected::Reply([0, 0, counts[0], counts[1], 1, 1, 0]),
+        Outcome::Fit if closes => Expected::Reply([0, 0, counts[0], counts[1], 1, 1, 0]),
         Outcome::Fit => refusal(17, lines.len() + 1),
     };
     Sample {
