@@ -2,6 +2,7 @@
 //! comparison finds checkers that are wrong.
 
 mod other_numbers;
+mod wrong_closures;
 
 use std::collections::BTreeSet;
 use std::thread;
@@ -13,6 +14,7 @@ use host::generator::{batch, FORMER_RULE, RULES};
 use host::name_parts::{bits_14, bits_16, first_four_digits, last_four_digits};
 use host::soundness::try_meaning;
 use other_numbers::{five_digits_refused, numbers_of_16_bits, six_digits_taken, with_names};
+use wrong_closures::{SAME_CLOSURES, WRONG_CLOSURES};
 
 const FILES: usize = 20_000;
 const SMALL_TABLEAUX: usize = 600;
@@ -54,6 +56,11 @@ fn checkers_agree() {
         let count = summary.refused_steps[&("fin", number)];
         assert!(count >= FILES / one_in, "{count} with {number}");
     }
+    assert!(summary.rules["bck"] >= FILES / 10);
+    for (number, one_in) in [(5, 200), (6, 1_000), (12, 10)] {
+        let count = summary.refused_steps[&("bck", number)];
+        assert!(count >= FILES / one_in, "{count} with {number}");
+    }
     for places in [0..1, 1..2, 2..10, 10..1_001] {
         let count = summary.with_places(places.clone());
         assert!(count >= FILES / 400, "{count} with places {places:?}");
@@ -78,11 +85,17 @@ const SMALL: &[u8] = b"T,rfv,1,0,0,0\nT,rgv,65537,0,0,0\nA,in,1,2,0,0\nA,ni,1,2,
 /// A file closed by `fin`.
 const COUNTING: &[u8] = include_bytes!("../../examples/region_inside_its_image.tab");
 
+/// A file closed by `bck`, once by what a clause adds and once without it.
+const RELATIONS: &[u8] = b"T,rfv,1,0,0,0\nT,rfv,2,0,0,0\nT,typ,1,0,0,0\nT,typ,2,0,0,0\n\
+    A,le,3,4,0,0\nA,nl,4,3,0,0\nC,eq,1,2,1,0\nC,ne,1,1,1,0\n\
+    S,cla,0,0,1,0\nS,bck,0,0,0,0\nS,bck,0,0,0,0\n";
+
 /// Every byte of a small file made every other, and every byte put in.
 #[test]
 fn checkers_agree_whatever_the_byte() {
     assert_eq!(plain_rust(COUNTING), [0, 0, 7, 3, 4, 1, 0]);
-    for file in [SMALL, COUNTING] {
+    assert_eq!(plain_rust(RELATIONS), [0, 0, 4, 3, 3, 2, 0]);
+    for file in [SMALL, COUNTING, RELATIONS] {
         for position in 0..=file.len() {
             for byte in 0..=u8::MAX {
                 let (before, after) = file.split_at(position);
@@ -151,7 +164,7 @@ fn yes_to_all(file: &[u8]) -> Numbers {
         let found = lines(file).filter(|line| line.starts_with(start.as_bytes()));
         found.count() as u32
     };
-    let closings = count("S,cls,") + count("S,emp,");
+    let closings = count("S,cls,") + count("S,emp,") + count("S,bck,");
     let assumed = count("A") + clauses(file);
     [0, 0, count("T"), assumed, count("S"), closings, 0]
 }
@@ -405,16 +418,47 @@ const WRONG: [Checker; 26] = [
 /// Alone against what is known beforehand, and beside the plain checker.
 #[test]
 fn wrong_checkers_are_found() {
-    for wrong in WRONG {
+    expect_found(&WRONG);
+}
+
+#[test]
+fn checkers_wrong_about_bck_are_found() {
+    expect_found(&WRONG_CLOSURES);
+}
+
+/// Equals may be put for equals in le on one side only: that says no less.
+#[test]
+fn one_side_for_equals_is_enough() {
+    let checkers = [&[("plain Rust", plain_rust as _)], &SAME_CLOSURES[..]].concat();
+    assert!(compare(&checkers, FILES / 4, SEED).is_ok());
+}
+
+fn expect_found(checkers: &[Checker]) {
+    for wrong in checkers.iter().copied() {
         assert!(compare(&[wrong], FILES, SEED).is_err(), "{}", wrong.0);
         let both = [("plain Rust", plain_rust as _), wrong];
         assert!(compare(&both, FILES, SEED).is_err(), "{}", wrong.0);
     }
 }
 
+/// Wrong about `bck` in a way that small files show.
+const ACCEPTS_TOO_MUCH: [&str; 3] = [
+    "bck closes always",
+    "nl taken either way",
+    "le taken for eq",
+];
+
 #[test]
 fn a_checker_that_accepts_too_much_is_found_by_the_meaning() {
     assert!(try_meaning(("yes to all", yes_to_all), SMALL_TABLEAUX, SEED).is_err());
     assert!(try_meaning(("open trees", open_accepted), SMALL_TABLEAUX, SEED).is_err());
     assert!(try_meaning(("a denial for fin", fin_on_a_denial), SMALL_TABLEAUX, SEED).is_err());
+    for (name, check) in WRONG_CLOSURES {
+        if ACCEPTS_TOO_MUCH.contains(&name) {
+            assert!(
+                try_meaning((name, check), SMALL_TABLEAUX, SEED).is_err(),
+                "{name}"
+            );
+        }
+    }
 }

@@ -128,11 +128,16 @@ fn step_up(source: &mut impl Source, left: TermId, right: TermId) -> Entailed {
     made(left, right, How::Under)
 }
 
+/// The words with arguments of this sort.
+fn words_of(sort: Sort) -> Vec<(&'static str, &'static [Sort])> {
+    let of_sort = |word: &&(&str, &[Sort])| sort_of_word(word.0) == sort;
+    WORDS.iter().filter(of_sort).copied().collect()
+}
+
 /// An equation that follows by so many steps; without circles all of its literals
 /// are needed even for the order.
 pub fn equal(source: &mut impl Source, sort: Sort, steps: usize, circles: bool) -> Entailed {
-    let of_sort = |word: &&(&'static str, &'static [Sort])| sort_of_word(word.0) == sort;
-    let words: Vec<_> = WORDS.iter().filter(of_sort).copied().collect();
+    let words = words_of(sort);
     if steps == 0 {
         let (left, right) = (source.leaf(sort), source.leaf(sort));
         return equation(source, left, right);
@@ -206,6 +211,37 @@ fn by_arguments(
     made(left, right, How::Arguments(arguments))
 }
 
+/// The steps of one rung of a ladder: `sub`, and `trn` twice.
+const RUNG: usize = 3;
+
+/// A ladder: each equation makes two terms equal, and these two others, of which
+/// the next equation speaks.
+pub fn ladder(source: &mut impl Source, sort: Sort, steps: usize) -> Entailed {
+    let words = words_of(sort);
+    if words.is_empty() || steps < RUNG {
+        return equal(source, sort, steps, true);
+    }
+    let (word, sorts) = source.random().pick(&words);
+    let leads_on: Vec<usize> = (0..sorts.len())
+        .filter(|at| sorts.len() == 1 || sorts[*at] != Sort::Field)
+        .collect();
+    let at = source.random().pick(&leads_on);
+    let inner = ladder(source, sorts[at], steps - RUNG);
+    let mut left: Vec<TermId> = sorts.iter().map(|sort| source.leaf(*sort)).collect();
+    let mut right = left.clone();
+    (left[at], right[at]) = (inner.left, inner.right);
+    let left = source.draft().term(word, &left);
+    let right = source.draft().term(word, &right);
+    let mut arguments: Vec<Option<Entailed>> = sorts.iter().map(|_| None).collect();
+    arguments[at] = Some(inner);
+    let (first, last) = (source.leaf(sort), source.leaf(sort));
+    chain(vec![
+        equation(source, first, left),
+        made(left, right, How::Arguments(arguments)),
+        equation(source, right, last),
+    ])
+}
+
 /// Two orders, each of which leads from the end of the other to its beginning.
 fn circle(source: &mut impl Source, steps: usize) -> Entailed {
     let rest = steps - 3;
@@ -264,6 +300,10 @@ fn item(source: &mut impl Source, steps: usize) -> Entailed {
 pub fn any(source: &mut impl Source, steps: usize) -> Entailed {
     if source.random().chance(1, 3) {
         return under(source, steps);
+    }
+    if source.random().chance(1, 4) {
+        let sort = source.random().pick(&[Sort::Reference, Sort::Region]);
+        return ladder(source, sort, steps);
     }
     let sort = source.random().pick(&[
         Sort::Reference,
