@@ -6,6 +6,7 @@
 mod aliases;
 mod bck_damage;
 mod builder;
+mod chains;
 mod clause_damage;
 mod clause_limits;
 mod clauses;
@@ -133,6 +134,11 @@ fn finished(mut draft: Draft, random: &mut Random) -> Tableau {
 /// A closed tableau, mostly small, now and then large, or with as many
 /// alternatives waiting as there may be.
 fn closed_tableau(random: &mut Random) -> Tableau {
+    let draft = closed_draft(random);
+    finished(draft, random)
+}
+
+fn closed_draft(random: &mut Random) -> Draft {
     let (budget, depth) = match random.below(20) {
         0..=11 => (random.below(30), random.below(3)),
         12..=17 => (random.below(120), random.below(4)),
@@ -150,5 +156,29 @@ fn closed_tableau(random: &mut Random) -> Tableau {
     while !builder.draft.is_closed() {
         builder.close_branch(nesting);
     }
-    finished(builder.draft, random)
+    builder.draft
+}
+
+/// A closed tableau, and the same with one `bck` in place of every chain of steps
+/// of equality and order that ends with `cls`; all else is kept.
+pub struct Translated {
+    pub steps: Tableau,
+    pub bck: Tableau,
+}
+
+/// Every branch is closed by such a chain.
+pub fn translated_chains(seed: u64, number: u64) -> Translated {
+    translated(chains::draft(&mut Random::of_batch(seed, number)))
+}
+
+/// Any closed tableau.
+pub fn translated_tableau(seed: u64, number: u64) -> Translated {
+    translated(closed_draft(&mut Random::of_batch(seed, number)))
+}
+
+fn translated(mut draft: Draft) -> Translated {
+    let steps = tableau::in_order(&draft);
+    translation::put_bck(&mut draft, || true);
+    let bck = tableau::in_order(&draft);
+    Translated { steps, bck }
 }

@@ -11,10 +11,8 @@ const APPLIED: [&str; 8] = ["ref", "sym", "trn", "sub", "ler", "let", "lea", "re
 type Chain = std::ops::RangeInclusive<usize>;
 
 /// Puts `bck` in place of those chains that are chosen. All other steps keep
-/// their places: what a chain adds is cut off by its closing. Gives the number
-/// of steps that are saved.
-pub fn put_bck(draft: &mut Draft, mut is_chosen: impl FnMut() -> bool) -> usize {
-    let before = draft.steps.len();
+/// their places: what a chain adds is cut off by its closing.
+pub fn put_bck(draft: &mut Draft, mut is_chosen: impl FnMut() -> bool) {
     // From the last on, so that the numbers of those before stay right.
     for chain in chains(draft).into_iter().rev() {
         if is_chosen() {
@@ -26,7 +24,6 @@ pub fn put_bck(draft: &mut Draft, mut is_chosen: impl FnMut() -> bool) -> usize 
             draft.steps.splice(chain, [closing]);
         }
     }
-    before - draft.steps.len()
 }
 
 /// The chains that end with a `cls` of eq and ne, or of le and nl.
