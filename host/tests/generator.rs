@@ -65,6 +65,10 @@ fn pushes(rule: &str, numbers: [usize; 4], sizes: &BTreeMap<usize, usize>) -> us
     }
 }
 
+fn closes(rule: &str) -> bool {
+    matches!(rule, "cls" | "emp" | "bck")
+}
+
 fn most_waiting(file: &[Line]) -> usize {
     let sizes = clause_sizes(file);
     let (mut waiting, mut most) = (0, 0);
@@ -74,7 +78,7 @@ fn most_waiting(file: &[Line]) -> usize {
         }
         waiting += pushes(word, *numbers, &sizes);
         most = most.max(waiting);
-        if word == "cls" || word == "emp" {
+        if closes(word) {
             waiting = waiting.saturating_sub(1);
         }
     }
@@ -134,7 +138,7 @@ fn nests_splits(file: &[Line]) -> bool {
             return true;
         }
         of_clauses.resize(of_clauses.len() + more, word == "cla");
-        if word == "cls" || word == "emp" {
+        if closes(word) {
             of_clauses.pop();
         }
     }
@@ -278,6 +282,11 @@ fn every_kind_is_made() {
         "a clause without its last alternative",
         "an assumption for fin changed",
         "fin on its own conclusion",
+        "a field of bck",
+        "bck on a closed tree",
+        "bck under another letter",
+        "bck put in",
+        "bck for another closing",
         "a fitting step",
         "a near miss",
         "a step without its terms",
@@ -423,8 +432,8 @@ fn a_variable_is_taken_again_at_any_time() {
         let between = &before[taken.expect("the first taking") + 1..];
         at_once += usize::from(between.is_empty());
         later += usize::from(!between.is_empty());
-        let closes = |line: &Line| line.1 == "cls" || line.1 == "emp";
-        after_closing += usize::from(between.iter().any(closes));
+        let is_closing = |line: &Line| closes(&line.1);
+        after_closing += usize::from(between.iter().any(is_closing));
     }
     for count in [at_once, later, after_closing] {
         assert!(count >= 5, "{at_once} {later} {after_closing}");
@@ -524,6 +533,146 @@ fn an_assumption_for_fin_is_changed_in_every_way() {
         row(true, "eq", false),
     ] {
         assert!(changed.contains(&expected), "{expected:?} {changed:?}");
+    }
+}
+
+/// The kinds of single closings by `bck`, and whether they close.
+const CLOSURES: [(&str, bool); 13] = [
+    ("a contradiction for bck", true),
+    ("a term denied itself for bck", true),
+    ("contradictions for bck in both alternatives", true),
+    ("a link missing for bck", false),
+    ("one argument unequal for bck", false),
+    ("a link denied for bck", false),
+    ("an order turned around for bck", false),
+    ("an order denied the other way", false),
+    ("an order taken for an equation", false),
+    ("equal arguments of two words for bck", false),
+    ("names taken for terms by bck", false),
+    ("a link for bck in a clause only", false),
+    ("a link for bck in a closed alternative", false),
+];
+
+/// Each kind is made often, ends with `bck`, and is refused there or nowhere.
+#[test]
+fn single_closings_by_bck_are_of_every_kind() {
+    for (kind, is_closed) in CLOSURES {
+        let samples = samples_of(kind);
+        println!("{kind}: {}", samples.len());
+        assert!(samples.len() >= 25, "{kind}: {}", samples.len());
+        for (sample, file) in samples {
+            assert_eq!(file.last().unwrap().1, "bck");
+            let splits = file.iter().filter(|line| line.1 == "cla").count();
+            let closings = file.iter().filter(|line| line.1 == "bck").count();
+            assert_eq!(closings, splits + 1, "{kind}");
+            match sample.expected {
+                Expected::Reply([0, ..]) => assert!(is_closed, "{kind}"),
+                expected => {
+                    assert!(!is_closed, "{kind}");
+                    assert_eq!(expected, refusal(12, file.len()), "{kind}");
+                }
+            }
+        }
+    }
+}
+
+/// The contradictions have one literal up to some dozens, terms of every word
+/// with arguments, terms inside terms, and tables in any order.
+#[test]
+fn contradictions_for_bck_are_varied() {
+    let files: Vec<Vec<Line>> = samples_of("a contradiction for bck")
+        .into_iter()
+        .map(|(_, file)| file)
+        .collect();
+    let relations = |file: &[Line]| {
+        let is_one = |line: &&Line| line.0 == "A" && matches!(line.1.as_str(), "eq" | "le");
+        file.iter().filter(is_one).count()
+    };
+    let count = |asked: &dyn Fn(&[Line]) -> bool| files.iter().filter(|file| asked(file)).count();
+    for (least, most) in [(1, 2), (3, 6), (7, 12), (13, 40)] {
+        let with = count(&|file| (least..=most).contains(&relations(file)));
+        println!("{with} with {least} to {most} literals");
+        assert!(with >= 15, "{with} with {least} to {most} literals");
+    }
+    for word in [
+        "rea", "cup", "cap", "dif", "sin", "img", "wri", "typ", "dty",
+    ] {
+        let with = count(&|file| file.iter().filter(|line| line.1 == word).count() >= 2);
+        assert!(with >= 8, "{with} with {word}");
+    }
+    for depth in [2, 4, 6] {
+        let with = count(&|file| deepest_term(file) >= depth);
+        assert!(with >= 10, "{with} of depth {depth}");
+    }
+    let denied = |word: &str| count(&|file| file.iter().any(|line| line.1 == word));
+    assert!(denied("ne") >= 50 && denied("nl") >= 50);
+}
+
+/// Of the arguments of each word, each alone is the one that isn't equal.
+#[test]
+fn every_argument_alone_is_unequal() {
+    let mut alone = BTreeSet::new();
+    for (_, file) in samples_of("one argument unequal for bck") {
+        let terms: Vec<&Line> = file.iter().filter(|line| line.0 == "T").collect();
+        let literals: Vec<&Line> = file.iter().filter(|line| line.0 == "A").collect();
+        let are_linked = |one: usize, other: usize| {
+            let links = |line: &&&Line| {
+                let [left, right, ..] = line.2;
+                line.1 == "eq" && ([left, right] == [one, other] || [right, left] == [one, other])
+            };
+            one == other || literals.iter().any(|line| links(&line))
+        };
+        // Two terms, made of variables alone, that a literal denies.
+        for (_, _, [left, right, ..]) in literals.iter().filter(|line| line.1 == "ne") {
+            let (one, other) = (terms[left - 1], terms[right - 1]);
+            if one.1 != other.1 || is_variable(&one.1) {
+                continue;
+            }
+            let unequal: Vec<usize> = (0..4)
+                .filter(|at| !are_linked(one.2[*at], other.2[*at]))
+                .collect();
+            if let [at] = unequal[..] {
+                alone.insert((one.1.clone(), at));
+            }
+        }
+    }
+    for (word, arguments) in [
+        ("rea", 3),
+        ("cup", 2),
+        ("cap", 2),
+        ("dif", 2),
+        ("sin", 1),
+        ("img", 3),
+        ("wri", 4),
+        ("typ", 1),
+        ("dty", 1),
+    ] {
+        for at in 0..arguments {
+            assert!(alone.contains(&(word.to_string(), at)), "{word} {at}");
+        }
+    }
+}
+
+/// `bck` closes small files and large ones, beside other closings and alone.
+#[test]
+fn bck_is_varied() {
+    let (mut small, mut large, mut beside, mut alone, mut several) = (0, 0, 0, 0, 0);
+    for file in accepted_files() {
+        let steps = || file.iter().filter(|line| line.0 == "S");
+        let by_bck = steps().filter(|line| line.1 == "bck").count();
+        let by_others = steps().filter(|line| closes(&line.1)).count() - by_bck;
+        if by_bck == 0 {
+            continue;
+        }
+        small += usize::from(file.len() < 20);
+        large += usize::from(file.len() > 150);
+        beside += usize::from(by_others > 0);
+        alone += usize::from(by_others == 0);
+        several += usize::from(by_bck > 3);
+    }
+    println!("{small} small {large} large {beside} beside {alone} alone {several} several");
+    for count in [small, large, beside, alone, several] {
+        assert!(count >= 40, "{small} {large} {beside} {alone} {several}");
     }
 }
 

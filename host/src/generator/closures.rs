@@ -1,13 +1,13 @@
 //! Single closings by `bck`, of contradictions that take 1 to 30 steps, and their
 //! near misses: of literals that are all needed one is missing, denied, turned
-//! around or not on the branch; an order is denied the other way round, or taken
-//! for an equation; names are the numbers of equal terms; only members contradict
+//! around or not on the branch; one argument of several isn't equal; an order is
+//! denied the other way round, or taken for an equation; names are the numbers of equal terms; only members contradict
 //! each other. All variables are new, so that nothing else follows.
 
 use crate::random::Random;
 
 use super::draft::{denial, lit, Draft, Literal, Sort, TermId};
-use super::entailed::{any, under, Entailed, Fresh, Source};
+use super::entailed::{any, equal, under, Entailed, Fresh, Source, WORDS};
 use super::tableau::{self, text};
 use super::{accepted, refusal, Sample};
 
@@ -16,9 +16,11 @@ type Case = fn(&mut Fresh, usize) -> Option<(Kind, Vec<Literal>)>;
 /// What a file is, and whether it is refused with 12 at its last line.
 type Kind = (&'static str, bool);
 
-const MISSES: [Case; 10] = [
+const MISSES: [Case; 12] = [
     link_missing,
     link_missing,
+    argument_unequal,
+    argument_unequal,
     link_denied,
     order_turned,
     order_denied_the_other_way,
@@ -155,6 +157,37 @@ fn link_denied(fresh: &mut Fresh, steps: usize) -> Option<(Kind, Vec<Literal>)> 
     missed("a link denied for bck", literals)
 }
 
+/// Two terms with one word, whose arguments are all equal but one.
+fn argument_unequal(fresh: &mut Fresh, steps: usize) -> Option<(Kind, Vec<Literal>)> {
+    let arguments = |(word, sorts): &(&'static str, &'static [Sort])| {
+        let (word, sorts) = (*word, *sorts);
+        (0..sorts.len()).map(move |at| (word, sorts, at))
+    };
+    let all: Vec<_> = WORDS.iter().flat_map(arguments).collect();
+    let (word, sorts, unequal) = fresh.random.pick(&all);
+    let part = fresh.random.below(2) * steps / sorts.len();
+    let mut literals = Vec::new();
+    let (mut left, mut right) = (Vec::new(), Vec::new());
+    for (at, sort) in sorts.iter().enumerate() {
+        let (one, other) = if at == unequal {
+            (fresh.leaf(*sort), fresh.leaf(*sort))
+        } else if fresh.random.chance(1, 3) {
+            let same = fresh.leaf(*sort);
+            (same, same)
+        } else {
+            let entailed = equal(fresh, *sort, part, true);
+            literals.extend(entailed.literals());
+            (entailed.left, entailed.right)
+        };
+        left.push(one);
+        right.push(other);
+    }
+    let left = fresh.draft.term(word, &left);
+    let right = fresh.draft.term(word, &right);
+    literals.push(lit(left, "ne", right));
+    missed("one argument unequal for bck", literals)
+}
+
 /// The sides of one order exchanged.
 fn order_turned(fresh: &mut Fresh, steps: usize) -> Option<(Kind, Vec<Literal>)> {
     let (_, mut literals, denial) = contradiction(fresh, steps);
@@ -193,8 +226,8 @@ fn other_words(fresh: &mut Fresh, steps: usize) -> Option<(Kind, Vec<Literal>)> 
     let words = ["cup", "cap", "dif"];
     let at = fresh.random.below(3);
     let (word, other) = (words[at], words[(at + 1 + fresh.random.below(2)) % 3]);
-    let first = super::entailed::equal(fresh, Sort::Region, steps, true);
-    let second = super::entailed::equal(fresh, Sort::Region, 0, true);
+    let first = equal(fresh, Sort::Region, steps, true);
+    let second = equal(fresh, Sort::Region, 0, true);
     let left = fresh.draft.term(word, &[first.left, second.left]);
     let right = fresh.draft.term(other, &[first.right, second.right]);
     let mut literals = [first.literals(), second.literals()].concat();
@@ -207,7 +240,7 @@ fn names_for_terms(fresh: &mut Fresh, steps: usize) -> Option<(Kind, Vec<Literal
     let sort = fresh
         .random
         .pick(&[Sort::Reference, Sort::Region, Sort::Class]);
-    let entailed = super::entailed::equal(fresh, sort, steps, true);
+    let entailed = equal(fresh, sort, steps, true);
     let word = fresh.random.pick(&["rfv", "rgv", "arv", "fnv", "clv"]);
     let names = [entailed.left, entailed.right].map(|TermId(index)| index as u32 + 1);
     if names

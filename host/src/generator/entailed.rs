@@ -211,22 +211,24 @@ fn by_arguments(
     made(left, right, How::Arguments(arguments))
 }
 
-/// The steps of one rung of a ladder: `sub`, and `trn` twice.
-const RUNG: usize = 3;
+/// The steps of one linked rung of a ladder: `sub`, and `trn` twice.
+const LINKED: usize = 3;
 
-/// A ladder: each equation makes two terms equal, and these two others, of which
-/// the next equation speaks.
-pub fn ladder(source: &mut impl Source, sort: Sort, steps: usize) -> Entailed {
+/// A ladder: each equation makes two terms equal, one inside the other, or two
+/// others that are linked to these. Of two rungs so many are linked.
+fn ladder(source: &mut impl Source, sort: Sort, steps: usize, linked: usize) -> Entailed {
     let words = words_of(sort);
-    if words.is_empty() || steps < RUNG {
+    if words.is_empty() || steps == 0 {
         return equal(source, sort, steps, true);
     }
+    let is_linked = steps >= LINKED && source.random().chance(linked, 2);
+    let rung = if is_linked { LINKED } else { 1 };
     let (word, sorts) = source.random().pick(&words);
     let leads_on: Vec<usize> = (0..sorts.len())
         .filter(|at| sorts.len() == 1 || sorts[*at] != Sort::Field)
         .collect();
     let at = source.random().pick(&leads_on);
-    let inner = ladder(source, sorts[at], steps - RUNG);
+    let inner = ladder(source, sorts[at], steps - rung, linked);
     let mut left: Vec<TermId> = sorts.iter().map(|sort| source.leaf(*sort)).collect();
     let mut right = left.clone();
     (left[at], right[at]) = (inner.left, inner.right);
@@ -234,10 +236,14 @@ pub fn ladder(source: &mut impl Source, sort: Sort, steps: usize) -> Entailed {
     let right = source.draft().term(word, &right);
     let mut arguments: Vec<Option<Entailed>> = sorts.iter().map(|_| None).collect();
     arguments[at] = Some(inner);
+    let equal = made(left, right, How::Arguments(arguments));
+    if !is_linked {
+        return equal;
+    }
     let (first, last) = (source.leaf(sort), source.leaf(sort));
     chain(vec![
         equation(source, first, left),
-        made(left, right, How::Arguments(arguments)),
+        equal,
         equation(source, right, last),
     ])
 }
@@ -303,7 +309,8 @@ pub fn any(source: &mut impl Source, steps: usize) -> Entailed {
     }
     if source.random().chance(1, 4) {
         let sort = source.random().pick(&[Sort::Reference, Sort::Region]);
-        return ladder(source, sort, steps);
+        let linked = source.random().below(3);
+        return ladder(source, sort, steps, linked);
     }
     let sort = source.random().pick(&[
         Sort::Reference,
