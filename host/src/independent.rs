@@ -12,7 +12,7 @@ use LiteralWord::*;
 /// "At most 60,000 bytes."
 const MOST_BYTES: usize = 60_000;
 /// "T lines make terms numbered from 1, at most 600."
-const MOST_TERMS: usize = 600;
+pub const MOST_TERMS: usize = 600;
 /// "A branch starts with no literals and has room for 1,000."
 const MOST_PLACES: usize = 1_000;
 /// "the rest wait, at most 200 alternatives over all."

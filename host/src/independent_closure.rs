@@ -2,10 +2,43 @@
 //! equalities by itself" alone and for plainness only. Sentences in quotes are
 //! the request's, rows of rules those of document 01.
 
-use crate::independent::{sort_of_word, takes_name, Literal, LiteralWord, Sort, Term};
+use crate::independent::{sort_of_word, takes_name, Literal, LiteralWord, Sort, Term, MOST_TERMS};
 
-/// A relation over the terms in the table. Term number n stands at index n - 1.
-pub type Relation = Vec<Vec<bool>>;
+/// A relation over the terms in the table, by their indices: term number n has
+/// index n - 1. It is a table of yes and no, with a row for each term.
+#[derive(Debug, Clone, PartialEq, Eq)]
+pub struct Relation {
+    rows: Vec<Row>,
+}
+
+/// One bit for each term to which a term is in relation.
+type Row = [u64; MOST_TERMS.div_ceil(64)];
+
+impl Relation {
+    fn nothing(terms: usize) -> Relation {
+        let rows = vec![Row::default(); terms];
+        Relation { rows }
+    }
+
+    pub fn has(&self, a: usize, b: usize) -> bool {
+        self.rows[a][b / 64] >> (b % 64) & 1 == 1
+    }
+
+    pub fn put(&mut self, a: usize, b: usize) {
+        self.rows[a][b / 64] |= 1 << (b % 64);
+    }
+
+    fn row(&self, a: usize) -> Row {
+        self.rows[a]
+    }
+
+    /// Puts a in relation to every term of a row.
+    fn put_row(&mut self, a: usize, row: Row) {
+        for (bits, more) in self.rows[a].iter_mut().zip(row) {
+            *bits |= more;
+        }
+    }
+}
 
 /// "the smallest pair of relations over the terms in the table"
 #[derive(Debug, Clone, PartialEq, Eq)]
@@ -45,8 +78,8 @@ pub fn contradicts(relations: &Relations, branch: &[Literal]) -> bool {
     branch.iter().any(|literal| {
         let (left, right) = (index(literal.left), index(literal.right));
         match literal.word {
-            LiteralWord::Ne => relations.eq[left][right],
-            LiteralWord::Nl => relations.le[left][right],
+            LiteralWord::Ne => relations.eq.has(left, right),
+            LiteralWord::Nl => relations.le.has(left, right),
             _ => false,
         }
     })
@@ -71,16 +104,15 @@ pub fn smallest(terms: &[Term], branch: &[Literal], conditions: &[Condition]) ->
 
 /// The pair that "holds the branch's eq and le literals", and nothing else.
 pub fn literals(terms: &[Term], branch: &[Literal]) -> Relations {
-    let nothing = vec![vec![false; terms.len()]; terms.len()];
     let mut relations = Relations {
-        eq: nothing.clone(),
-        le: nothing,
+        eq: Relation::nothing(terms.len()),
+        le: Relation::nothing(terms.len()),
     };
     for literal in branch {
         let (left, right) = (index(literal.left), index(literal.right));
         match literal.word {
-            LiteralWord::Eq => relations.eq[left][right] = true,
-            LiteralWord::Le => relations.le[left][right] = true,
+            LiteralWord::Eq => relations.eq.put(left, right),
+            LiteralWord::Le => relations.le.put(left, right),
             _ => {}
         }
     }
@@ -94,7 +126,7 @@ fn index(number: u32) -> usize {
 /// ref | t | any term | t eq t
 fn refl(terms: &[Term], relations: &mut Relations) {
     for t in 0..terms.len() {
-        relations.eq[t][t] = true;
+        relations.eq.put(t, t);
     }
 }
 
@@ -102,8 +134,8 @@ fn refl(terms: &[Term], relations: &mut Relations) {
 fn sym(terms: &[Term], relations: &mut Relations) {
     for a in 0..terms.len() {
         for b in 0..terms.len() {
-            if relations.eq[a][b] {
-                relations.eq[b][a] = true;
+            if relations.eq.has(a, b) {
+                relations.eq.put(b, a);
             }
         }
     }
@@ -113,9 +145,9 @@ fn sym(terms: &[Term], relations: &mut Relations) {
 fn trn(terms: &[Term], relations: &mut Relations) {
     for a in 0..terms.len() {
         for b in 0..terms.len() {
-            if relations.eq[a][b] {
-                let of_b = relations.eq[b].clone();
-                put_in(&mut relations.eq[a], &of_b);
+            if relations.eq.has(a, b) {
+                let of_b = relations.eq.row(b);
+                relations.eq.put_row(a, of_b);
             }
         }
     }
@@ -134,8 +166,8 @@ fn sub(terms: &[Term], relations: &mut Relations) {
                 continue;
             }
             let mut arguments = term_t.arguments.iter().zip(&term_w.arguments);
-            if arguments.all(|(of_t, of_w)| relations.eq[index(*of_t)][index(*of_w)]) {
-                relations.eq[t][w] = true;
+            if arguments.all(|(of_t, of_w)| relations.eq.has(index(*of_t), index(*of_w))) {
+                relations.eq.put(t, w);
             }
         }
     }
@@ -145,7 +177,7 @@ fn sub(terms: &[Term], relations: &mut Relations) {
 fn ler(terms: &[Term], relations: &mut Relations) {
     for (t, term) in terms.iter().enumerate() {
         if sort_of_word(term.word) == Sort::Class {
-            relations.le[t][t] = true;
+            relations.le.put(t, t);
         }
     }
 }
@@ -154,9 +186,9 @@ fn ler(terms: &[Term], relations: &mut Relations) {
 fn le_trans(terms: &[Term], relations: &mut Relations) {
     for a in 0..terms.len() {
         for b in 0..terms.len() {
-            if relations.le[a][b] {
-                let of_b = relations.le[b].clone();
-                put_in(&mut relations.le[a], &of_b);
+            if relations.le.has(a, b) {
+                let of_b = relations.le.row(b);
+                relations.le.put_row(a, of_b);
             }
         }
     }
@@ -166,8 +198,8 @@ fn le_trans(terms: &[Term], relations: &mut Relations) {
 fn lea(terms: &[Term], relations: &mut Relations) {
     for a in 0..terms.len() {
         for b in 0..terms.len() {
-            if relations.le[a][b] && relations.le[b][a] {
-                relations.eq[a][b] = true;
+            if relations.le.has(a, b) && relations.le.has(b, a) {
+                relations.eq.put(a, b);
             }
         }
     }
@@ -177,9 +209,9 @@ fn lea(terms: &[Term], relations: &mut Relations) {
 fn equals_on_the_left(terms: &[Term], relations: &mut Relations) {
     for a in 0..terms.len() {
         for b in 0..terms.len() {
-            if relations.eq[a][b] {
-                let of_b = relations.le[b].clone();
-                put_in(&mut relations.le[a], &of_b);
+            if relations.eq.has(a, b) {
+                let of_b = relations.le.row(b);
+                relations.le.put_row(a, of_b);
             }
         }
     }
@@ -189,17 +221,10 @@ fn equals_on_the_left(terms: &[Term], relations: &mut Relations) {
 fn equals_on_the_right(terms: &[Term], relations: &mut Relations) {
     for a in 0..terms.len() {
         for b in 0..terms.len() {
-            if relations.le[a][b] {
-                let of_b = relations.eq[b].clone();
-                put_in(&mut relations.le[a], &of_b);
+            if relations.le.has(a, b) {
+                let of_b = relations.eq.row(b);
+                relations.le.put_row(a, of_b);
             }
         }
-    }
-}
-
-/// Puts a's row in relation to every term to which b's row is.
-fn put_in(of_a: &mut [bool], of_b: &[bool]) {
-    for (a_to_c, b_to_c) in of_a.iter_mut().zip(of_b) {
-        *a_to_c |= *b_to_c;
     }
 }

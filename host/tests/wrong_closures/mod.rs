@@ -148,8 +148,8 @@ fn sides(branch: &[Literal], word: LiteralWord) -> impl Iterator<Item = (usize, 
 
 fn order_reversed(terms: &[Term], branch: &[Literal]) -> bool {
     let Relations { eq, le } = right_relations(terms, branch);
-    sides(branch, LiteralWord::Ne).any(|(left, right)| eq[left][right])
-        || sides(branch, LiteralWord::Nl).any(|(left, right)| le[right][left])
+    sides(branch, LiteralWord::Ne).any(|(left, right)| eq.has(left, right))
+        || sides(branch, LiteralWord::Nl).any(|(left, right)| le.has(right, left))
 }
 
 fn order_either_way(terms: &[Term], branch: &[Literal]) -> bool {
@@ -174,7 +174,7 @@ const fn without_word(word: LiteralWord) -> Closes {
 
 fn order_for_equality(terms: &[Term], branch: &[Literal]) -> bool {
     let Relations { le, .. } = right_relations(terms, branch);
-    closes(terms, branch) || sides(branch, LiteralWord::Ne).any(|(left, right)| le[left][right])
+    closes(terms, branch) || sides(branch, LiteralWord::Ne).any(|(left, right)| le.has(left, right))
 }
 
 fn with_members(terms: &[Term], branch: &[Literal]) -> bool {
@@ -232,14 +232,14 @@ fn sub_where(
                 && term.word == other.word
                 && fit(relations, &term.arguments, &other.arguments)
             {
-                relations.eq[t][w] = true;
+                relations.eq.put(t, w);
             }
         }
     }
 }
 
 fn are_equal(relations: &Relations, one: u32, other: u32) -> bool {
-    relations.eq[one as usize - 1][other as usize - 1]
+    relations.eq.has(one as usize - 1, other as usize - 1)
 }
 
 fn forgetting<const ARGUMENT: usize>(terms: &[Term], relations: &mut Relations) {
@@ -279,7 +279,7 @@ fn with_names(terms: &[Term], relations: &mut Relations) {
             let in_table = |name: &u32| *name as usize <= terms.len();
             let has_name = takes_name(term.word) && term.word == other.word;
             if has_name && in_table(a) && in_table(b) && are_equal(relations, *a, *b) {
-                relations.eq[t][w] = true;
+                relations.eq.put(t, w);
             }
         }
     }
@@ -297,7 +297,7 @@ fn whatever_the_word(terms: &[Term], relations: &mut Relations) {
             if are_made && count > 0 && count == other.arguments.len() {
                 let mut pairs = term.arguments.iter().zip(&other.arguments);
                 if pairs.all(|(a, b)| are_equal(relations, *a, *b)) {
-                    relations.eq[t][w] = true;
+                    relations.eq.put(t, w);
                 }
             }
         }
@@ -310,9 +310,9 @@ fn arguments_too(terms: &[Term], relations: &mut Relations) {
     for (t, term) in terms.iter().enumerate() {
         for (w, other) in terms.iter().enumerate() {
             let is_made = !takes_name(term.word) && term.word == other.word;
-            if is_made && relations.eq[t][w] {
+            if is_made && relations.eq.has(t, w) {
                 for (a, b) in term.arguments.iter().zip(&other.arguments) {
-                    relations.eq[*a as usize - 1][*b as usize - 1] = true;
+                    relations.eq.put(*a as usize - 1, *b as usize - 1);
                 }
             }
         }
