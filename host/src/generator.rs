@@ -38,6 +38,7 @@ use crate::random::Random;
 use builder::Builder;
 use draft::{Draft, MOST_WAITING};
 
+pub use closures::small as small_closure;
 pub use damage::neighbour;
 pub use exact_damage::{FORMER_RULE, RULES};
 pub use tableau::Tableau;

@@ -5,7 +5,7 @@ use std::collections::BTreeSet;
 use std::fmt;
 
 use crate::checkers::Checker;
-use crate::generator::{neighbour, small_tableau, Tableau};
+use crate::generator::{neighbour, small_closure, small_tableau, Tableau};
 use crate::models::{Question, Search};
 use crate::random::Random;
 
@@ -25,6 +25,8 @@ pub struct Trials {
     pub damaged_accepted: usize,
     /// Accepted files that assume a clause.
     pub with_clauses: usize,
+    /// Accepted files with a closing by `bck`.
+    pub by_bck: usize,
     /// Refused files with one assumption left out or denied.
     pub changed: usize,
     /// Those of them with a model.
@@ -41,9 +43,14 @@ impl fmt::Display for Trials {
     fn fmt(&self, f: &mut fmt::Formatter) -> fmt::Result {
         writeln!(
             f,
-            "no model of {} accepted and {} damaged but accepted files, {} with clauses, in {} \
-             heaps; all smallest heaps tried on {}",
-            self.accepted, self.damaged_accepted, self.with_clauses, self.heaps, self.complete
+            "no model of {} accepted and {} damaged but accepted files, {} with clauses, {} closed \
+             by bck, in {} heaps; all smallest heaps tried on {}",
+            self.accepted,
+            self.damaged_accepted,
+            self.with_clauses,
+            self.by_bck,
+            self.heaps,
+            self.complete
         )?;
         writeln!(
             f,
@@ -53,13 +60,20 @@ impl fmt::Display for Trials {
     }
 }
 
+/// One in so many files is a single closing by `bck`.
+const FILES_PER_CLOSURE: usize = 4;
+
 /// Tries so many small closed tableaux. An `Err` is an accepted file with a
 /// model.
 pub fn try_meaning(checker: Checker, tableaux: usize, seed: u64) -> Result<Trials, Vec<u8>> {
     let mut trials = Trials::default();
     for number in 0..tableaux {
         let mut random = Random::of_batch(seed, number as u64);
-        let tableau = small_tableau(&mut random);
+        let tableau = if number.is_multiple_of(FILES_PER_CLOSURE) {
+            small_closure(&mut random)
+        } else {
+            small_tableau(&mut random)
+        };
         try_tableau(checker, &tableau, &mut random, &mut trials)?;
     }
     Ok(trials)
@@ -99,9 +113,9 @@ fn try_tableau(
     Ok(())
 }
 
-fn has_clause(file: &[u8]) -> bool {
+fn has_line(file: &[u8], start: &[u8]) -> bool {
     let mut lines = file.split(|byte| *byte == b'\n');
-    lines.any(|line| line.starts_with(b"C,"))
+    lines.any(|line| line.starts_with(start))
 }
 
 fn first_lines(file: &[u8], count: usize) -> &[u8] {
@@ -115,7 +129,8 @@ fn refute_model(file: &[u8], random: &mut Random, trials: &mut Trials) -> Result
         Some(search) if search.found == 0 => {
             trials.heaps += search.tried;
             trials.complete += usize::from(search.complete);
-            trials.with_clauses += usize::from(has_clause(file));
+            trials.with_clauses += usize::from(has_line(file, b"C,"));
+            trials.by_bck += usize::from(has_line(file, b"S,bck,"));
             Ok(())
         }
         _ => Err(file.to_vec()),

@@ -134,6 +134,7 @@ fn expect_no_model(checker: Checker) {
     assert_eq!(trials.accepted, SMALL_TABLEAUX);
     assert_eq!(trials.rules.len(), RULES.len());
     assert!(trials.damaged_accepted > 0);
+    assert!(trials.by_bck > SMALL_TABLEAUX / 4);
     assert!(trials.complete > SMALL_TABLEAUX / 2);
     // Otherwise the heaps that are tried would say little.
     assert!(trials.changed_with_model > trials.changed / 5);
@@ -442,10 +443,13 @@ fn expect_found(checkers: &[Checker]) {
 }
 
 /// Wrong about `bck` in a way that small files show.
-const ACCEPTS_TOO_MUCH: [&str; 3] = [
+const ACCEPTS_TOO_MUCH: [&str; 6] = [
     "bck closes always",
     "nl taken either way",
     "le taken for eq",
+    "the first argument forgotten",
+    "the second argument forgotten",
+    "the third argument forgotten",
 ];
 
 #[test]

@@ -8,7 +8,7 @@ use crate::random::Random;
 
 use super::draft::{denial, lit, Draft, Literal, Sort, TermId};
 use super::entailed::{any, equal, under, Entailed, Fresh, Source, WORDS};
-use super::tableau::{self, text};
+use super::tableau::{self, text, Tableau};
 use super::{accepted, refusal, Sample};
 
 type Case = fn(&mut Fresh, usize) -> Option<(Kind, Vec<Literal>)>;
@@ -64,6 +64,22 @@ pub fn sample(random: &mut Random) -> Sample {
         fresh.draft.bck();
     }
     finish(kind, is_missed, fresh)
+}
+
+/// A contradiction so small that many heaps can be tried on its literals.
+pub fn small(random: &mut Random) -> Tableau {
+    let steps = random.below(4);
+    let mut fresh = Fresh {
+        draft: Draft::default(),
+        random,
+    };
+    let (_, literals, denial) = contradiction(&mut fresh, steps);
+    for literal in literals {
+        fresh.draft.assume(literal);
+    }
+    fresh.draft.assume(denial);
+    fresh.draft.bck();
+    tableau::shuffled(&fresh.draft, fresh.random)
 }
 
 /// Names that are numbers of terms must stay so; all else is in any order.
