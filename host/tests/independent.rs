@@ -1756,6 +1756,111 @@ fn place_beside_fin() {
 }
 
 // ---------------------------------------------------------------------------
+// bck
+// ---------------------------------------------------------------------------
+
+/// Terms: 1 u, 2 v, 3 typ(u), 4 typ(v), 5 c. Places: 1 u eq v, 2 typ(v) le c,
+/// 3 typ(u) nl c.
+const BCK: [&str; 9] = [
+    "T,rfv,1,0,0,0",
+    "T,rfv,2,0,0,0",
+    "T,typ,1,0,0,0",
+    "T,typ,2,0,0,0",
+    "T,clv,1,0,0,0",
+    "A,eq,1,2,0,0",
+    "A,le,4,5,0,0",
+    "A,nl,3,5,0,0",
+    "S,bck,0,0,0,0",
+];
+
+#[test]
+fn bck_in_the_order_of_the_numbers() {
+    assert_eq!(check_lines(&BCK), yes(5, 3, 1, 1));
+    for (line, number) in [
+        ("S,bck,0,0,0", 2),
+        ("S,bck,0,0,0,00", 2),
+        ("S,bk,0,0,0,0", 4),
+        ("A,bck,1,2,0,0", 4),
+        ("C,bck,1,2,1,0", 4),
+        ("S,bck,1,0,0,0", 6),
+        ("S,bck,0,1,0,0", 6),
+        ("S,bck,0,0,1,0", 6),
+        ("S,bck,0,0,0,1", 6),
+        ("S,bck,9,9,9,9", 6),
+    ] {
+        let reply = check_lines(&with_line(&BCK, 9, line));
+        assert_eq!(reply, no(number, 9), "{line}");
+        // 6 comes before 12: nothing is denied here.
+        let mut open = with_line(&BCK, 9, line);
+        open[7] = "A,le,3,5,0,0";
+        assert_eq!(check_lines(&open), no(number, 9), "{line}");
+    }
+    assert_eq!(check_lines(&with_line(&BCK, 8, "A,le,3,5,0,0")), no(12, 9));
+    // On a closed tree 2 and 4 come first, then 5.
+    for (line, number) in [
+        ("S,bck,0,0,0", 2),
+        ("S,bk,0,0,0,0", 4),
+        ("S,bck,0,0,0,0", 5),
+        ("S,bck,9,9,9,9", 5),
+    ] {
+        let reply = check_lines(&with_more(&BCK, &[line]));
+        assert_eq!(reply, no(number, 10), "{line}");
+    }
+    // 3 before 4.
+    for line in ["T,bck,0,0,0,0", "A,bck,1,2,0,0", "C,bck,1,2,1,0"] {
+        let reply = check_lines(&with_more(&BCK, &[line]));
+        assert_eq!(reply, no(3, 10), "{line}");
+    }
+}
+
+/// Each literal is needed, as it stands or in a form that says as much.
+#[test]
+fn bck_needs_every_literal() {
+    for line in 6..=8 {
+        let reply = check_lines(&without_line(&BCK, line));
+        assert_eq!(reply, no(12, 8), "{line}");
+    }
+    for (line, literal) in [
+        (6, "A,ne,1,2,0,0"),
+        (6, "A,eq,1,1,0,0"),
+        (6, "A,le,3,3,0,0"),
+        (7, "A,le,5,4,0,0"),
+        (7, "A,nl,4,5,0,0"),
+        (8, "A,nl,5,3,0,0"),
+        (8, "A,ne,3,5,0,0"),
+    ] {
+        let reply = check_lines(&with_line(&BCK, line, literal));
+        assert_eq!(reply, no(12, 9), "{literal}");
+    }
+    for (line, literal) in [
+        (6, "A,eq,2,1,0,0"),
+        (6, "A,eq,3,4,0,0"),
+        (6, "A,le,3,4,0,0"),
+        (7, "A,eq,5,4,0,0"),
+        (8, "A,nl,4,5,0,0"),
+        (8, "A,ne,3,4,0,0"),
+        (8, "A,ne,5,5,0,0"),
+    ] {
+        let reply = check_lines(&with_line(&BCK, line, literal));
+        assert_eq!(reply, yes(5, 3, 1, 1), "{literal}");
+    }
+}
+
+#[test]
+fn limits_beside_bck() {
+    // It adds nothing, so that a branch may be full.
+    assert_eq!(check(&filled(&BCK, 5, 3, 1_000)), yes(5, 1_000, 1, 1));
+    // 200 may wait; it takes them one by one.
+    let mut text = file(&with_line(&BCK, 5, "T,rgv,1,0,0,0")[..5]);
+    text.extend(b"A,eq,1,2,0,0\nA,nl,3,4,0,0\n");
+    text.extend(b"S,cut,0,0,1,5\n".repeat(200));
+    text.extend(b"S,bck,0,0,0,0\n".repeat(200));
+    assert_eq!(check(&text), no(17, 7 + 400 + 1));
+    text.extend(b"S,bck,0,0,0,0\n");
+    assert_eq!(check(&text), yes(5, 2, 401, 201));
+}
+
+// ---------------------------------------------------------------------------
 // Any bytes
 // ---------------------------------------------------------------------------
 

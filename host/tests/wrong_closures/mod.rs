@@ -2,13 +2,15 @@
 
 use host::call::Numbers;
 use host::checkers::{plain_rust, Checker};
-use host::independent::{check_by, takes_name, Closes, Literal, LiteralWord, Term};
+use host::independent::{
+    check_by, sort_of_word, takes_name, Closes, Literal, LiteralWord, Sort, Term,
+};
 use host::independent_closure::{
     closes, contradicts, literals, smallest, Condition, Relations, CONDITIONS,
 };
 
 /// Checkers that the comparison finds.
-pub const WRONG_CLOSURES: [Checker; 33] = [
+pub const WRONG_CLOSURES: [Checker; 35] = [
     ("bck closes always", |file| by(file, |_, _| true)),
     ("bck never closes", |file| by(file, |_, _| false)),
     ("bck is no closing", not_counted),
@@ -30,6 +32,12 @@ pub const WRONG_CLOSURES: [Checker; 33] = [
     ("no let", |file| by(file, without::<LET>)),
     ("no lea", |file| by(file, without::<LEA>)),
     ("no equals for equals", |file| by(file, without_equals)),
+    ("equals of literals alone in le", |file| {
+        by(file, equals_of_literals)
+    }),
+    ("circles of two literals alone", |file| {
+        by(file, circles_of_two)
+    }),
     ("the first argument forgotten", |file| {
         by(file, |t, b| with_sub(t, b, forgetting::<0>))
     }),
@@ -210,6 +218,42 @@ fn without<const CONDITION: usize>(terms: &[Term], branch: &[Literal]) -> bool {
 fn without_equals(terms: &[Term], branch: &[Literal]) -> bool {
     let conditions = CONDITIONS.map(|(_, condition)| condition);
     with(terms, branch, &conditions[..LEFT])
+}
+
+/// The literals of the branch, and others that follow from each pair of them.
+fn with_more(
+    branch: &[Literal],
+    follows: impl Fn(&Literal, &Literal) -> Option<LiteralWord>,
+) -> Vec<Literal> {
+    let mut all = branch.to_vec();
+    for one in branch {
+        for other in branch {
+            let (left, right) = (one.left, one.right);
+            all.extend(follows(one, other).map(|word| Literal { word, left, right }));
+            let (left, right) = (right, left);
+            all.extend(follows(one, other).map(|word| Literal { word, left, right }));
+        }
+    }
+    all
+}
+
+/// What `sub` or `lea` makes equal is not put for its equals.
+fn equals_of_literals(terms: &[Term], branch: &[Literal]) -> bool {
+    let class = |number: u32| sort_of_word(terms[number as usize - 1].word) == Sort::Class;
+    let branch = with_more(branch, |one, _| {
+        (one.word == LiteralWord::Eq && class(one.left)).then_some(LiteralWord::Le)
+    });
+    without_equals(terms, &branch)
+}
+
+/// `lea` for literals that stand on the branch, and for no others.
+fn circles_of_two(terms: &[Term], branch: &[Literal]) -> bool {
+    let is_order = |literal: &Literal| literal.word == LiteralWord::Le;
+    let branch = with_more(branch, |one, other| {
+        let is_circle = (one.left, one.right) == (other.right, other.left);
+        (is_order(one) && is_order(other) && is_circle).then_some(LiteralWord::Eq)
+    });
+    without::<LEA>(terms, &branch)
 }
 
 /// With another condition for `sub`.
