@@ -3,6 +3,7 @@
 //! a literal into a number each, and changes the tree in place. `evaluator` is
 //! the yardstick of the evaluator, with the same reader and table.
 
+mod background;
 mod clauses;
 pub mod evaluator;
 mod literals;

@@ -7,6 +7,7 @@ mod equations;
 mod members;
 mod regions;
 
+use super::background::Background;
 use super::literals::{denies, has_relation, left, right, Literal, Relation};
 use super::packing::{field, has_head, Head, Packed, EMP, RFV};
 use super::refusal::{ensure, unused, Refusal};
@@ -80,6 +81,25 @@ impl Checker {
         need(has_head(self.terms.get(region), EMP))?;
         self.close();
         Ok(())
+    }
+
+    #[inline(always)]
+    pub fn bck(&mut self, fields: Fields) -> Step {
+        unused(fields)?;
+        need(self.contradicts_itself())?;
+        self.close();
+        Ok(())
+    }
+
+    /// Whether the branch contradicts what follows from its equations and its
+    /// order.
+    #[inline(never)]
+    fn contradicts_itself(&mut self) -> bool {
+        let terms = self.terms.all();
+        let background = self
+            .background
+            .get_or_insert_with(|| Box::new(Background::new(terms)));
+        background.contradicts(self.tree.branch())
     }
 
     #[inline(always)]

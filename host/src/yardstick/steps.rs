@@ -1,5 +1,6 @@
 //! A lines, C lines and S lines.
 
+use super::background::Background;
 use super::clauses::Clauses;
 use super::literals::{literal, Literal, Relation};
 use super::mentions::Mentions;
@@ -15,6 +16,8 @@ pub struct Checker {
     pub clauses: Clauses,
     pub tree: Tree,
     pub mentions: Mentions,
+    /// Made at the first `bck`, since many files have none.
+    pub background: Option<Box<Background>>,
     /// Where w stands first, after a step that is refused for that.
     pub place: u32,
 }
@@ -26,6 +29,7 @@ impl Checker {
             clauses: Clauses::new(),
             tree: Tree::new(),
             mentions: Mentions::default(),
+            background: None,
             place: 0,
         }
     }
@@ -114,6 +118,7 @@ impl Checker {
             rule::FIN => self.fin(fields),
             rule::CLS => self.cls(fields),
             rule::EMP => self.empty(fields),
+            rule::BCK => self.bck(fields),
             _ => Err(refused(line.letter, line.word, Refusal::Word)),
         }
     }

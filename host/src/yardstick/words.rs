@@ -36,6 +36,7 @@ pub mod rule {
         DFI "dfi", SGE "sge", SGI "sgi", CUT "cut", ALL "all", NUL "nul", SEP "sep", IMG "img",
         WIT "wit", REF "ref", SYM "sym", TRN "trn", SUB "sub", REP "rep", LER "ler", LET "let",
         LEA "lea", RDH "rdh", RDM "rdm", CLA "cla", FIN "fin", CLS "cls", EMP "emp",
+        BCK "bck",
     }
 }
 
