@@ -3,8 +3,11 @@
 //! that split.
 
 mod additions;
+mod background;
 mod freshness;
 pub mod hash;
+pub mod hostile;
+mod key_clauses;
 mod lookups;
 mod mixtures;
 mod rounds;
@@ -12,7 +15,7 @@ mod shared_hash;
 mod splits;
 
 use super::draft::{Draft, MOST_TERMS};
-use super::tableau::{text, Tableau};
+use super::tableau::{plain_line, text, Entry, Tableau};
 use super::{accepted, refusal, Sample};
 
 pub const STEPS: usize = 2_500;
@@ -62,6 +65,8 @@ const KINDS: &[Kind] = &[
     ("900 A lines", mixtures::many_assumptions),
     ("`cla`, 50 clauses of 8", splits::clauses_of_eight),
     ("`cla`, 200 clauses of 2", splits::clauses_of_two),
+    ("`bck`, routines", background::routines),
+    ("`bck`, long branch", background::long_branch),
 ];
 
 pub fn all() -> Vec<FullTable> {
@@ -69,11 +74,16 @@ pub fn all() -> Vec<FullTable> {
     made.collect()
 }
 
-/// The last closing turned around is what the rule doesn't allow.
+/// The last closing turned around is what the rule doesn't allow. Where others
+/// are by `bck`, it doesn't allow the last one, a `cls` of `in` and `ni`.
 fn full_table(kind: &'static str, tableau: Tableau) -> FullTable {
     let mut lines = tableau.lines.clone();
     let last = lines.len() - 1;
-    lines[last].entries.swap(0, 1);
+    if tableau.rules().any(|rule| rule == "bck") {
+        lines[last] = plain_line('S', "bck", [Entry::Unused; 4]);
+    } else {
+        lines[last].entries.swap(0, 1);
+    }
     FullTable {
         accepted: accepted(kind, &tableau),
         refused: Sample {

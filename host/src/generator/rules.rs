@@ -263,4 +263,8 @@ impl Draft {
     pub fn empty(&mut self, p: Place) {
         self.close("emp", [at(p), NONE, NONE, NONE]);
     }
+
+    pub fn bck(&mut self) {
+        self.close("bck", [NONE; 4]);
+    }
 }

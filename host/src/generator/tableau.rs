@@ -273,12 +273,18 @@ fn numbers_in(order: &[usize]) -> Vec<u32> {
 /// order.
 pub fn in_order(draft: &Draft) -> Tableau {
     assert!(draft.is_closed());
+    counted(draft, lines_in_order(draft))
+}
+
+/// The lines of a draft, closed or not, whose terms, assumptions and clauses
+/// keep their order.
+pub fn lines_in_order(draft: &Draft) -> Vec<Line> {
     let order = Order {
         terms: (0..draft.terms.len()).collect(),
         assumptions: (0..draft.assumptions.len()).collect(),
         clauses: (0..draft.clauses.len()).collect(),
     };
-    counted(draft, number(draft, &order))
+    number(draft, &order)
 }
 
 /// Finishes a closed draft with its terms, assumptions and clauses in a random

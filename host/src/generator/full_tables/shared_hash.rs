@@ -58,15 +58,15 @@ pub fn img() -> Tableau {
 
 /// The terms `wri` with the hash wanted: writes to a heap variable, to the
 /// heaps thus made, and so on.
-struct Writes {
-    references: Vec<TermId>,
-    fields: Vec<TermId>,
+pub struct Writes {
+    pub references: Vec<TermId>,
+    pub fields: Vec<TermId>,
     heaps: Vec<TermId>,
     tried: usize,
 }
 
 impl Writes {
-    fn new(draft: &mut Draft) -> Writes {
+    pub fn new(draft: &mut Draft) -> Writes {
         let names = 1..=VARIABLES as u32;
         Writes {
             references: names
@@ -104,7 +104,7 @@ impl Writes {
     }
 
     /// Makes terms until there is room for so many more.
-    fn fill(&mut self, draft: &mut Draft, room_left: usize) {
+    pub fn fill(&mut self, draft: &mut Draft, room_left: usize) {
         while room(draft) > room_left {
             self.next(draft);
         }
