@@ -144,3 +144,27 @@ fn every_checker_closes_exactly_when_all_pairs_say_so() {
     }
     assert!((FILES / 4..FILES / 4 * 3).contains(&accepted), "{accepted}");
 }
+
+/// Two classes below each other, which are said to differ.
+const CLOSABLE: &str = "T,clv,1,0,0,0\nT,clv,2,0,0,0\nA,le,1,2,0,0\nA,le,2,1,0,0\nA,ne,2,1,0,0\n";
+
+/// Fields and the tree are looked at before the branch is.
+#[test]
+fn what_comes_before_the_closure() {
+    for (steps, number, line) in [
+        ("S,bck,0,0,0,0\n", 0, 0),
+        ("S,bck,1,0,0,0\n", 6, 6),
+        ("S,bck,0,1,0,0\n", 6, 6),
+        ("S,bck,0,0,1,0\n", 6, 6),
+        ("S,bck,0,0,0,1\n", 6, 6),
+        ("S,bck,0,0,0,0\nS,bck,0,0,0,0\n", 5, 7),
+        ("S,bck,0,0,0,0\nS,bck,1,1,1,1\n", 5, 7),
+        ("S,bcl,0,0,0,0\n", 4, 6),
+    ] {
+        let file = [CLOSABLE, steps].concat();
+        for (name, check) in CHECKERS {
+            let [given, at, ..] = check(file.as_bytes());
+            assert_eq!((given, at), (number, line), "{name}: {steps}");
+        }
+    }
+}

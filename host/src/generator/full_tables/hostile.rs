@@ -12,9 +12,10 @@ mod mixed;
 mod orders;
 mod shared_signatures;
 
+use super::key_clauses::Keys;
 use super::{full_table, FullTable, Kind};
 use crate::generator::closable::Closable;
-use crate::generator::draft::{lit, Draft, Literal, TermId, MOST_IN_CLAUSE};
+use crate::generator::draft::{lit, Draft, Literal, TermId};
 use arrangements::{backwards, shuffled, zigzag};
 
 const KINDS: &[Kind] = &[
@@ -58,6 +59,9 @@ const KINDS: &[Kind] = &[
     ("shared hash, one `eq`", shared_signatures::one_equation),
     ("shared hash, two `eq`", shared_signatures::two_equations),
     ("shared hash, all equal", shared_signatures::all_equal),
+    ("shared hash, congruences", || {
+        shared_signatures::congruences(backwards)
+    }),
     ("many `ne`", denials::unequal),
     ("many `nl`, long chain", || denials::above_chain(shuffled)),
     ("many `nl`, many ways up", denials::above_diamonds),
@@ -70,7 +74,7 @@ pub fn all() -> Vec<FullTable> {
 }
 
 /// Eight literals, of this literal for each index from 0 on.
-fn keys(key: impl Fn(usize) -> Literal) -> [Literal; MOST_IN_CLAUSE] {
+fn keys(key: impl Fn(usize) -> Literal) -> Keys {
     std::array::from_fn(key)
 }
 

@@ -80,7 +80,7 @@ impl Writes {
     }
 
     /// Makes the next term.
-    fn next(&mut self, draft: &mut Draft) -> TermId {
+    pub fn next(&mut self, draft: &mut Draft) -> TermId {
         loop {
             let arguments = self.arguments();
             self.tried += 1;

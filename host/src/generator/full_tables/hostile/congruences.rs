@@ -3,36 +3,49 @@
 use super::arrangements::{placed, Arrange};
 use super::{assume_arranged, keys};
 use crate::generator::closable::Closable;
-use crate::generator::draft::lit;
+use crate::generator::draft::{lit, Literal, TermId};
+use crate::generator::full_tables::key_clauses::Keys;
 use crate::generator::full_tables::{fill, room};
 use crate::generator::tableau::Tableau;
+
+/// As many levels as the table has room for.
+pub fn levels(arrange: Arrange) -> Tableau {
+    let mut made = Closable::new();
+    let count = (room(&made.draft) - LEVEL_BASE) / 2;
+    let keys = make_levels(&mut made, count, arrange);
+    fill(&mut made.draft, 0);
+    made.fill_by_keys(keys)
+}
+
+/// The terms that the levels need besides two each.
+const LEVEL_BASE: usize = 4;
 
 /// Reads f(b) with f(b) eq b, and f(a) for many variables a, each equal to the
 /// read of the one before it. The key makes one of the first variables equal to
 /// b: then its read is, and the next variable, and so on.
-pub fn levels(arrange: Arrange) -> Tableau {
-    let mut made = Closable::new();
+pub fn make_levels(made: &mut Closable, count: usize, arrange: Arrange) -> Keys {
     let draft = &mut made.draft;
-    let h = draft.variable("arv", 1);
-    let f = draft.variable("fnv", 1);
-    let b = draft.variable("rfv", 2);
+    let h = draft.variable("arv", LEVEL_NAME);
+    let f = draft.variable("fnv", LEVEL_NAME);
+    let b = draft.variable("rfv", LEVEL_NAME);
     let read_b = draft.term("rea", &[h, b, f]);
-    let count = room(draft) / 2;
-    let names = (3..).take(count);
-    let bases: Vec<_> = names.map(|name| draft.variable("rfv", name)).collect();
+    let names = (LEVEL_NAME + 1..).take(count);
+    let bases: Vec<TermId> = names.map(|name| draft.variable("rfv", name)).collect();
     let bases = placed(&bases, arrange);
-    let mut reads = vec![b; count];
+    let mut reads = bases.clone();
     for index in arrange(count) {
         reads[index] = draft.term("rea", &[h, bases[index], f]);
     }
-    fill(draft, 0);
     let steps = bases[1..].iter().zip(&reads);
-    let steps: Vec<_> = steps.map(|(base, read)| lit(*base, "eq", *read)).collect();
+    let steps: Vec<Literal> = steps.map(|(base, read)| lit(*base, "eq", *read)).collect();
     draft.assume(lit(reads[count - 1], "ne", b));
     draft.assume(lit(read_b, "eq", b));
-    assume_arranged(&mut made, &steps, arrange);
-    made.fill_by_keys(keys(|index| lit(bases[index], "eq", b)))
+    assume_arranged(made, &steps, arrange);
+    keys(|index| lit(bases[index], "eq", b))
 }
+
+/// The variables of the levels have names from this one on.
+const LEVEL_NAME: u32 = 100;
 
 /// How often the image is taken of what is equal to r: two numbers after each
 /// other in Lucas's sequence, for which Euclid's algorithm takes long. Together

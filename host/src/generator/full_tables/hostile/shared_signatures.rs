@@ -2,9 +2,12 @@
 //! products, so that terms with one hash and one argument in common have few
 //! hashes when another takes this argument's place.
 
+use super::arrangements::Arrange;
+use super::congruences::make_levels;
 use super::{keys, links, variables};
 use crate::generator::closable::Closable;
 use crate::generator::draft::{lit, TermId, MOST_IN_CLAUSE};
+use crate::generator::full_tables::room;
 use crate::generator::full_tables::shared_hash::Writes;
 use crate::generator::tableau::Tableau;
 
@@ -80,4 +83,19 @@ fn with_equal_arguments(count: usize) -> Tableau {
         }
     }
     chained.finish()
+}
+
+/// Levels of congruences beside the writes: a checker that goes through the
+/// table at each level takes longest with a third of the terms for the levels.
+const LEVELS: usize = 100;
+
+/// Terms become equal one after the other, and none of the writes do.
+pub fn congruences(arrange: Arrange) -> Tableau {
+    let mut made = Closable::new();
+    let keys = make_levels(&mut made, LEVELS, arrange);
+    let mut writes = Writes::new(&mut made.draft);
+    while room(&made.draft) > 0 {
+        writes.next(&mut made.draft);
+    }
+    made.fill_by_keys(keys)
 }
