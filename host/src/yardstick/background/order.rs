@@ -14,14 +14,14 @@ pub struct Order {
     /// When a class was first visited, from 1 on; 0 if it was not.
     visited: Vec<u16>,
     visits: u16,
-    /// The strongly connected component of each class that was left. Those
+    /// The strongly connected component of each class, once it is finished. Those
     /// above a component have lower numbers.
     component: Vec<u16>,
     components: u16,
     /// Visited classes without a component.
     open: Vec<u16>,
-    /// Visited classes, those of one component together.
-    left: Vec<u16>,
+    /// Classes with a component, those of one together, the lowest number first.
+    finished: Vec<u16>,
     /// For each component the set of those above it, itself among them.
     above: Vec<u64>,
     /// How many words a set has.
@@ -51,7 +51,7 @@ impl Order {
         refill(&mut self.visited, numbers, 0);
         refill(&mut self.component, numbers, NONE);
         self.edges.clear();
-        self.left.clear();
+        self.finished.clear();
         self.visits = 0;
         self.components = 0;
     }
@@ -79,7 +79,7 @@ impl Order {
         if least == visit {
             for member in self.open.drain(height..) {
                 self.component[usize::from(member)] = self.components;
-                self.left.push(member);
+                self.finished.push(member);
             }
             self.components += 1;
         }
@@ -98,7 +98,7 @@ impl Order {
         let components = usize::from(self.components);
         self.width = components.div_ceil(64);
         refill(&mut self.above, components * self.width, 0);
-        for class in &self.left {
+        for class in &self.finished {
             let component = usize::from(self.component[usize::from(*class)]);
             let (known, rest) = self.above.split_at_mut(component * self.width);
             let set = &mut rest[..self.width];

@@ -45,7 +45,7 @@ pub fn make_levels(made: &mut Closable, count: usize, arrange: Arrange) -> Keys 
 }
 
 /// The variables of the levels have names from this one on.
-const LEVEL_NAME: u32 = 100;
+const LEVEL_NAME: u32 = 30;
 
 /// How often the image is taken of what is equal to r: two numbers after each
 /// other in Lucas's sequence, for which Euclid's algorithm takes long. Together
