@@ -255,10 +255,6 @@ impl Draft {
         self.close("cls", [at(p), at(q), NONE, NONE]);
     }
 
-    pub fn bck(&mut self) {
-        self.close("bck", [NONE; 4]);
-    }
-
     /// The rule `emp`.
     pub fn empty(&mut self, p: Place) {
         self.close("emp", [at(p), NONE, NONE, NONE]);
