@@ -4,7 +4,7 @@ mod order;
 
 use class_order::WORDS;
 use class_order::fill_rows;
-use congruence::join_alike;
+use congruence::join_congruent;
 use literals::join_literals;
 use order::antisymmetry;
 use order::contradicts;
@@ -20,7 +20,7 @@ ghost use Rattle.tree.specs.State.{IsBranch, branchOf};
 ghost use Rattle.partition.specs.Blocks.{IsPartition};
 ghost use Rattle.background.specs.Closure.{Rounded};
 
-// One round: joins blocks, and says whether it did. The rows are those of the blocks before.
+// One round: joins blocks, and says whether it did. The rows are those of the blocks before. `again` is set from the second round on.
 fn round(
     blocks: &mut [u16; NUMBERS],
     rows: &mut [u64; WORDS],
@@ -28,12 +28,13 @@ fn round(
     n: usize,
     branch: &[u32; Tree::PLACES],
     len: usize,
+    again: bool,
 ) -> bool
     requires { ⌜ ((table : Table) × Entries table (now terms) × (length table ≡ n)) ⌝ }
     requires { ⌜ IsPartition (now blocks) × (length (now rows) ≡ 16384) × IsBranch (now branch) len ⌝ }
     ensures { λ r. ⌜ Rounded (now (blocks .entry)) (now (blocks .exit)) (now (rows .exit)) (now (terms .entry)) n (branchOf (now (branch .entry)) len) r ⌝ }
 {
-    if join_alike(blocks, terms, n) {
+    if join_congruent(blocks, terms, n, again) {
         return true;
     }
     fill_rows(&*blocks, rows, terms, n, branch, len);
@@ -55,9 +56,11 @@ pub fn contradicted(
     let mut blocks = singletons();
     join_literals(&mut blocks, branch, len);
     let mut rows = [0; WORDS];
+    let mut again = false;
     let mut more = true;
     while more {
-        more = round(&mut blocks, &mut rows, terms, n, branch, len);
+        more = round(&mut blocks, &mut rows, terms, n, branch, len, again);
+        again = true;
     }
     contradicts(&blocks, &rows, branch, len)
 }

@@ -15,7 +15,7 @@ use Rattle.tree.specs.State.{IsBranch, branchOf}
 use Rattle.tree.proofs.BranchLaws.{on-branch, each-on}
 use Rattle.partition.specs.Blocks.{blockOf, IsPartition, one}
 use Rattle.partition.proofs.Loops.{up-to, nothing-yet}
-use Rattle.class_order.specs.Rows.{isUnder, Words, Cleared, room, Less, Only, Extended, Held, HeldIf, RaisedLiteral, AllHeldIf, AllOn, Passed, RaisedClass, ClassesUnder, Reflexive, Filled}
+use Rattle.class_order.specs.Rows.{isUnder, Words, Cleared, room, Less, Only, Extended, Held, HeldIf, RaisedLiteral, AllHeldIf, AllOn, Passed, Followed, RaisedClass, ClassesUnder, Reflexive, Filled}
 use Rattle.class_order.proofs.WordLaws.{less-then}
 use Rattle.class_order.proofs.RowLaws.{unchanged, extended-then}
 
@@ -135,6 +135,13 @@ fill-more blocks old new terms xs n m more r S P R = record {
   words = R .change .words;
   held = R .held;
   told = told-more blocks old new terms xs n m _ S (R .change) (λ table l o. o) (P .told);
+}
+
+pub fill-followed : (blocks old new terms xs : List ℕ) (n m : ℕ) (more : Bool) → IsPartition blocks → FillPart blocks old terms xs n m more → Followed old new → FillPart blocks new terms xs n m true
+fill-followed blocks old new terms xs n m more S P F = record {
+  words = F blocks .words;
+  held = tt;
+  told = told-more blocks old new terms xs n m _ S (F blocks) (λ table. tt) (P .told);
 }
 
 pub fill-less : (more r : Bool) (old new : List ℕ) → more ≡ true → Less r old new → room 16384 new + one r < room 16384 old + one more

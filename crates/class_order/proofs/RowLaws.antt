@@ -19,7 +19,7 @@ use Rattle.packing.specs.declared.LiteralView.{LiteralView}
 use Rattle.packing.specs.Packing.{Packs, Small, IsNot, relationOf, literalOf}
 use Rattle.partition.specs.Blocks.{blockOf, IsPartition}
 use Rattle.class_order.specs.Rows as order
-use Rattle.class_order.specs.Rows.{Path, isUnder, Words, Less, Raised, Only, Kept, Extended, Held, HeldIf, RaisedLiteral, PackedAt, RaisedClass}
+use Rattle.class_order.specs.Rows.{Path, isUnder, Words, Less, Raised, Only, Kept, Extended, Held, HeldIf, RaisedLiteral, Followed, PackedAt, RaisedClass}
 
 or-first : {a : Bool} (b : Bool) → a ≡ true → (a || b) ≡ true
 or-first b e = λ i. e i || b
@@ -73,6 +73,10 @@ module _ (old new : List ℕ) (x y : TermNo) (r : Bool) (R : Raised old new x y 
 
   pub raised-extended : (P : Table → List Literal → Type 0) (blocks : List ℕ) → ((table : Table) (B : List Literal) → P table B → Path table B blocks x y) → Extended P blocks old new
   raised-extended P blocks path = record { words = R .words; kept = raised-kept; only = λ table B p O. raised-only table B blocks (path table B p) O }
+
+  -- of a pair that the rows hold already
+  pub raised-followed : isUnder old x y ≡ true → Followed old new
+  raised-followed h blocks = record { words = R .words; kept = raised-kept; only = λ table B p O. raised-only table B blocks (O x y lx ly h) O }
 
 -- A LITERAL of another relation, and one of le
 other-relation : (R : Relation) (p : LiteralView) (a b : TermNo) → IsNot R p → literalOf p ≡ literal R a b → ⊥

@@ -100,6 +100,10 @@ pub record Passed (blocks old new : List ℕ) (B : List Literal) (r : Bool) : Ty
   pub less : Less r old new
   pub held : AllHeldIf r blocks new B
 
+-- WHAT FOLLOWS FROM THE ROWS alone, whatever the branch and the blocks
+abbrev pub Followed : List ℕ → List ℕ → Type 0
+Followed old new = (blocks : List ℕ) → Extended (λ table B. Unit {0}) blocks old new
+
 -- A CLASS TERM t, whose packed form is p; and all of them
 abbrev pub PackedAt : ℕ → TermNo → Table → List Literal → Type 0
 PackedAt p t table B = Packs (at table t) p

@@ -1,4 +1,6 @@
 // The order of blocks that the le literals of a branch and its class terms come to, in rows of bits that the caller lends: bit y of row x, ROW words from x * ROW on, says that block x is under block y.
+use order_search::PAIRS;
+use order_search::plan;
 use packing::LiteralView;
 use packing::literals::view;
 use partition::either;
@@ -16,8 +18,9 @@ ghost use Rattle.packing.specs.Packing.{unpackLiteral, Small};
 ghost use Rattle.table.specs.Held.{Entries};
 ghost use Rattle.mentions.specs.Mentions.{bitAt};
 ghost use Rattle.tree.specs.State.{IsBranch, branchOf};
+ghost use Rattle.order_search.specs.Search.{AtMostPairs};
 ghost use Rattle.partition.specs.Blocks.{blockOf, IsPartition};
-ghost use Rattle.class_order.specs.Rows.{isUnder, Words, RaisedWord, Raised, RaisedLiteral, Passed, RaisedClass, Cleared, Reflexive, Filled};
+ghost use Rattle.class_order.specs.Rows.{isUnder, Words, RaisedWord, Raised, RaisedLiteral, Passed, Followed, RaisedClass, Cleared, Reflexive, Filled};
 
 // The words of a row: a bit for each number.
 const ROW: usize = 16;
@@ -119,6 +122,44 @@ fn pass(
     changed
 }
 
+// What is above y is above x, for a pair x, y of which the rows say that x is under y.
+fn raise_pair(rows: &mut [u64; WORDS], pair: u32)
+    requires { ⌜ Words (now rows) ⌝ }
+    ensures { λ _. ⌜ Followed (now (rows .entry)) (now (rows .exit)) ⌝ }
+{
+    let x = (pair / 1024 % 1024) as usize;
+    let y = (pair % 1024) as usize;
+    if is_under(&*rows, x, y) {
+        raise(rows, x, y);
+    }
+}
+
+fn follow(rows: &mut [u64; WORDS], pairs: &[u32; PAIRS], count: usize)
+    requires { ⌜ Words (now rows) × AtMostPairs count ⌝ }
+    ensures { λ _. ⌜ Followed (now (rows .entry)) (now (rows .exit)) ⌝ }
+{
+    let mut i = 0;
+    while i < count {
+        raise_pair(rows, pairs[i]);
+        i += 1;
+    }
+}
+
+// Follows the pairs of a search, after which a pass has nothing left to do, in whatever order the literals stand.
+fn hasten(
+    blocks: &[u16; NUMBERS],
+    rows: &mut [u64; WORDS],
+    branch: &[u32; Tree::PLACES],
+    len: usize,
+)
+    requires { ⌜ Words (now rows) × IsBranch (now branch) len ⌝ }
+    ensures { λ _. ⌜ Followed (now (rows .entry)) (now (rows .exit)) ⌝ }
+{
+    let mut pairs = [0; PAIRS];
+    let count = plan(blocks, branch, len, &mut pairs);
+    follow(rows, &pairs, count);
+}
+
 fn clear(rows: &mut [u64; WORDS])
     requires { ⌜ length (now rows) ≡ 16384 ⌝ }
     ensures { λ _. ⌜ Cleared (now (rows .exit)) ⌝ }
@@ -171,6 +212,8 @@ pub fn fill_rows(
 {
     clear(rows);
     reflexive(blocks, rows, terms, n);
+    pass(blocks, rows, branch, len);
+    hasten(blocks, rows, branch, len);
     let mut more = true;
     while more {
         more = pass(blocks, rows, branch, len);

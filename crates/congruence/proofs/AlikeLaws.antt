@@ -1,6 +1,6 @@
 -- Terms joined by their signatures, one after another.
 use mathlib.Core.Path.{_≡_, refl, sym, _∙_, ap, subst}
-use mathlib.Core.Bool.{Bool, true, false, _||_}
+use mathlib.Core.Bool.{Bool, true, false, _||_, false≢true}
 use mathlib.Core.List.{List}
 use mathlib.Core.Logic.{_⊎_, inl, inr}
 use Prim.Native.Nat.{ℕ, suc, _+_, _*_, _%_, _<_, _≤_}
@@ -21,7 +21,7 @@ use Rattle.table.proofs.ChainLaws.{chains-more}
 use Rattle.partition.specs.Blocks.{blockOf, IsPartition, Sound, Fewer, Coarsened, Joined}
 use Rattle.partition.proofs.Loops.{up-to}
 use Rattle.partition.proofs.JoinLaws.{unchanged, changed-then}
-use Rattle.congruence.specs.Signatures.{signatureOf, signOf, Earlier, MetIf, SignedFollow, JoinedSigned, Congruent, CongruentIf, JoinedAlike}
+use Rattle.congruence.specs.Signatures.{signatureOf, signOf, Earlier, MetIf, SignedFollow, JoinedSigned, Congruent, CongruentIf, JoinedAlike, JoinedSome}
 use Rattle.congruence.proofs.SignatureLaws.{sign-low, sign-takes, sign-fields, AllFollow, blocks-follow, both-follow, packs, alike-follow, applied-in}
 
 -- ONE TERM
@@ -215,6 +215,14 @@ congruent-all false blocks terms signatures n m h K = λ table E len t w o k l p
     = ap (mapFour (blockOf blocks)) (T .3) ∙ e ∙ ap (mapFour (blockOf blocks)) (sym (W .3)) in
     let same : signatureOf blocks (getD terms t 0) ≡ signatureOf blocks (getD terms w 0) = (λ i. (((fields i .a * 1024 + fields i .b) * 1024 + fields i .c) * 1024 + fields i .d) * 256 + low i) in
     K .equal t w kt kw (K .signed t kt ∙ same ∙ sym (K .signed w kw))
+
+-- joined further
+pub alike-more : (old mid new terms : List ℕ) (n : ℕ) (q r : Bool) → q ≡ true → JoinedAlike old mid terms n q → JoinedSome terms mid new r → JoinedAlike old new terms n true
+alike-more old mid new terms n true r e J S = record { change = changed-then _ _ _ old mid new true r (J .change) S (λ table B E _. E) (λ table B E _. E); congruent-if = tt }
+alike-more old mid new terms n false r e J S = absurd (false≢true e)
+
+pub alike-as : (old new terms : List ℕ) (n : ℕ) (q r : Bool) → q ≡ r → JoinedAlike old new terms n q → JoinedAlike old new terms n r
+alike-as old new terms n q r e J = subst (JoinedAlike old new terms n) e J
 
 pub part-all : (old blocks terms signatures chains : List ℕ) (n m : ℕ) (r : Bool) → n ≤ m → Part old blocks terms signatures chains n m r → JoinedAlike old blocks terms n r
 part-all old blocks terms signatures chains n m r h P = record { change = P .change; congruent-if = congruent-all r blocks terms signatures n m h (P .compared) }

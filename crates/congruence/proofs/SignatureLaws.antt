@@ -34,11 +34,14 @@ module _ (blocks : List ℕ) (S : IsPartition blocks) (p : ℕ) where
       let d : s / 256 % 1024 ≡ k .d = omega (arith, S .small (fieldsIn p .d)) in
       λ i. four (a i) (b i) (c i) (d i)
 
+  signature-low : signatureOf blocks p % 256 ≡ p % 256
+  signature-low = omega arith
+
   pub sign-low : signOf blocks p % 256 ≡ p % 256
   sign-low = go (takesArguments p)
     where
       go : (b : Bool) → cond b (signatureOf blocks p) p % 256 ≡ p % 256
-      go true = omega arith
+      go true = signature-low
       go false = refl
 
   pub sign-takes : takesArguments p ≡ true → signOf blocks p ≡ signatureOf blocks p
@@ -91,6 +94,17 @@ module _ (table : Table) (terms : List ℕ) (E : Entries table terms) where
       let y = applied (at table w) (packed w) (packs w) (sym (low-takes (packed t) (packed w) low) ∙ h) in
       let same : x .0 ≡ y .0 = one-operator (x .0) (y .0) _ _ (packed t) (packed w) (subst (λ e. Packs e (packed t)) (x .1) (packs t)) (subst (λ e. Packs e (packed w)) (y .1) (packs w)) low in
       background.sub (x .1) (y .1 ∙ ap (λ (o : Operator). apply o (fieldsIn (packed w))) (sym same)) (x .2) (S .a) (S .b) (S .c) (S .d)
+
+  -- terms of one signature
+  pub signed-follow : (B : List Literal) (blocks : List ℕ) → IsPartition blocks → Sound table B blocks → (t w : TermNo) → takesArguments (packed t) ≡ true
+      → signatureOf blocks (packed t) ≡ signatureOf blocks (packed w) → Follows table B Relation.Eq t w
+  signed-follow B blocks S C t w h e =
+      let low : packed t % 256 ≡ packed w % 256 = sym (signature-low blocks S (packed t)) ∙ ap (λ v. v % 256) e ∙ signature-low blocks S (packed w) in
+      let same : mapFour (blockOf blocks) (fieldsIn (packed w)) ≡ mapFour (blockOf blocks) (fieldsIn (packed t))
+      = sym (signature-fields blocks S (packed w)) ∙ ap fieldsIn (sym e) ∙ signature-fields blocks S (packed t) in
+      alike-follow B t w h low
+      (both-follow table B (fieldsIn (packed t)) (fieldsIn (packed w)) (mapFour (blockOf blocks) (fieldsIn (packed t))) (blocks-follow table B blocks C (packed t))
+      (subst (λ v. AllFollow table B (fieldsIn (packed w)) v) same (blocks-follow table B blocks C (packed w))))
 
   -- such a term stands in the table
   pub applied-in : (t : TermNo) (o : Operator) (k : Four TermNo) → at table t ≡ apply o k → takesTerms o ≡ true

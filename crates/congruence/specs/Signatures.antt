@@ -38,6 +38,10 @@ pub record JoinedSigned (old new signatures : List ℕ) (m x s t : ℕ) (r : Boo
   pub change : Coarsened (SignedFollow signatures m x s t) old new r
   pub met-if : MetIf r new signatures m x s t
 
+-- TERMS WITH ONE SIGNATURE, whichever they are
+abbrev pub JoinedSome : List ℕ → List ℕ → List ℕ → Bool → Type 0
+JoinedSome terms old new r = Coarsened (λ table B. Entries table terms) old new r
+
 -- ALL TERMS. Where none were joined, terms with one operator and arguments of the same blocks are in one block.
 abbrev pub Congruent : Table → List ℕ → Type 0
 Congruent table blocks = (t w : TermNo) (o : Operator) (k l : Four TermNo) → at table t ≡ apply o k → at table w ≡ apply o l → takesTerms o ≡ true

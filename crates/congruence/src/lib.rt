@@ -1,5 +1,7 @@
 // Terms with one word and equal arguments are equal. The signature of a term is its packed form with the block of each argument in the argument's place; the chains of the term table lead from a
 // signature to a term that has it.
+use congruence_search::PAIRS;
+use congruence_search::plan;
 use partition::either;
 use partition::join;
 use syntax::Arguments;
@@ -14,8 +16,9 @@ ghost use Rattle.tableau.specs.Terms.{maxTerms};
 ghost use Rattle.syntax.specs.Syntax.{argumentsIn};
 ghost use Rattle.packing.specs.Packing.{Small, AllSmall};
 ghost use Rattle.table.specs.Held.{Chains};
+ghost use Rattle.congruence_search.specs.Search.{AtMostPairs};
 ghost use Rattle.partition.specs.Blocks.{blockOf, IsPartition};
-ghost use Rattle.congruence.specs.Signatures.{signatureOf, signOf, JoinedSigned, JoinedAlike};
+ghost use Rattle.congruence.specs.Signatures.{signatureOf, signOf, JoinedSigned, JoinedAlike, JoinedSome};
 
 fn block(blocks: &[u16; NUMBERS], t: TermNumber) -> TermNumber
     requires { ⌜ Small (t .0) ⌝ }
@@ -81,7 +84,7 @@ fn join_signed(
 }
 
 // Joins the blocks of terms with one signature, and says whether any were two. A joining counts at once for the terms behind it.
-pub fn join_alike(blocks: &mut [u16; NUMBERS], terms: &[u64; NUMBERS], n: usize) -> bool
+fn join_alike(blocks: &mut [u16; NUMBERS], terms: &[u64; NUMBERS], n: usize) -> bool
     requires { ⌜ IsPartition (now blocks) × (n ≤ maxTerms) ⌝ }
     ensures { λ r. ⌜ JoinedAlike (now (blocks .entry)) (now (blocks .exit)) (now (terms .entry)) n r ⌝ }
 {
@@ -99,4 +102,70 @@ pub fn join_alike(blocks: &mut [u16; NUMBERS], terms: &[u64; NUMBERS], n: usize)
         m = t;
     }
     changed
+}
+
+// Joins the terms of a pair t, w where they have one signature. Says whether they were apart.
+fn join_pair(blocks: &mut [u16; NUMBERS], terms: &[u64; NUMBERS], pair: u32) -> bool
+    requires { ⌜ IsPartition (now blocks) ⌝ }
+    ensures { λ r. ⌜ JoinedSome (now (terms .entry)) (now (blocks .entry)) (now (blocks .exit)) r ⌝ }
+{
+    let t = (pair / 1024 % 1024) as usize;
+    let w = (pair % 1024) as usize;
+    let x = terms[t];
+    if !packing::term_codes::takes_terms(x) {
+        return false;
+    }
+    if signature(&*blocks, x) != signature(&*blocks, terms[w]) {
+        return false;
+    }
+    join(blocks, t, w)
+}
+
+fn follow(
+    blocks: &mut [u16; NUMBERS],
+    terms: &[u64; NUMBERS],
+    pairs: &[u32; PAIRS],
+    count: usize,
+) -> bool
+    requires { ⌜ IsPartition (now blocks) × AtMostPairs count ⌝ }
+    ensures { λ r. ⌜ JoinedSome (now (terms .entry)) (now (blocks .entry)) (now (blocks .exit)) r ⌝ }
+{
+    let mut changed = false;
+    let mut i = 0;
+    while i < count {
+        let joined = join_pair(blocks, terms, pairs[i]);
+        changed = either(changed, joined);
+        i += 1;
+    }
+    changed
+}
+
+// Joins the terms that a search finds, after which `join_alike` has nothing left to do, in whatever order the terms stand. Says whether any were apart.
+fn hasten(blocks: &mut [u16; NUMBERS], terms: &[u64; NUMBERS], n: usize) -> bool
+    requires { ⌜ IsPartition (now blocks) × (n ≤ maxTerms) ⌝ }
+    ensures { λ r. ⌜ JoinedSome (now (terms .entry)) (now (blocks .entry)) (now (blocks .exit)) r ⌝ }
+{
+    let mut pairs = [0; PAIRS];
+    let count = plan(&*blocks, terms, n, &mut pairs);
+    follow(blocks, terms, &pairs, count)
+}
+
+// The same as `join_alike`; where `again` is set, and some were two, a search goes on from there, so that one time more is enough.
+pub fn join_congruent(
+    blocks: &mut [u16; NUMBERS],
+    terms: &[u64; NUMBERS],
+    n: usize,
+    again: bool,
+) -> bool
+    requires { ⌜ IsPartition (now blocks) × (n ≤ maxTerms) ⌝ }
+    ensures { λ r. ⌜ JoinedAlike (now (blocks .entry)) (now (blocks .exit)) (now (terms .entry)) n r ⌝ }
+{
+    if !join_alike(blocks, terms, n) {
+        return false;
+    }
+    if again {
+        hasten(blocks, terms, n);
+        return true;
+    }
+    true
 }

@@ -270,7 +270,7 @@ module _ (table : Table) (branch : List Literal) where
 
   closure-sound : AllFollow (closure table branch)
   unfolding closure has
-  closure-sound = saturate-sound (length (universe table branch)) [] (universe table branch) (λ R a b h. absurd (false≢true h))
+  closure-sound = saturate-sound _ [] _ (λ R a b h. absurd (false≢true h))
 
   -- CLOSED: what follows in one step from what is found is found
   abbrev Saturated : List Literal → Type 0
@@ -304,7 +304,7 @@ module _ (table : Table) (branch : List Literal) where
 
   closure-closed : Saturated (closure table branch)
   unfolding closure
-  closure-closed = saturate-closed (length (universe table branch)) [] (universe table branch) (omega arith) (λ R a b u. inr u)
+  closure-closed = saturate-closed _ [] _ (omega arith) (λ R a b u. inr u)
 
   -- COMPLETE: numbers that differ and are related are below the bound
   abbrev Range : Relation → TermNo → TermNo → Type 0

@@ -9,10 +9,10 @@ use Rattle.background.proofs.contradicted.Statement.{statement}
 use Rattle.background.proofs.contradicted.Tie as tie
 
 abbrev Inv-loop : tie.InvT-loop
-Inv-loop terms n branch len blocks₀ rows₀ more₀ blocks rows more = Running blocks rows terms n (branchOf branch len) more
+Inv-loop terms n branch len blocks₀ rows₀ again₀ more₀ blocks rows again more = Running blocks rows terms n (branchOf branch len) more
 
 abbrev μ-loop : tie.MeasureT-loop
-μ-loop terms n branch len blocks₀ rows₀ more₀ blocks rows more = roots 1024 blocks + one more
+μ-loop terms n branch len blocks₀ rows₀ again₀ more₀ blocks rows again more = roots 1024 blocks + one more
 
 join-literals-requires : tie.Need-join-literals-requires Inv-loop μ-loop
 join-literals-requires c κs = (c .before .singletons .ensures .partition, c .before .before .pre .1)

@@ -4,7 +4,7 @@ use Rattle.background.proofs.round.Statement.{statement}
 use Rattle.background.proofs.round.Tie as tie
 
 returns : tie.Need-returns
-returns c = let a = c .before in round-alike _ _ _ _ _ _ _ (a .before .before .pre .1 .1) (c .if1 .taken) (a .join-alike .ensures)
+returns c = let a = c .before in round-alike _ _ _ _ _ _ _ (a .before .before .pre .1 .1) (c .if1 .taken) (a .join-congruent .ensures)
 
 returns-2 : tie.Need-returns-2
 returns-2 c =
@@ -13,7 +13,7 @@ returns-2 c =
     let a = e .before in
     let s = a .before .before in
     let G = s .pre .0 in
-    round-rest _ _ _ _ _ (s .args .branch .now) _ (s .args .len) _ _ (e .if1 .left) (a .join-alike .ensures) (f .fill-rows .ensures) (c .antisymmetry .ensures)
+    round-rest _ _ _ _ _ (s .args .branch .now) _ (s .args .len) _ _ (e .if1 .left) (a .join-congruent .ensures) (f .fill-rows .ensures) (c .antisymmetry .ensures)
     (f .fill-rows .ensures (G .0) (G .1) (G .2) .words .size)
 
 pub round-spec : {M : Type 1} → statement M
