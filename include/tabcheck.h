@@ -32,7 +32,7 @@ enum tabcheck_field {
     TABCHECK_T_LINES = 2,  /* T lines; 0 after a no */
     TABCHECK_ASSUMED = 3,  /* A lines plus clauses; 0 after a no */
     TABCHECK_S_LINES = 4,  /* S lines; 0 after a no */
-    TABCHECK_CLOSINGS = 5, /* closings (cls and emp lines); 0 after a no */
+    TABCHECK_CLOSINGS = 5, /* closings (cls, emp and bck lines); 0 after a no */
     TABCHECK_PLACE = 6     /* place where w is already used, after TABCHECK_NOT_FRESH; 0 after any other number and after a yes */
 };
 

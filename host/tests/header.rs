@@ -70,7 +70,7 @@ fn the_seven_numbers_are_in_the_replys_order() {
         "T lines",
         "A lines plus clauses",
         "S lines",
-        "closings (cls and emp lines)",
+        "closings (cls, emp and bck lines)",
         "place",
     ];
     expect_fields(HEADER, "tabcheck_field", &starts);
