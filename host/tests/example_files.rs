@@ -32,7 +32,7 @@ fn files() -> Vec<[String; 3]> {
     files
 }
 
-/// File, claim, the accepted file that it stands beside, reply.
+/// File, claim, the accepted files that it stands beside, reply.
 fn false_claims() -> impl Iterator<Item = [String; 4]> {
     let columns = ["File", "Claim, which is false", "Neighbour of", "Reply"];
     page::rows(PAGE, columns).into_iter()
@@ -152,11 +152,39 @@ fn every_accepted_file_has_a_false_neighbour() {
     let accepted = files().into_iter();
     let accepted = accepted.filter(|[_, _, reply]| reply.starts_with("yes,"));
     let accepted = accepted.map(|[name, ..]| name);
-    let neighbours: Vec<String> = false_claims().map(|[_, _, of, _]| of).collect();
-    let left_out: Vec<String> = accepted.filter(|name| !neighbours.contains(name)).collect();
+    let cells: Vec<String> = false_claims().map(|[_, _, of, _]| of).collect();
+    let neighbours: Vec<&str> = cells.iter().flat_map(|of| of.split(", ")).collect();
+    let left_out = accepted.filter(|name| !neighbours.contains(&name.as_str()));
+    let left_out: Vec<String> = left_out.collect();
     assert_eq!(left_out, ["acknowledgement_spares_last_jog.tab"]);
     for [name, _, _, reply] in false_claims() {
         assert!(reply.starts_with("no,"), "{name}");
+    }
+}
+
+/// The lines of an example that begin with a letter.
+fn lines_with(file: &str, letter: char) -> Vec<&str> {
+    let lines = file.lines();
+    lines.filter(|line| line.starts_with(letter)).collect()
+}
+
+/// Of a claim that is closed twice, by a chain of steps and by one `bck`, the
+/// second file has the terms and the assumptions of the first, or fewer terms.
+#[test]
+fn the_same_claim_by_steps_and_by_bck() {
+    let names = files().into_iter().map(|[name, ..]| name);
+    let by_steps: Vec<String> = names
+        .filter_map(|name| Some(name.strip_suffix("_by_steps.tab")?.to_string()))
+        .collect();
+    assert_eq!(by_steps.len(), 2);
+    for claim in by_steps {
+        let steps = example(&format!("{claim}_by_steps.tab"));
+        let bck = example(&format!("{claim}_by_bck.tab"));
+        assert!(!steps.contains("S,bck"), "{claim}");
+        assert_eq!(lines_with(&bck, 'S'), ["S,bck,0,0,0,0"], "{claim}");
+        assert_eq!(lines_with(&bck, 'A'), lines_with(&steps, 'A'), "{claim}");
+        let terms = lines_with(&steps, 'T');
+        assert!(terms.starts_with(&lines_with(&bck, 'T')), "{claim}");
     }
 }
 
