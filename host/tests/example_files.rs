@@ -142,7 +142,7 @@ fn the_commands_of_the_readme() {
         expect(&file, lines.next().unwrap().trim_start(), line);
         commands += 1;
     }
-    assert_eq!(commands, 3);
+    assert_eq!(commands, 7);
 }
 
 /// No accepted file is left out but that of the acknowledgement routine, whose
