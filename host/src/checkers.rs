@@ -1,7 +1,8 @@
 //! The checkers that are compared and timed.
 
 use crate::call::{self, Numbers};
-use crate::{independent, yardstick};
+use crate::independent::{self, Closes};
+use crate::yardstick;
 
 /// A checker and its name.
 pub type Checker = (&'static str, fn(&[u8]) -> Numbers);
@@ -16,6 +17,20 @@ pub const YARDSTICK: Checker = ("yardstick", yardstick_numbers);
 /// The independent checker.
 pub fn plain_rust(file: &[u8]) -> Numbers {
     call::through_buffer(independent::call, file)
+}
+
+/// The independent checker with another `bck`.
+pub fn plain_rust_by(file: &[u8], closes: Closes) -> Numbers {
+    let reply = independent::check_by(file, closes);
+    [
+        reply.number,
+        reply.line,
+        reply.terms,
+        reply.assumptions,
+        reply.steps,
+        reply.closings,
+        reply.place,
+    ]
 }
 
 /// The yardstick, through a buffer like the proved checker.

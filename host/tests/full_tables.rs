@@ -1,13 +1,12 @@
 //! The files that the checkers are timed on: they are full, and every checker
 //! gives the replies known of them.
 
-mod naive_closure;
-mod replay;
+mod remembering;
 
 use host::checkers::{CHECKERS, PROVED, YARDSTICK};
 use host::generator::full_tables::{all, hash, FullTable, STEPS};
 use host::generator::{Expected, Sample};
-use replay::expect_closings;
+use remembering::REMEMBERING;
 
 const MOST_BYTES: usize = 60_000;
 const KINDS: usize = 32;
@@ -82,14 +81,14 @@ fn is_about_bck(sample: &Sample) -> bool {
     sample.kind.starts_with("`bck`")
 }
 
-/// The independent checker, which follows the rules pass by pass, would take
-/// too long for many `bck`. A closure by all pairs of terms stands for it.
+/// The independent checker, which puts in pair after pair, would take too long
+/// for many `bck`, and looks at each branch once.
 #[test]
 fn every_checker_gives_the_known_replies() {
     for table in all() {
         for sample in [table.accepted, table.refused] {
             let checkers = match is_about_bck(&sample) {
-                true => &[PROVED, YARDSTICK],
+                true => &[REMEMBERING, PROVED, YARDSTICK],
                 false => CHECKERS,
             };
             for (name, check) in checkers {
@@ -98,13 +97,6 @@ fn every_checker_gives_the_known_replies() {
             }
         }
     }
-}
-
-#[test]
-fn every_bck_closes_but_the_last_of_a_refused_file() {
-    let tables = all().into_iter();
-    let about_bck = tables.filter(|table| is_about_bck(&table.accepted));
-    assert_eq!(about_bck.map(|table| expect_closings(&table)).count(), 2);
 }
 
 /// Otherwise the terms that are chosen to share a hash would not.

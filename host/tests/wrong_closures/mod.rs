@@ -1,10 +1,8 @@
 //! Checkers that are wrong about `bck` alone.
 
 use host::call::Numbers;
-use host::checkers::{plain_rust, Checker};
-use host::independent::{
-    check_by, sort_of_word, takes_name, Closes, Literal, LiteralWord, Sort, Term,
-};
+use host::checkers::{plain_rust, plain_rust_by as by, Checker};
+use host::independent::{sort_of_word, takes_name, Closes, Literal, LiteralWord, Sort, Term};
 use host::independent_closure::{
     closes, contradicts, literals, smallest, Condition, Relations, CONDITIONS,
 };
@@ -87,19 +85,6 @@ const LET: usize = 5;
 const LEA: usize = 6;
 const LEFT: usize = 7;
 const RIGHT: usize = 8;
-
-fn by(file: &[u8], closes: Closes) -> Numbers {
-    let reply = check_by(file, closes);
-    [
-        reply.number,
-        reply.line,
-        reply.terms,
-        reply.assumptions,
-        reply.steps,
-        reply.closings,
-        reply.place,
-    ]
-}
 
 fn lines(file: &[u8]) -> impl Iterator<Item = &[u8]> {
     file.split_inclusive(|byte| *byte == b'\n')
