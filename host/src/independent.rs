@@ -145,7 +145,7 @@ pub fn check(file: &[u8]) -> Reply {
     check_by(file, independent_closure::closes)
 }
 
-/// The same with another `bck`, for one who wants a wrong checker.
+/// The same with another `bck`: a wrong one, or one that remembers what it found.
 pub fn check_by(file: &[u8], closes: Closes) -> Reply {
     match closed_tree(file, closes) {
         Ok(state) => yes(&state),

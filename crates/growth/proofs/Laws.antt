@@ -23,7 +23,7 @@ closings-most x = go (isClosing x)
 abbrev closings : Bool → ℕ
 closings b = cond b 1 0
 
--- the rules that close are `cls` and `emp`
+-- the rules that close are `cls`, `emp` and `bck`
 closes-not : (x : Rule) → OneOf (placesBut (Rule.Cls ∷ Rule.Emp ∷ Rule.Bck ∷ [])) (placeOf x) → isClosing x ≡ false
 unfolding rules ruleNames rule
 closes-not x o = not-true (isClosing x) (other-rule (λ y. not (isClosing y)) (Rule.Cls ∷ Rule.Emp ∷ Rule.Bck ∷ []) refl refl x o)

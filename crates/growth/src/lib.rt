@@ -42,7 +42,7 @@ pub enum LineResult {
     Refused(Reason, usize),
 }
 
-// `cls` and `emp` close.
+// `cls`, `emp` and `bck` close.
 fn closings(rule: Rule) -> usize
     ensures { λ r. ⌜ r ≡ closingsOf rule ⌝ }
 {
