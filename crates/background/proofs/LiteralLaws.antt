@@ -1,17 +1,16 @@
 -- The eq literals of a branch joined.
 use mathlib.Core.Path.{_≡_, refl, sym, _∙_, ap, subst}
-use mathlib.Core.Bool.{Bool, true, false, _||_}
+use mathlib.Core.Bool.{Bool, false, _||_}
 use mathlib.Core.List.{List}
 use mathlib.Core.Option.{some}
 use Prim.Native.Nat.{ℕ, _+_, _<_, _≤_}
 use native.Mathlib.Omega.{arith}
 use lib.ListN.{getD}
 use Rattle.tableau.specs.declared.Relation.{Relation}
-use Rattle.tableau.specs.Terms.{TermNo, Table, Literal, literal}
+use Rattle.tableau.specs.Terms.{TermNo, Literal, literal}
 use Rattle.tableau.specs.Background as background
-use Rattle.tableau.specs.Background.{On}
 use Rattle.packing.specs.declared.LiteralView.{LiteralView}
-use Rattle.packing.specs.Packing.{unpackLiteral, Small, PackableLiteral, IsNot, literalOf}
+use Rattle.packing.specs.Packing.{unpackLiteral, PackableLiteral, IsNot, literalOf}
 use Rattle.packing.proofs.PackingLaws.{literal-packable}
 use Rattle.tree.specs.State.{IsBranch, branchOf}
 use Rattle.tree.proofs.BranchLaws.{on-branch, each-on}
@@ -20,7 +19,7 @@ use Rattle.partition.proofs.Loops.{up-to, nothing-yet}
 use Rattle.partition.proofs.JoinLaws.{unchanged, changed-then}
 use Rattle.class_order.specs.Rows.{AllOn}
 use Rattle.class_order.proofs.RowLaws.{not-read, read-sides}
-use Rattle.background.specs.Closure.{JoinedLiteral, AllEqual, JoinedLiterals}
+use Rattle.background.specs.Closure.{JoinedLiteral, JoinedLiterals}
 
 pub literal-skipped : (blocks : List ℕ) (p : LiteralView) (l : Literal) → IsPartition blocks → l ≡ literalOf p → IsNot Relation.Eq p → JoinedLiteral blocks blocks l false
 literal-skipped blocks p l S is n = record { change = unchanged _ blocks S; equal = λ a b e. absurd (not-read Relation.Eq p l a b is n e) }

@@ -9,7 +9,7 @@ use lib.ListN.{getD}
 use types.Run.{OneOf}
 use denote.Enum.Declared as Declared
 use Rattle.tableau.specs.declared.Relation.{Relation}
-use Rattle.tableau.specs.Terms.{TermNo, Table, Literal, literal}
+use Rattle.tableau.specs.Terms.{TermNo, Literal, literal}
 use Rattle.tableau.specs.Background as background
 use Rattle.tableau.specs.Background.{On, Follows}
 use Rattle.tableau.proofs.Bools.{clash}

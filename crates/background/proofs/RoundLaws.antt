@@ -3,7 +3,7 @@ use mathlib.Core.Path.{_≡_, refl, sym, _∙_, ap, subst}
 use mathlib.Core.Bool.{Bool, true, false, true≢false, false≢true}
 use mathlib.Core.List.{List}
 use mathlib.Core.Logic.{inl, inr}
-use Prim.Native.Nat.{ℕ, _+_, _<_, _≤_}
+use Prim.Native.Nat.{ℕ, _+_, _<_}
 use native.Mathlib.Omega.{arith}
 use lib.ListN.{length}
 use borrow.Author.Tests.{eqb-true, eq-eqb}
@@ -19,11 +19,11 @@ use Rattle.packing.specs.Packing.{Small}
 use Rattle.table.specs.Held.{Entries}
 use Rattle.tree.specs.State.{branchOf}
 use Rattle.tree.proofs.BranchLaws.{sides-small}
-use Rattle.partition.specs.Blocks.{blockOf, IsPartition, Sound, Fewer, one, roots, Coarsened, Singletons}
+use Rattle.partition.specs.Blocks.{blockOf, IsPartition, Sound, Fewer, oneIf, roots, Singletons}
 use Rattle.congruence.specs.Signatures.{JoinedAlike}
-use Rattle.class_order.specs.Rows.{isUnder, Filled}
+use Rattle.class_order.specs.Rows.{Filled}
 use Rattle.class_order.proofs.FillLaws.{class-in-table}
-use Rattle.background.specs.Closure.{AllEqual, JoinedLiterals, UnderFollows, Mutual, Antisymmetric, AllMutualIf, Saturated, SaturatedIf, Over, Rounded, denies, Denied}
+use Rattle.background.specs.Closure.{AllEqual, JoinedLiterals, UnderFollows, AllMutual, Antisymmetric, AllMutualIf, Saturated, SaturatedIf, Over, Rounded, denies, Denied}
 use Rattle.background.proofs.SaturatedLaws.{equal-follows, path-follows, under-follows, follows-there}
 
 class-small : (table : Table) (terms : List ℕ) → Entries table terms → (t : TermNo) → sortOf (at table t) ≡ Sort.Class → Small t
@@ -55,7 +55,7 @@ module _ (old mid new rows terms xs : List ℕ) (n m : ℕ) (r : Bool) (J : Join
 
   saturated-if : (r : Bool) → Fewer r mid new → AllMutualIf r new rows B → SaturatedIf r new rows terms n B
   saturated-if true e M = tt
-  saturated-if false e M = λ table E len q. subst (λ (v : List ℕ). AllEqual v B → ((l : Literal) → On B l → Mutual v rows l) → Saturated table B v rows) (sym e)
+  saturated-if false e M = λ table E len q. subst (λ (v : List ℕ). AllEqual v B → AllMutual v rows B → Saturated table B v rows) (sym e)
       (λ q M. record { equal = q; congruent = J .congruent-if table E len; filled = F table E len; antisymmetric = M }) q M
 
   round-order : length rows ≡ 16384 → Rounded old new rows terms n B r
@@ -103,7 +103,7 @@ run-more old new rows rows′ terms xs n m more r P R = record {
   saturated-if = R .saturated-if;
 }
 
-pub run-less : (more r : Bool) (old new : List ℕ) → more ≡ true → Fewer r old new → roots 1024 new + one r < roots 1024 old + one more
+pub run-less : (more r : Bool) (old new : List ℕ) → more ≡ true → Fewer r old new → roots 1024 new + oneIf r < roots 1024 old + oneIf more
 run-less true true old new e h = omega arith
 run-less true false old new e h = let q : roots 1024 new ≡ roots 1024 old = ap (roots 1024) h in omega arith
 run-less false r old new e h = absurd (false≢true e)

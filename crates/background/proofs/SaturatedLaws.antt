@@ -27,7 +27,7 @@ module _ (table : Table) (B : List Literal) (blocks : List ℕ) (C : Sound table
     pub path-follows : {x y : TermNo} → Path table B blocks x y → Follows table B Relation.Le x y
     path-follows (order.edge a b o p q) = background.left (block-of a (sides a b o .0) p) (background.right (block-of b (sides a b o .1) q) (background.le-literal o))
     path-follows (order.loop t s p) = background.left (block-of t (classes t s) p) (background.right (block-of t (classes t s) p) (background.ler s))
-    path-follows (order.join p q) = background.let′ (path-follows p) (path-follows q)
+    path-follows (order.compose p q) = background.let′ (path-follows p) (path-follows q)
 
     pub under-follows : (a b : TermNo) → Small a → Small b → Path table B blocks (blockOf blocks a) (blockOf blocks b) → Follows table B Relation.Le a b
     under-follows a b la lb h = background.left (background.sym (C a la)) (background.right (background.sym (C b lb)) (path-follows h))
@@ -40,20 +40,20 @@ module _ (table : Table) (B : List Literal) (blocks rows : List ℕ) (S : IsPart
   path-small : {x y : TermNo} → Path table B blocks x y → Small x × Small y
   path-small (order.edge a b o p q) = (subst Small p (S .small a), subst Small q (S .small b))
   path-small (order.loop t s p) = (subst Small p (S .small t), subst Small p (S .small t))
-  path-small (order.join p q) = (path-small p .0, path-small q .1)
+  path-small (order.compose p q) = (path-small p .0, path-small q .1)
 
   -- what is above the end of a path is above its start
   along : {x y : TermNo} → Path table B blocks x y → (z : TermNo) → Small z → U y z → U x z
   along (order.edge a b o p q) z l h = subst (λ v. U v z) p (K .filled .held (literal Relation.Le a b) o .above a b z refl l (subst (λ v. U v z) (sym q) h))
   along (order.loop t s p) z l h = h
-  along (order.join p q) z l h = along p z l (along q z l h)
+  along (order.compose p q) z l h = along p z l (along q z l h)
 
   -- a path with a way back is within one block
   back : {x y : TermNo} → Path table B blocks x y → U y x → x ≡ y
   back (order.edge {x = x} {y = y} a b o p q) h =
       sym p ∙ K .antisymmetric (literal Relation.Le a b) o a b refl (subst (λ v. U v (blockOf blocks a)) (sym q) (subst (λ v. U y v) (sym p) h)) ∙ q
   back (order.loop t s p) h = refl
-  back (order.join {x = x} {y = y} {z = z} p q) h =
+  back (order.compose {x = x} {y = y} {z = z} p q) h =
       let e : x ≡ y = back p (along q x (path-small p .0) h) in
       e ∙ back q (subst (λ v. U z v) e h)
 

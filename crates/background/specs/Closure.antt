@@ -41,8 +41,11 @@ pub record JoinedMutual (rows old new : List ℕ) (l : Literal) (r : Bool) : Typ
   pub change : Coarsened (λ table B. On B l × UnderFollows rows table B) old new r
   pub mutual-if : MutualIf r new rows l
 
+abbrev pub AllMutual : List ℕ → List ℕ → List Literal → Type 0
+AllMutual blocks rows B = (l : Literal) → On B l → Mutual blocks rows l
+
 abbrev pub AllMutualIf : Bool → List ℕ → List ℕ → List Literal → Type 0
-AllMutualIf false blocks rows B = (l : Literal) → On B l → Mutual blocks rows l
+AllMutualIf false blocks rows B = AllMutual blocks rows B
 AllMutualIf true blocks rows B = Unit {0}
 
 pub record Antisymmetric (rows old new : List ℕ) (B : List Literal) (r : Bool) : Type 0 where
@@ -54,7 +57,7 @@ pub record Saturated (table : Table) (B : List Literal) (blocks rows : List ℕ)
   pub equal : AllEqual blocks B
   pub congruent : Congruent table blocks
   pub filled : Filled table blocks rows B
-  pub antisymmetric : (l : Literal) → On B l → Mutual blocks rows l
+  pub antisymmetric : AllMutual blocks rows B
 
 -- ONE ROUND: r says whether any blocks were joined
 abbrev pub SaturatedIf : Bool → List ℕ → List ℕ → List ℕ → ℕ → List Literal → Type 0

@@ -20,7 +20,8 @@ ghost use Rattle.tree.specs.State.{IsBranch, branchOf};
 ghost use Rattle.partition.specs.Blocks.{IsPartition};
 ghost use Rattle.background.specs.Closure.{Rounded};
 
-// One round: joins blocks, and says whether it did. The rows are those of the blocks before. `again` is set from the second round on.
+// One round: joins blocks, and says whether it did. The rows are those of the blocks before. `again` is set from the second round on: most branches need no second, and
+// the search would cost them more than it saves.
 fn round(
     blocks: &mut [u16; NUMBERS],
     rows: &mut [u64; WORDS],

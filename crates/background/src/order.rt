@@ -28,7 +28,7 @@ fn join_mutual(blocks: &mut [u16; NUMBERS], rows: &[u64; WORDS], code: u32) -> b
     false
 }
 
-// Joins the blocks that are under each other, and says whether any were two.
+// Joins the blocks that are under each other, and says whether any were apart.
 pub fn antisymmetry(
     blocks: &mut [u16; NUMBERS],
     rows: &[u64; WORDS],

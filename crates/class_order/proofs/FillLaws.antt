@@ -1,21 +1,22 @@
 -- The passes over a branch and over the class terms.
-use mathlib.Core.Path.{_≡_, refl, sym, _∙_, ap, subst}
+use mathlib.Core.Path.{_≡_, refl, sym, ap, subst}
 use mathlib.Core.Bool.{Bool, true, false, _||_, true≢false, false≢true}
-use mathlib.Core.List.{List, [], _∷_}
-use Prim.Native.Nat.{ℕ, zero, suc, _+_, _<_, _≤_}
+use mathlib.Core.List.{List}
+use Prim.Native.Nat.{ℕ, _+_, _<_, _≤_}
 use native.Mathlib.Omega.{arith}
-use lib.Dec.{eqb}
 use lib.ListN.{length, getD}
 use Rattle.tableau.specs.declared.Sort.{Sort}
-use Rattle.tableau.specs.Terms.{TermNo, Table, Literal, at, sortOf, sortIndex, result}
+use Rattle.tableau.specs.Terms.{TermNo, Table, Literal, at, sortOf, sortIndex, sameSort, result}
 use Rattle.tableau.proofs.Bools.{clash}
-use Rattle.packing.specs.Packing.{unpackLiteral, Packs}
+use Rattle.tableau.proofs.TableGrowth.{inside}
+use Rattle.packing.specs.Packing.{unpackLiteral}
 use Rattle.table.specs.Held.{Entries}
+use Rattle.table.proofs.EntryLaws.{packs}
 use Rattle.tree.specs.State.{IsBranch, branchOf}
 use Rattle.tree.proofs.BranchLaws.{on-branch, each-on}
-use Rattle.partition.specs.Blocks.{blockOf, IsPartition, one}
+use Rattle.partition.specs.Blocks.{blockOf, IsPartition, oneIf}
 use Rattle.partition.proofs.Loops.{up-to, nothing-yet}
-use Rattle.class_order.specs.Rows.{isUnder, Words, Cleared, room, Less, Only, Extended, Held, HeldIf, RaisedLiteral, AllHeldIf, AllOn, Passed, Followed, RaisedClass, ClassesUnder, Reflexive, Filled}
+use Rattle.class_order.specs.Rows.{isUnder, Words, Cleared, room, Less, Only, Extended, Held, HeldIf, RaisedLiteral, AllHeldIf, AllOn, Passed, Composed, RaisedClass, ClassesUnder, Reflexive, Filled}
 use Rattle.class_order.proofs.WordLaws.{less-then}
 use Rattle.class_order.proofs.RowLaws.{unchanged, extended-then}
 
@@ -56,17 +57,10 @@ held-all false blocks rows xs n i h k = each-on (Held blocks rows) xs n (λ j l.
 pub pass-all : (blocks old new xs : List ℕ) (n i : ℕ) (r : Bool) → n ≤ i → PassPart blocks old new xs n i r → Passed blocks old new (branchOf xs n) r
 pass-all blocks old new xs n i r h P = record { change = P .change; less = P .less; held = held-all r blocks new xs n i h (P .held) }
 
--- A CLASS TERM stands in the table: other numbers are read as `nul`
-class-inside : (table : Table) (t : TermNo) → eqb (sortIndex (sortOf (at table t))) 4 ≡ true → (0 < t) × (t ≤ length table)
-unfolding result sortIndex
-class-inside [] t h = absurd (false≢true h)
-class-inside (e ∷ es) zero h = absurd (false≢true h)
-class-inside (e ∷ es) (suc zero) h = (omega arith, omega arith)
-class-inside (e ∷ es) (suc (suc n)) h = let k = class-inside es (suc n) h in let l : suc n ≤ length es = k .1 in (omega arith, omega arith)
-
+-- a class term stands in the table
 pub class-in-table : (table : Table) (t : TermNo) → sortOf (at table t) ≡ Sort.Class → (0 < t) × (t ≤ length table)
-unfolding sortIndex
-class-in-table table t e = class-inside table t (ap (λ s. eqb (sortIndex s) 4) e)
+unfolding result sortIndex
+class-in-table table t e = inside (λ x. sameSort Sort.Class (sortOf x)) refl table t (ap (sameSort Sort.Class) e)
 
 -- THE CLASS TERMS before t
 pub record ClassPart (blocks rows terms : List ℕ) (n t : ℕ) : Type 0 where
@@ -84,9 +78,6 @@ class-none blocks rows terms n C = record {
   done = λ s l m. absurd (omega arith);
   only = λ table E B x y lx ly h. clash h (C .none x y);
 }
-
-packs : (table : Table) (terms : List ℕ) → Entries table terms → (t : TermNo) → Packs (at table t) (getD terms t 0)
-packs table terms E t = record { is = E .packed t; packable = E .packable t }
 
 pub class-more : (blocks old new terms : List ℕ) (n t : ℕ) → IsPartition blocks → t ≤ n → ClassPart blocks old terms n t → RaisedClass blocks old new (getD terms t 0) t
     → ClassPart blocks new terms n (t + 1)
@@ -137,14 +128,14 @@ fill-more blocks old new terms xs n m more r S P R = record {
   told = told-more blocks old new terms xs n m _ S (R .change) (λ table l o. o) (P .told);
 }
 
-pub fill-followed : (blocks old new terms xs : List ℕ) (n m : ℕ) (more : Bool) → IsPartition blocks → FillPart blocks old terms xs n m more → Followed old new → FillPart blocks new terms xs n m true
-fill-followed blocks old new terms xs n m more S P F = record {
+pub fill-composed : (blocks old new terms xs : List ℕ) (n m : ℕ) (more : Bool) → IsPartition blocks → FillPart blocks old terms xs n m more → Composed old new → FillPart blocks new terms xs n m true
+fill-composed blocks old new terms xs n m more S P F = record {
   words = F blocks .words;
   held = tt;
   told = told-more blocks old new terms xs n m _ S (F blocks) (λ table. tt) (P .told);
 }
 
-pub fill-less : (more r : Bool) (old new : List ℕ) → more ≡ true → Less r old new → room 16384 new + one r < room 16384 old + one more
+pub fill-less : (more r : Bool) (old new : List ℕ) → more ≡ true → Less r old new → room 16384 new + oneIf r < room 16384 old + oneIf more
 fill-less true true old new e h = omega arith
 fill-less true false old new e h = let q : room 16384 new ≡ room 16384 old = ap (room 16384) h in omega arith
 fill-less false r old new e h = absurd (false≢true e)

@@ -5,28 +5,18 @@ use mathlib.Core.List.{List}
 use mathlib.Core.Logic.{_⊎_, inl, inr}
 use mathlib.Core.Option.{some}
 use Prim.Native.Nat.{ℕ}
-use native.Mathlib.Omega.{arith}
 use lib.Dec.{eqb}
 use borrow.Author.Tests.{eqb-true, eqb-false}
 use Rattle.tableau.specs.declared.Sort.{Sort}
 use Rattle.tableau.specs.declared.Relation.{Relation}
-use Rattle.tableau.specs.declared.TermNumber.{TermNumber}
 use Rattle.tableau.specs.Terms.{TermNo, Table, Literal, literal, at, sortOf, sortIndex, relationIndex, sameSort, sameRelation}
-use Rattle.tableau.specs.Background.{On}
-use Rattle.tableau.proofs.Bools.{dec, clash, eqb-same, one-true}
+use Rattle.tableau.proofs.Bools.{dec, clash, eqb-same, one-true, or-l, or-r}
 use Rattle.tableau.proofs.Match.{same-sort}
 use Rattle.packing.specs.declared.LiteralView.{LiteralView}
 use Rattle.packing.specs.Packing.{Packs, Small, IsNot, relationOf, literalOf}
 use Rattle.partition.specs.Blocks.{blockOf, IsPartition}
 use Rattle.class_order.specs.Rows as order
-use Rattle.class_order.specs.Rows.{Path, isUnder, Words, Less, Raised, Only, Kept, Extended, Held, HeldIf, RaisedLiteral, Followed, PackedAt, RaisedClass}
-
-or-first : {a : Bool} (b : Bool) → a ≡ true → (a || b) ≡ true
-or-first b e = λ i. e i || b
-
-or-last : (a b : Bool) → b ≡ true → (a || b) ≡ true
-or-last true b e = refl
-or-last false b e = e
+use Rattle.class_order.specs.Rows.{Path, isUnder, Words, Raised, Only, Kept, Extended, HeldIf, RaisedLiteral, Composed, RaisedClass}
 
 -- CHANGES OF ROWS, one after the other
 pub unchanged : (P : Table → List Literal → Type 0) (blocks rows : List ℕ) → Words rows → Extended P blocks rows rows
@@ -45,15 +35,15 @@ module _ (old new : List ℕ) (x y : TermNo) (r : Bool) (R : Raised old new x y 
   raised-kept : Kept old new
   raised-kept v z lv lz h = elim (dec (eqb v x)) [
     | inl p ↦ let e = eqb-true v x p in
-        subst (λ w. isUnder new w z ≡ true) (sym e) (R .row z lz ∙ or-first (isUnder old y z || eqb y z) (subst (λ w. isUnder old w z ≡ true) e h))
+        subst (λ w. isUnder new w z ≡ true) (sym e) (R .row z lz ∙ or-l (isUnder old y z || eqb y z) (subst (λ w. isUnder old w z ≡ true) e h))
     | inr p ↦ R .others v z (eqb-false v x p) lv lz ∙ h
   ]
 
   pub raised-under : isUnder new x y ≡ true
-  raised-under = R .row y ly ∙ or-last (isUnder old x y) (isUnder old y y || eqb y y) (or-last (isUnder old y y) (eqb y y) (eqb-same y))
+  raised-under = R .row y ly ∙ or-r (isUnder old x y) (or-r (isUnder old y y) (eqb-same y))
 
   raised-above : new ≡ old → (z : TermNo) → Small z → isUnder new y z ≡ true → isUnder new x z ≡ true
-  raised-above e z lz h = R .row z lz ∙ or-last (isUnder old x z) (isUnder old y z || eqb y z) (or-first (eqb y z) (subst (λ (l : List ℕ). isUnder l y z ≡ true) e h))
+  raised-above e z lz h = R .row z lz ∙ or-r (isUnder old x z) (or-l (eqb y z) (subst (λ (l : List ℕ). isUnder l y z ≡ true) e h))
 
   raised-only : (table : Table) (B : List Literal) (blocks : List ℕ) → Path table B blocks x y → Only table B blocks old → Only table B blocks new
   raised-only table B blocks p O v z lv lz h = elim (dec (eqb v x)) [
@@ -64,7 +54,7 @@ module _ (old new : List ℕ) (x y : TermNo) (r : Bool) (R : Raised old new x y 
   ]
     where
       beyond : (isUnder old y z ≡ true) ⊎ (eqb y z ≡ true) → Path table B blocks x z
-      beyond (inl k) = order.join p (O y z ly lz k)
+      beyond (inl k) = order.compose p (O y z ly lz k)
       beyond (inr k) = subst (λ w. Path table B blocks x w) (eqb-true y z k) p
 
       go : (isUnder old x z ≡ true) ⊎ (isUnder old y z || eqb y z ≡ true) → Path table B blocks x z
@@ -75,8 +65,8 @@ module _ (old new : List ℕ) (x y : TermNo) (r : Bool) (R : Raised old new x y 
   raised-extended P blocks path = record { words = R .words; kept = raised-kept; only = λ table B p O. raised-only table B blocks (path table B p) O }
 
   -- of a pair that the rows hold already
-  pub raised-followed : isUnder old x y ≡ true → Followed old new
-  raised-followed h blocks = record { words = R .words; kept = raised-kept; only = λ table B p O. raised-only table B blocks (O x y lx ly h) O }
+  pub raised-composed : isUnder old x y ≡ true → Composed old new
+  raised-composed h blocks = record { words = R .words; kept = raised-kept; only = λ table B p O. raised-only table B blocks (O x y lx ly h) O }
 
 -- A LITERAL of another relation, and one of le
 other-relation : (R : Relation) (p : LiteralView) (a b : TermNo) → IsNot R p → literalOf p ≡ literal R a b → ⊥

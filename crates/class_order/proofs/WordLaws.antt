@@ -6,18 +6,17 @@ use mathlib.Core.Logic.{inl, inr, ⊎-elim}
 use Prim.Native.Nat.{ℕ, zero, suc, _+_, _-_, _*_, _/_, _%_, _^_, _<_, _≤_}
 use native.Mathlib.Nat.{eq-or-lt-of-le}
 use native.Mathlib.Omega.{arith}
-use lib.Bits.{bitOr, bitAnd, or-lt, or-add-and, and-le-r}
+use lib.Bits.{bitOr, or-lt, or-add-and, and-le-r}
 use lib.Dec.{eqb}
 use lib.ListN.{length, getD, set, length-set, List·getD-eq-default}
 use lib.Seq.{getD-set-same, getD-set-other, set-getD, set-out}
 use borrow.Author.Tests.{eqb-true, eqb-false, ne-eqb}
-use Rattle.tableau.specs.Terms.{TermNo}
 use Rattle.tableau.proofs.Bools.{dec}
 use Rattle.packing.specs.Packing.{Small}
 use Rattle.mentions.specs.Mentions.{bitAt}
 use Rattle.mentions.proofs.BitLaws.{bit-or, bit-zero}
 use Rattle.partition.proofs.Loops.{up-to, nothing-yet, below-or}
-use Rattle.class_order.specs.Rows.{isUnder, Words, Cleared, room, Less, joinedWord, RaisedWord, Raised}
+use Rattle.class_order.specs.Rows.{isUnder, Words, Cleared, room, Less, unitedWord, RaisedWord, Raised}
 
 -- a word in which the bit of y is not
 pub own-elsewhere : (y i q : ℕ) → (y / 64 ≡ i → ⊥) → q < 64 → bitAt 0 q ≡ eqb y (i * 64 + q)
@@ -59,7 +58,7 @@ words-set rows i w W f = record {
 
 module _ (rows : List ℕ) (to from own : ℕ) (W : Words rows) (lt : to < 16384) (lf : from < 16384) (lo : own < 2 ^ 64) where
   abbrev word : ℕ
-  word = joinedWord rows to from own
+  word = unitedWord rows to from own
 
   word-fits : word < 2 ^ 64
   word-fits = or-lt 64 (getD rows to 0) (bitOr (getD rows from 0) own) (W .fits to) (or-lt 64 (getD rows from 0) own (W .fits from) lo)
@@ -80,14 +79,14 @@ module _ (rows : List ℕ) (to from own : ℕ) (W : Words rows) (lt : to < 16384
   }
 
 -- THE FIRST i WORDS of the row x
-abbrev JoinedBit : List ℕ → List ℕ → ℕ → ℕ → ℕ → Type 0
-JoinedBit old new x y k = (q : ℕ) → q < 64
+abbrev UnitedBit : List ℕ → List ℕ → ℕ → ℕ → ℕ → Type 0
+UnitedBit old new x y k = (q : ℕ) → q < 64
     → bitAt (getD new (x * 16 + k) 0) q ≡ (bitAt (getD old (x * 16 + k) 0) q || (bitAt (getD old (y * 16 + k) 0) q || eqb y (k * 64 + q)))
 
 pub record RaisedPart (old new : List ℕ) (x y i : ℕ) (r : Bool) : Type 0 where
   pub most : i ≤ 16
   pub words : Words new
-  pub done : (k : ℕ) → k < i → JoinedBit old new x y k
+  pub done : (k : ℕ) → k < i → UnitedBit old new x y k
   pub before : (j : ℕ) → j < x * 16 → getD new j 0 ≡ getD old j 0
   pub after : (j : ℕ) → x * 16 + i ≤ j → getD new j 0 ≡ getD old j 0
   pub less : Less r old new
@@ -100,15 +99,15 @@ module _ (old mid new : List ℕ) (x y i own : ℕ) (r s : Bool) (lx : Small x) 
   at-y : getD mid (y * 16 + i) 0 ≡ getD old (y * 16 + i) 0
   at-y = elim (below-or y x) [ inl l ↦ P .before (y * 16 + i) (omega arith) | inr l ↦ P .after (y * 16 + i) (omega arith) ]
 
-  value : getD new (x * 16 + i) 0 ≡ joinedWord old (x * 16 + i) (y * 16 + i) own
+  value : getD new (x * 16 + i) 0 ≡ unitedWord old (x * 16 + i) (y * 16 + i) own
   value = ap (λ (l : List ℕ). getD l (x * 16 + i) 0) (R .is)
-      ∙ getD-set-same mid (x * 16 + i) (joinedWord mid (x * 16 + i) (y * 16 + i) own) 0 (omega (arith, P .words .size))
+      ∙ getD-set-same mid (x * 16 + i) (unitedWord mid (x * 16 + i) (y * 16 + i) own) 0 (omega (arith, P .words .size))
       ∙ (λ k. bitOr (P .after (x * 16 + i) (omega arith) k) (bitOr (at-y k) own))
 
   elsewhere : (j : ℕ) → (j ≡ x * 16 + i → ⊥) → getD new j 0 ≡ getD mid j 0
-  elsewhere j ne = ap (λ (l : List ℕ). getD l j 0) (R .is) ∙ getD-set-other mid (x * 16 + i) j (joinedWord mid (x * 16 + i) (y * 16 + i) own) 0 ne
+  elsewhere j ne = ap (λ (l : List ℕ). getD l j 0) (R .is) ∙ getD-set-other mid (x * 16 + i) j (unitedWord mid (x * 16 + i) (y * 16 + i) own) 0 ne
 
-  here : JoinedBit old new x y i
+  here : UnitedBit old new x y i
   here q m =
       let a = getD old (x * 16 + i) 0 in
       let b = getD old (y * 16 + i) 0 in
@@ -118,7 +117,7 @@ module _ (old mid new : List ℕ) (x y i own : ℕ) (r s : Bool) (lx : Small x) 
   raised-more = record {
     most = omega arith;
     words = R .words;
-    done = up-to (JoinedBit old new x y) i (λ k z q m. ap (λ v. bitAt v q) (elsewhere (x * 16 + k) (omega arith)) ∙ P .done k z q m) here;
+    done = up-to (UnitedBit old new x y) i (λ k z q m. ap (λ v. bitAt v q) (elsewhere (x * 16 + k) (omega arith)) ∙ P .done k z q m) here;
     before = λ j l. elsewhere j (omega arith) ∙ P .before j l;
     after = λ j l. elsewhere j (omega arith) ∙ P .after j (omega arith);
     less = less-then r s old mid new (P .less) (R .less);

@@ -18,7 +18,7 @@ use Rattle.partition.specs.Blocks.{blockOf}
 pub data Path (table : Table) (B : List Literal) (blocks : List ℕ) : TermNo → TermNo → Type 0 where
   edge : {x y : TermNo} (a b : TermNo) → On B (literal Relation.Le a b) → blockOf blocks a ≡ x → blockOf blocks b ≡ y → Path table B blocks x y
   loop : {x : TermNo} (t : TermNo) → sortOf (at table t) ≡ Sort.Class → blockOf blocks t ≡ x → Path table B blocks x x
-  join : {x y z : TermNo} → Path table B blocks x y → Path table B blocks y z → Path table B blocks x z
+  compose : {x y z : TermNo} → Path table B blocks x y → Path table B blocks y z → Path table B blocks x z
 
 -- ROWS: sixteen words for each of 1,024 numbers, bit y of row x
 pub record Words (rows : List ℕ) : Type 0 where
@@ -42,13 +42,13 @@ abbrev pub Less : Bool → List ℕ → List ℕ → Type 0
 Less false old new = new ≡ old
 Less true old new = room 16384 new < room 16384 old
 
--- a word of one row joined to that of another
-abbrev pub joinedWord : List ℕ → ℕ → ℕ → ℕ → ℕ
-joinedWord rows to from own = bitOr (getD rows to 0) (bitOr (getD rows from 0) own)
+-- a word of one row united with that of another
+abbrev pub unitedWord : List ℕ → ℕ → ℕ → ℕ → ℕ
+unitedWord rows to from own = bitOr (getD rows to 0) (bitOr (getD rows from 0) own)
 
 pub record RaisedWord (old new : List ℕ) (to from own : ℕ) (r : Bool) : Type 0 where
   pub words : Words new
-  pub is : new ≡ set old to (joinedWord old to from own)
+  pub is : new ≡ set old to (unitedWord old to from own)
   pub less : Less r old new
 
 -- what is above y, and y, is above x
@@ -100,9 +100,9 @@ pub record Passed (blocks old new : List ℕ) (B : List Literal) (r : Bool) : Ty
   pub less : Less r old new
   pub held : AllHeldIf r blocks new B
 
--- WHAT FOLLOWS FROM THE ROWS alone, whatever the branch and the blocks
-abbrev pub Followed : List ℕ → List ℕ → Type 0
-Followed old new = (blocks : List ℕ) → Extended (λ table B. Unit {0}) blocks old new
+-- NEW BITS COMPOSED OF OLD ONES, whatever the branch and the blocks
+abbrev pub Composed : List ℕ → List ℕ → Type 0
+Composed old new = (blocks : List ℕ) → Extended (λ table B. Unit {0}) blocks old new
 
 -- A CLASS TERM t, whose packed form is p; and all of them
 abbrev pub PackedAt : ℕ → TermNo → Table → List Literal → Type 0

@@ -20,11 +20,12 @@ ghost use Rattle.mentions.specs.Mentions.{bitAt};
 ghost use Rattle.tree.specs.State.{IsBranch, branchOf};
 ghost use Rattle.order_search.specs.Search.{AtMostPairs};
 ghost use Rattle.partition.specs.Blocks.{blockOf, IsPartition};
-ghost use Rattle.class_order.specs.Rows.{isUnder, Words, RaisedWord, Raised, RaisedLiteral, Passed, Followed, RaisedClass, Cleared, Reflexive, Filled};
+ghost use Rattle.class_order.specs.Rows.{isUnder, Words, RaisedWord, Raised, RaisedLiteral, Passed, Composed, RaisedClass, Cleared, Reflexive, Filled};
 
 // The words of a row: a bit for each number.
 const ROW: usize = 16;
 
+// All rows: ROW words for each of NUMBERS numbers.
 pub const WORDS: usize = 16384;
 
 // Is block x under block y?
@@ -60,7 +61,7 @@ fn own_word(y: usize, i: usize) -> u64
     0
 }
 
-// Joins the word `from`, and the bits `own`, to the word `to`, and says whether that is new.
+// Unites the word `to` with the word `from` and the bits `own`, and says whether that is new.
 fn raise_word(rows: &mut [u64; WORDS], to: usize, from: usize, own: u64) -> bool
     requires { ⌜ Words (now rows) × (to < 16384) × (from < 16384) × (own < 2 ^ 64) ⌝ }
     ensures { λ r. ⌜ RaisedWord (now (rows .entry)) (now (rows .exit)) to from own r ⌝ }
@@ -125,7 +126,7 @@ fn pass(
 // What is above y is above x, for a pair x, y of which the rows say that x is under y.
 fn raise_pair(rows: &mut [u64; WORDS], pair: u32)
     requires { ⌜ Words (now rows) ⌝ }
-    ensures { λ _. ⌜ Followed (now (rows .entry)) (now (rows .exit)) ⌝ }
+    ensures { λ _. ⌜ Composed (now (rows .entry)) (now (rows .exit)) ⌝ }
 {
     let x = (pair / 1024 % 1024) as usize;
     let y = (pair % 1024) as usize;
@@ -134,9 +135,9 @@ fn raise_pair(rows: &mut [u64; WORDS], pair: u32)
     }
 }
 
-fn follow(rows: &mut [u64; WORDS], pairs: &[u32; PAIRS], count: usize)
+fn raise_pairs(rows: &mut [u64; WORDS], pairs: &[u32; PAIRS], count: usize)
     requires { ⌜ Words (now rows) × AtMostPairs count ⌝ }
-    ensures { λ _. ⌜ Followed (now (rows .entry)) (now (rows .exit)) ⌝ }
+    ensures { λ _. ⌜ Composed (now (rows .entry)) (now (rows .exit)) ⌝ }
 {
     let mut i = 0;
     while i < count {
@@ -145,7 +146,7 @@ fn follow(rows: &mut [u64; WORDS], pairs: &[u32; PAIRS], count: usize)
     }
 }
 
-// Follows the pairs of a search, after which a pass has nothing left to do, in whatever order the literals stand.
+// Raises the pairs of a search. As a rule a pass then finds nothing new, in whatever order the literals stand; the result does not depend on it.
 fn hasten(
     blocks: &[u16; NUMBERS],
     rows: &mut [u64; WORDS],
@@ -153,11 +154,11 @@ fn hasten(
     len: usize,
 )
     requires { ⌜ Words (now rows) × IsBranch (now branch) len ⌝ }
-    ensures { λ _. ⌜ Followed (now (rows .entry)) (now (rows .exit)) ⌝ }
+    ensures { λ _. ⌜ Composed (now (rows .entry)) (now (rows .exit)) ⌝ }
 {
     let mut pairs = [0; PAIRS];
     let count = plan(blocks, branch, len, &mut pairs);
-    follow(rows, &pairs, count);
+    raise_pairs(rows, &pairs, count);
 }
 
 fn clear(rows: &mut [u64; WORDS])

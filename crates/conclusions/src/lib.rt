@@ -19,7 +19,7 @@ ghost use Rattle.syntax.specs.declared.ThirdField.{ThirdField as Third};
 ghost use Rattle.packing.specs.Packing.{SmallLiteral};
 ghost use Rattle.conclusions.specs.Infers.{Given, Infers};
 
-// The rules whose t is a term; `rep`, `cla` and `bck` do not come here, and are refused.
+// The rules whose t is a term; `rep` and `cla` do not come here, and are refused. Nor is `bck` asked here: the answer to it is that of a branch which nothing contradicts.
 fn by_rule(
     rule: Rule,
     p: LiteralView,
@@ -70,7 +70,7 @@ fn by_rule(
     }
 }
 
-// Every rule but `cla` and `bck`, which do not come here either.
+// Every rule but `cla`, which does not come here either, and `bck`, as above.
 pub fn conclude(
     rule: Rule,
     p: LiteralView,

@@ -8,21 +8,19 @@ use native.Mathlib.Numerals.{add-one}
 use native.Mathlib.Omega.{arith}
 use lib.ListN.{length, getD, set, length-set}
 use lib.Seq.{getD-set-same, getD-set-other}
-use Rattle.tableau.specs.declared.Relation.{Relation}
-use Rattle.tableau.specs.Basics.{Four, mapFour}
-use Rattle.tableau.specs.Terms.{TermNo, Table, Literal, maxTerms}
-use Rattle.tableau.specs.Background.{Follows}
+use Rattle.tableau.specs.Basics.{mapFour}
+use Rattle.tableau.specs.Terms.{Table, Literal, maxTerms}
 use Rattle.tableau.proofs.Bools.{clash}
 use Rattle.packing.specs.Packing.{Packs, takesArguments, fieldsIn}
 use Rattle.packing.proofs.CongruenceLaws.{same-low, low-takes}
-use Rattle.table.specs.declared.Found.{Found}
-use Rattle.table.specs.Held.{Entries, Chains, Absent, Sought, hashes, hashOf}
+use Rattle.table.specs.Held.{Entries, Chains, Absent, hashes, hashOf}
 use Rattle.table.proofs.ChainLaws.{chains-more}
+use Rattle.table.proofs.EntryLaws.{packs}
 use Rattle.partition.specs.Blocks.{blockOf, IsPartition, Sound, Fewer, Coarsened, Joined}
 use Rattle.partition.proofs.Loops.{up-to}
-use Rattle.partition.proofs.JoinLaws.{unchanged, changed-then}
-use Rattle.congruence.specs.Signatures.{signatureOf, signOf, Earlier, MetIf, SignedFollow, JoinedSigned, Congruent, CongruentIf, JoinedAlike, JoinedSome}
-use Rattle.congruence.proofs.SignatureLaws.{sign-low, sign-takes, sign-fields, AllFollow, blocks-follow, both-follow, packs, alike-follow, applied-in}
+use Rattle.partition.proofs.JoinLaws.{unchanged, fewer-then, changed-then}
+use Rattle.congruence.specs.Signatures.{signatureOf, signOf, Earlier, MetIf, SignedFollow, JoinedSigned, CongruentIf, JoinedAlike, JoinedSome}
+use Rattle.congruence.proofs.SignatureLaws.{sign-low, sign-takes, sign-fields, AllFollow, blocks-follow, both-follow, alike-follow, applied-in}
 
 -- ONE TERM
 module _ (blocks signatures : List ℕ) (m x s t : ℕ) (S : IsPartition blocks) where
@@ -71,7 +69,7 @@ pub record Part (old blocks terms signatures chains : List ℕ) (n m : ℕ) (r :
   pub chained : Chains signatures chains m
   pub low : (j : ℕ) → 0 < j → j ≤ m → getD signatures j 0 % 256 ≡ getD terms j 0 % 256
   pub compared : ComparedIf r blocks terms signatures m
-  pub change : Coarsened (λ table B. Entries table terms) old blocks r
+  pub change : JoinedSome terms old blocks r
   pub signed : (table : Table) (B : List Literal) → Entries table terms → Sound table B old → SignedSoundly table B terms signatures m
 
 pub part-none : (blocks terms signatures chains : List ℕ) (n : ℕ) → IsPartition blocks → length signatures ≡ 1024 → Chains signatures chains 0
@@ -174,7 +172,7 @@ module _ (old blocks new terms signatures chains : List ℕ) (n m : ℕ) (r b : 
     change = record {
       partition = J .change .partition;
       coarser = λ x y lx ly e. J .change .coarser x y lx ly (P .change .coarser x y lx ly e);
-      fewer = changed-then _ _ (λ table B. ⊥) old blocks new r b (P .change) (J .change) (λ table B z _. absurd z) (λ table B z _. absurd z) .fewer;
+      fewer = fewer-then r b old blocks new (P .change .fewer) (J .change .fewer);
       sound = λ table B E C. let D = P .change .sound table B E C in J .change .sound table B (met-follows table B E D (P .signed table B E C)) D;
     };
     signed = signed-more;

@@ -1,21 +1,23 @@
 -- What two terms with one signature have in common.
 use mathlib.Core.Path.{_≡_, refl, sym, _∙_, ap, subst}
-use mathlib.Core.Bool.{Bool, true, false, cond, false≢true}
-use mathlib.Core.List.{List, [], _∷_}
-use Prim.Native.Nat.{ℕ, zero, suc, _/_, _%_, _<_, _≤_}
+use mathlib.Core.Bool.{Bool, true, false, cond}
+use mathlib.Core.List.{List}
+use Prim.Native.Nat.{ℕ, _/_, _%_, _<_, _≤_}
 use native.Mathlib.Omega.{arith}
 use lib.ListN.{length, getD}
 use Rattle.tableau.specs.declared.Operator.{Operator}
 use Rattle.tableau.specs.declared.Relation.{Relation}
 use Rattle.tableau.specs.Basics.{Four, four, mapFour}
 use Rattle.tableau.specs.Fields.{arguments}
-use Rattle.tableau.specs.Terms.{TermNo, Table, apply, Literal, at}
+use Rattle.tableau.specs.Terms.{TermNo, Table, Term, variable, apply, Literal, at}
 use Rattle.tableau.specs.Steps.{takesTerms}
 use Rattle.tableau.specs.Background as background
 use Rattle.tableau.specs.Background.{Follows}
 use Rattle.packing.specs.Packing.{Packs, AllSmall, takesArguments, fieldsIn}
 use Rattle.packing.proofs.CongruenceLaws.{applied, applied-fields, one-operator, low-takes}
+use Rattle.tableau.proofs.TableGrowth.{inside}
 use Rattle.table.specs.Held.{Entries}
+use Rattle.table.proofs.EntryLaws.{packs}
 use Rattle.partition.specs.Blocks.{blockOf, IsPartition, Sound}
 use Rattle.congruence.specs.Signatures.{signatureOf, signOf}
 
@@ -70,29 +72,22 @@ both-follow table B k l m S T = record {
   d = background.trn (S .d) (background.sym (T .d));
 }
 
--- an operator's term, whose word takes terms, is not `nul`, which numbers outside the table are read as
-inside : (table : Table) (t : TermNo) (o : Operator) (k : Four TermNo) → at table t ≡ apply o k → takesTerms o ≡ true → (0 < t) × (t ≤ length table)
-unfolding takesTerms arguments
-inside [] t o k e h = let q : Operator.Nul ≡ o = cc in absurd (false≢true (ap takesTerms q ∙ h))
-inside (x ∷ es) zero o k e h = let q : Operator.Nul ≡ o = cc in absurd (false≢true (ap takesTerms q ∙ h))
-inside (x ∷ es) (suc zero) o k e h = (omega arith, omega arith)
-inside (x ∷ es) (suc (suc n)) o k e h = let i = inside es (suc n) o k e h in let l : suc n ≤ length es = i .1 in (omega arith, omega arith)
+takes : Term → Bool
+takes (variable s n) = false
+takes (apply o k) = takesTerms o
 
 -- WHAT THE PACKED TERMS SAY of the table
 module _ (table : Table) (terms : List ℕ) (E : Entries table terms) where
   abbrev packed : TermNo → ℕ
   packed t = getD terms t 0
 
-  pub packs : (t : TermNo) → Packs (at table t) (packed t)
-  packs t = record { is = E .packed t; packable = E .packable t }
-
   -- terms of one word whose arguments follow to be equal
   pub alike-follow : (B : List Literal) (t w : TermNo) → takesArguments (packed t) ≡ true → packed t % 256 ≡ packed w % 256
       → AllFollow table B (fieldsIn (packed t)) (fieldsIn (packed w)) → Follows table B Relation.Eq t w
   alike-follow B t w h low S =
-      let x = applied (at table t) (packed t) (packs t) h in
-      let y = applied (at table w) (packed w) (packs w) (sym (low-takes (packed t) (packed w) low) ∙ h) in
-      let same : x .0 ≡ y .0 = one-operator (x .0) (y .0) _ _ (packed t) (packed w) (subst (λ e. Packs e (packed t)) (x .1) (packs t)) (subst (λ e. Packs e (packed w)) (y .1) (packs w)) low in
+      let x = applied (at table t) (packed t) (packs table terms E t) h in
+      let y = applied (at table w) (packed w) (packs table terms E w) (sym (low-takes (packed t) (packed w) low) ∙ h) in
+      let same : x .0 ≡ y .0 = one-operator (x .0) (y .0) _ _ (packed t) (packed w) (subst (λ e. Packs e (packed t)) (x .1) (packs table terms E t)) (subst (λ e. Packs e (packed w)) (y .1) (packs table terms E w)) low in
       background.sub (x .1) (y .1 ∙ ap (λ (o : Operator). apply o (fieldsIn (packed w))) (sym same)) (x .2) (S .a) (S .b) (S .c) (S .d)
 
   -- terms of one signature
@@ -109,6 +104,7 @@ module _ (table : Table) (terms : List ℕ) (E : Entries table terms) where
   -- such a term stands in the table
   pub applied-in : (t : TermNo) (o : Operator) (k : Four TermNo) → at table t ≡ apply o k → takesTerms o ≡ true
       → (0 < t) × (t ≤ length table) × (takesArguments (packed t) ≡ true) × (fieldsIn (packed t) ≡ k)
+  unfolding takes takesTerms arguments
   applied-in t o k e h =
-      let f = applied-fields o k (packed t) (subst (λ x. Packs x (packed t)) e (packs t)) h in
-      let i = inside table t o k e h in (i .0, i .1, f .0, f .1)
+      let f = applied-fields o k (packed t) (subst (λ x. Packs x (packed t)) e (packs table terms E t)) h in
+      let i = inside takes refl table t (ap takes e ∙ h) in (i .0, i .1, f .0, f .1)

@@ -7,12 +7,12 @@ use Prim.Native.Nat.{ℕ, suc, _<_, _≤_}
 use lib.ListN.{length, getD}
 use Rattle.tableau.specs.declared.Operator.{Operator}
 use Rattle.tableau.specs.declared.Relation.{Relation}
-use Rattle.tableau.specs.Basics.{Four, four, mapFour}
+use Rattle.tableau.specs.Basics.{Four, mapFour}
 use Rattle.tableau.specs.Terms.{TermNo, Table, apply, Literal, at}
 use Rattle.tableau.specs.Steps.{takesTerms}
 use Rattle.tableau.specs.Background.{Follows}
 use Rattle.packing.specs.Packing.{takesArguments, fieldsIn, withFields}
-use Rattle.table.specs.Held.{Entries, Chains, Absent}
+use Rattle.table.specs.Held.{Entries, Absent}
 use Rattle.partition.specs.Blocks.{blockOf, Coarsened}
 
 -- THE SIGNATURE of a packed term: the block of each argument in the argument's place
@@ -52,5 +52,5 @@ CongruentIf false blocks terms n = (table : Table) → Entries table terms → l
 CongruentIf true blocks terms n = Unit {0}
 
 pub record JoinedAlike (old new terms : List ℕ) (n : ℕ) (r : Bool) : Type 0 where
-  pub change : Coarsened (λ table B. Entries table terms) old new r
+  pub change : JoinedSome terms old new r
   pub congruent-if : CongruentIf r new terms n

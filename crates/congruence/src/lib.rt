@@ -59,7 +59,7 @@ fn sign(blocks: &[u16; NUMBERS], packed: u64) -> u64
     packed
 }
 
-// Joins the block of the term t, whose packed form and signature are given, with that of a term before it that has its signature. Says whether they were two.
+// Joins the block of the term t, whose packed form and signature are given, with that of a term before it that has its signature. Says whether they were apart.
 fn join_signed(
     blocks: &mut [u16; NUMBERS],
     signatures: &[u64; NUMBERS],
@@ -83,7 +83,7 @@ fn join_signed(
     join(blocks, t, earlier)
 }
 
-// Joins the blocks of terms with one signature, and says whether any were two. A joining counts at once for the terms behind it.
+// Joins the blocks of terms with one signature, and says whether any were apart. A joining counts at once for the terms behind it.
 fn join_alike(blocks: &mut [u16; NUMBERS], terms: &[u64; NUMBERS], n: usize) -> bool
     requires { ⌜ IsPartition (now blocks) × (n ≤ maxTerms) ⌝ }
     ensures { λ r. ⌜ JoinedAlike (now (blocks .entry)) (now (blocks .exit)) (now (terms .entry)) n r ⌝ }
@@ -121,7 +121,7 @@ fn join_pair(blocks: &mut [u16; NUMBERS], terms: &[u64; NUMBERS], pair: u32) -> 
     join(blocks, t, w)
 }
 
-fn follow(
+fn join_pairs(
     blocks: &mut [u16; NUMBERS],
     terms: &[u64; NUMBERS],
     pairs: &[u32; PAIRS],
@@ -140,17 +140,18 @@ fn follow(
     changed
 }
 
-// Joins the terms that a search finds, after which `join_alike` has nothing left to do, in whatever order the terms stand. Says whether any were apart.
+// Joins the terms that a search finds, and says whether any were apart. As a rule that is all of them, in whatever order the terms stand, and `join_alike` then finds none; the result does not depend on it.
 fn hasten(blocks: &mut [u16; NUMBERS], terms: &[u64; NUMBERS], n: usize) -> bool
     requires { ⌜ IsPartition (now blocks) × (n ≤ maxTerms) ⌝ }
     ensures { λ r. ⌜ JoinedSome (now (terms .entry)) (now (blocks .entry)) (now (blocks .exit)) r ⌝ }
 {
     let mut pairs = [0; PAIRS];
     let count = plan(&*blocks, terms, n, &mut pairs);
-    follow(blocks, terms, &pairs, count)
+    join_pairs(blocks, terms, &pairs, count)
 }
 
-// The same as `join_alike`; where `again` is set, and some were two, a search goes on from there, so that one time more is enough.
+// Joins terms that have one signature, and says whether any were apart. Where none were, terms with one word and arguments of the same blocks are in one block. Where some were, it is left open which are joined:
+// with `again`, a search goes on from there.
 pub fn join_congruent(
     blocks: &mut [u16; NUMBERS],
     terms: &[u64; NUMBERS],

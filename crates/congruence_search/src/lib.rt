@@ -15,10 +15,11 @@ ghost use Rattle.syntax.specs.Syntax.{argumentsIn};
 ghost use Rattle.packing.specs.Packing.{Small, AllSmall};
 ghost use Rattle.congruence_search.specs.Search.{Within, AtMostPairs};
 
-// No more terms than there are can be joined.
+// No more terms than there are can be joined. A pair x, y is the number x * NUMBERS + y.
 pub const PAIRS: usize = 1024;
 
-// Arrays in one: seven of NUMBERS cells, then three of LONG. A number past the end is cut, so that no index needs a proof.
+// Arrays in one: seven of NUMBERS cells, then three of LONG. Numbers are cut to LONG, so that no index passes the end of all; callers cut
+// to NUMBERS for the seven short ones.
 const CELLS: usize = 19456;
 
 const LONG: usize = 4096;

@@ -3,7 +3,7 @@ use Prim.Native.Nat.{ℕ, _≤_}
 use Rattle.order_search.specs.declared.Search.{Search}
 
 abbrev pub AtMostPairs : ℕ → Type 0
-AtMostPairs n = n ≤ 4096
+AtMostPairs n = n ≤ 2048
 
 pub record Within (s : Search) : Type 0 where
   pub depth : s .depth ≤ 1024

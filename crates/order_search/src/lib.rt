@@ -1,4 +1,4 @@
-// In which order to raise the blocks of le literals, so that one pass is enough: a depth-first search for the strongly connected components of the le literals' blocks (Tarjan). A pair x, y says: what
+// In which order to raise the blocks of le literals, so that as a rule one pass is enough: a depth-first search for the strongly connected components of the le literals' blocks (Tarjan). A pair x, y says: what
 // is above y is above x. A component's pairs come after those of the components above it; the last ones lead from each of its blocks to one that was found earlier.
 //
 // Nothing is promised of the pairs but their number: whoever follows them takes a pair only where the rows already say that it holds, so that a search that errs costs time and nothing else.
@@ -13,8 +13,11 @@ ghost use Rattle.packing.specs.Packing.{Small};
 ghost use Rattle.tree.specs.State.{IsBranch};
 ghost use Rattle.order_search.specs.Search.{Within, AtMostPairs};
 
-// Room for a pair from each literal, and one from each block.
-pub const PAIRS: usize = 4096;
+// Room for a pair from each literal, and one from each block. A pair x, y is the number x * NUMBERS + y.
+pub const PAIRS: usize = 2048;
+
+// Each step takes a literal or a block off, so that these are enough.
+const STEPS: usize = 4096;
 
 // Six arrays in one, each of NUMBERS cells; a number past the end of one is cut, so that no index needs a proof.
 const CELLS: usize = 6144;
@@ -141,7 +144,7 @@ fn note(pairs: &mut [u32; PAIRS], s: Search, x: usize, y: usize) -> Search
 }
 
 // A literal from x to y, where the search stands at x.
-fn follow_edge(
+fn traverse(
     cells: &mut [u16; CELLS],
     pairs: &mut [u32; PAIRS],
     s: Search,
@@ -264,10 +267,10 @@ fn step(
         blocks,
         packing::literals::packed_right(branch[(e - 1) % Tree::PLACES]),
     );
-    follow_edge(cells, pairs, s, x, y)
+    traverse(cells, pairs, s, x, y)
 }
 
-// The search from one block. Each step takes a literal or a block off, so that these are enough.
+// The search from one block.
 fn search_from(
     blocks: &[u16; NUMBERS],
     branch: &[u32; Tree::PLACES],
@@ -280,7 +283,7 @@ fn search_from(
     ensures { λ r. ⌜ Within r ⌝ }
 {
     let mut t = enter(cells, s, x);
-    let mut left = PAIRS;
+    let mut left = STEPS;
     while 0 < left {
         if t.depth == 0 {
             return t;

@@ -1,5 +1,5 @@
 -- The loops over the array of blocks.
-use mathlib.Core.Path.{_≡_, refl, sym, _∙_, ap}
+use mathlib.Core.Path.{_≡_, refl, _∙_, ap}
 use mathlib.Core.List.{List}
 use mathlib.Core.Logic.{inl, inr}
 use Prim.Native.Nat.{ℕ, _+_, _<_, _≤_}
@@ -7,7 +7,7 @@ use native.Mathlib.Omega.{arith}
 use lib.ListN.{length, getD, set, length-set, List·getD-eq-default}
 use lib.Seq.{getD-set-same, getD-set-other}
 use Rattle.tableau.specs.Terms.{TermNo}
-use Rattle.partition.specs.Blocks.{blockOf, IsPartition, renamedAs, Renamed, Singletons}
+use Rattle.partition.specs.Blocks.{blockOf, renamedAs, Renamed, Singletons}
 use Rattle.partition.proofs.Loops.{up-to, nothing-yet, below-or}
 
 -- the first i entries renamed

@@ -6,7 +6,7 @@ use mathlib.Core.Logic.{_⊎_, inl, inr}
 use Prim.Native.Nat.{ℕ, zero, suc, _+_, _<_, _≤_}
 use native.Mathlib.Omega.{arith}
 use lib.Dec.{eqb}
-use lib.ListN.{length, getD, List·getD-eq-default}
+use lib.ListN.{List·getD-eq-default}
 use borrow.Author.Tests.{eqb-true, eqb-false, eq-eqb, ne-eqb}
 use Rattle.tableau.specs.declared.Relation.{Relation}
 use Rattle.tableau.specs.Terms.{TermNo, Table, Literal}
@@ -14,7 +14,7 @@ use Rattle.tableau.specs.Background as background
 use Rattle.tableau.specs.Background.{Follows}
 use Rattle.tableau.proofs.Bools.{dec, clash}
 use Rattle.packing.specs.Packing.{Small}
-use Rattle.partition.specs.Blocks.{blockOf, IsPartition, renamedAs, Renamed, Sound, Coarser, one, roots, Fewer, Coarsened, Joined}
+use Rattle.partition.specs.Blocks.{blockOf, IsPartition, renamedAs, Renamed, Sound, oneIf, roots, Fewer, Coarsened, Joined}
 use Rattle.partition.proofs.Loops.{below-or}
 
 renamed-from : (x from to : ℕ) → x ≡ from → renamedAs x from to ≡ to
@@ -38,7 +38,7 @@ roots-le zero old new h = omega arith
 roots-le (suc n) old new h = go (roots-le n old new (λ x l. h x (omega arith))) (dec (eqb (blockOf new n) n)) (dec (eqb (blockOf old n) n))
   where
     go : roots n new ≤ roots n old → (eqb (blockOf new n) n ≡ true) ⊎ (eqb (blockOf new n) n ≡ false)
-        → (eqb (blockOf old n) n ≡ true) ⊎ (eqb (blockOf old n) n ≡ false) → one (eqb (blockOf new n) n) + roots n new ≤ one (eqb (blockOf old n) n) + roots n old
+        → (eqb (blockOf old n) n ≡ true) ⊎ (eqb (blockOf old n) n ≡ false) → oneIf (eqb (blockOf new n) n) + roots n new ≤ oneIf (eqb (blockOf old n) n) + roots n old
     go ih (inl p) (inl q) = rw (p, q) (omega arith)
     go ih (inr p) (inl q) = rw (p, q) (omega arith)
     go ih (inr p) (inr q) = rw (p, q) (omega arith)
@@ -57,7 +57,7 @@ roots-lt (suc n) old new h z l e ne =
 
     go : (z < n → blockOf old z ≡ z → (blockOf new z ≡ z → ⊥) → roots n new < roots n old) → roots n new ≤ roots n old
         → (eqb (blockOf new n) n ≡ true) ⊎ (eqb (blockOf new n) n ≡ false) → (eqb (blockOf old n) n ≡ true) ⊎ (eqb (blockOf old n) n ≡ false)
-        → (eqb z n ≡ true) ⊎ (eqb z n ≡ false) → one (eqb (blockOf new n) n) + roots n new < one (eqb (blockOf old n) n) + roots n old
+        → (eqb z n ≡ true) ⊎ (eqb z n ≡ false) → oneIf (eqb (blockOf new n) n) + roots n new < oneIf (eqb (blockOf old n) n) + roots n old
     go ih le (inl p) q (inl s) = absurd (ne (subst (λ v. blockOf new v ≡ v) (sym (eqb-true z n s)) (eqb-true (blockOf new n) n p)))
     go ih le (inr p) (inr q) (inl s) = clash (eq-eqb (blockOf old n) n (subst (λ v. blockOf old v ≡ v) (eqb-true z n s) e)) q
     go ih le (inr p) (inl q) (inl s) = rw (p, q) (omega arith)
@@ -126,7 +126,7 @@ unchanged P blocks S = record { partition = S; coarser = λ x y lx ly h. h; fewe
 pub joined-already : (blocks : List ℕ) (a b : TermNo) → IsPartition blocks → blockOf blocks a ≡ blockOf blocks b → Joined blocks blocks a b false
 joined-already blocks a b S e = record { change = unchanged _ blocks S; together = e }
 
-fewer-then : (r s : Bool) (old mid new : List ℕ) → Fewer r old mid → Fewer s mid new → Fewer (r || s) old new
+pub fewer-then : (r s : Bool) (old mid new : List ℕ) → Fewer r old mid → Fewer s mid new → Fewer (r || s) old new
 fewer-then true true old mid new p q = omega arith
 fewer-then true false old mid new p q = subst (λ v. roots 1024 v < roots 1024 old) (sym q) p
 fewer-then false s old mid new p q = subst (λ v. Fewer s v new) p q

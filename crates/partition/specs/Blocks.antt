@@ -32,7 +32,7 @@ pub record Renamed (old new : List ℕ) (from to : ℕ) : Type 0 where
   pub size : length new ≡ length old
   pub each : (x : TermNo) → x < length old → blockOf new x ≡ renamedAs (blockOf old x) from to
 
--- WHAT IS IN ONE BLOCK FOLLOWS TO BE EQUAL
+-- THAT NUMBERS OF ONE BLOCK ARE EQUAL FOLLOWS
 abbrev pub Sound : Table → List Literal → List ℕ → Type 0
 Sound table B blocks = (x : TermNo) → Small x → Follows table B Relation.Eq x (blockOf blocks x)
 
@@ -40,20 +40,20 @@ Sound table B blocks = (x : TermNo) → Small x → Follows table B Relation.Eq 
 abbrev pub Coarser : List ℕ → List ℕ → Type 0
 Coarser old new = (x y : TermNo) → Small x → Small y → blockOf old x ≡ blockOf old y → blockOf new x ≡ blockOf new y
 
--- how many of the numbers below n stand for a block: one fewer after each joining
-abbrev pub one : Bool → ℕ
-one true = 1
-one false = 0
+abbrev pub oneIf : Bool → ℕ
+oneIf true = 1
+oneIf false = 0
 
+-- how many of the numbers below n stand for a block: fewer after each joining
 unfoldable pub roots : ℕ → List ℕ → ℕ
 roots zero blocks = 0
-roots (suc n) blocks = one (eqb (blockOf blocks n) n) + roots n blocks
+roots (suc n) blocks = oneIf (eqb (blockOf blocks n) n) + roots n blocks
 
 abbrev pub Fewer : Bool → List ℕ → List ℕ → Type 0
 Fewer false old new = new ≡ old
 Fewer true old new = roots 1024 new < roots 1024 old
 
--- HOW BLOCKS CHANGE, where P has to follow for the change to be sound; r says whether any were joined
+-- HOW BLOCKS CHANGE: P is what must hold for the change to be sound; r says whether any were joined
 pub record Coarsened (P : Table → List Literal → Type 0) (old new : List ℕ) (r : Bool) : Type 0 where
   pub partition : IsPartition new
   pub coarser : Coarser old new

@@ -1,5 +1,5 @@
 // A partition of the numbers below 1,024 into blocks, in an array that the caller lends: blocks[x] is the number that stands for the block of x. Two numbers are in one block where their entries
-// are equal. Terms that follow to be equal are put into one block.
+// are equal. Terms are put into one block where it follows that they are equal.
 use table::NUMBERS;
 use tableau::TermNumber;
 ghost use mathlib.Core.Path.{_≡_};
@@ -40,7 +40,7 @@ fn merge(blocks: &mut [u16; NUMBERS], from: u16, to: u16)
     }
 }
 
-// Joins the blocks of a and b, and says whether they were two.
+// Joins the blocks of a and b, and says whether they were apart. Which number stands for the joined block is left open.
 pub fn join(blocks: &mut [u16; NUMBERS], a: usize, b: usize) -> bool
     requires { ⌜ IsPartition (now blocks) × Small a × Small b ⌝ }
     ensures { λ r. ⌜ Joined (now (blocks .entry)) (now (blocks .exit)) a b r ⌝ }
@@ -64,7 +64,7 @@ pub fn together(blocks: &[u16; NUMBERS], a: TermNumber, b: TermNumber) -> bool
     blocks[left] == blocks[right]
 }
 
-// Whether either of two changes has joined any.
+// Whether either of two changes was one.
 pub fn either(a: bool, b: bool) -> bool
     ensures { λ r. ⌜ r ≡ (a || b) ⌝ }
 {

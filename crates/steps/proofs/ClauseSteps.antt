@@ -51,7 +51,7 @@ module _ (table : Table) (P Q : Option Literal) (t w : ℕ) (D : List Literal) (
   same-conclusion disjunction h = clash refl h
   same-conclusion background h = clash refl h
 
--- of `cla` field t is a clause's number
+-- a rule that is neither `cla`, whose t is a clause's number, nor `bck`
 pub no-clause-asked : (table : Table) (fresh : Freshness) (P Q : Option Literal) (D : List Literal) (E : Bool) (t w : ℕ) (x : Rule) → kindOf (ruleFields x .t) < 2 → isBackground x ≡ false
     → answer table fresh P Q D E t w x ≡ answer table fresh P Q [] false t w x
 unfolding answer rules ruleNames ruleFields rule

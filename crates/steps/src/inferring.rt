@@ -58,7 +58,7 @@ fn is_background(rule: Rule) -> bool
     }
 }
 
-// `bck`: check 12, where n terms are made. It uses no field, and meets no other.
+// `bck`: check 12, over a table of n terms. It uses no field, so that no other check can fail.
 fn by_background(
     branch: &[u32; Tree::PLACES],
     len: usize,

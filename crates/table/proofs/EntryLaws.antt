@@ -37,6 +37,10 @@ module _ (table : Table) (terms chains : List ℕ) (S : Searchable table terms c
   found-number (Found.At t) h = here (t .0) (h .0) (h .1) (h .2)
   found-number Found.Nothing h = nowhere h
 
+-- each entry is its term's packed form
+pub packs : (table : Table) (terms : List ℕ) → Entries table terms → (t : TermNo) → Packs (at table t) (getD terms t 0)
+packs table terms E t = record { is = E .packed t; packable = E .packable t }
+
 -- what a search finds is small
 pub found-small : (table : Table) (terms : List ℕ) → Entries table terms → (e : Term) → SmallFound (foundOf (numberOf table e))
 found-small table terms E e = go (numberOf table e) refl

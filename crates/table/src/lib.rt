@@ -110,7 +110,7 @@ fn scan(terms: &[u64; NUMBERS], last: usize, packed: u64) -> Found
     scan_from(terms, t, last, packed)
 }
 
-// A number with the given entry, if the chains lead to one. The entries may be packed terms or anything else.
+// A chained number with the given entry, or that there is none; where several have it, it is left open which. The entries are packed terms, or signatures of terms.
 pub fn seek(terms: &[u64; NUMBERS], chains: &[u16; LINKS], packed: u64) -> Found
     requires { ⌜ ((n : ℕ) × Chains (now terms) (now chains) n × (n ≤ maxTerms)) ⌝ }
     ensures { λ r. ⌜ ((n : ℕ) → Chains (now (terms .entry)) (now (chains .entry)) n → Sought (now (terms .entry)) n packed r) ⌝ }

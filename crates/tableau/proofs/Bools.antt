@@ -83,6 +83,13 @@ pub one-true : (a b : Bool) → a || b ≡ true → (a ≡ true) ⊎ (b ≡ true
 one-true true b e = inl refl
 one-true false b e = inr e
 
+pub or-l : {a : Bool} (b : Bool) → a ≡ true → a || b ≡ true
+or-l {a} b p = λ i. p i || b
+
+pub or-r : (a : Bool) {b : Bool} → b ≡ true → a || b ≡ true
+or-r true e = refl
+or-r false e = e
+
 pub every-true : {A B : Type 0} (f : A → B → Bool) (x : Four A) (y : Four B) → every f x y ≡ true
     → (f (x .a) (y .a) ≡ true) × (f (x .b) (y .b) ≡ true) × (f (x .c) (y .c) ≡ true) × (f (x .d) (y .d) ≡ true)
 every-true f x y h =

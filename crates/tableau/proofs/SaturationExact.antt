@@ -21,17 +21,11 @@ use Rattle.tableau.specs.Background as background
 use Rattle.tableau.specs.Background.{On, Follows, Contradicted, by-ne, by-nl}
 use Rattle.tableau.specs.Claims.{ExactlyContradicted}
 use Rattle.tableau.specs.Saturation.{has, someBelow, bound, equal, below, alike, between, oneStep, behind, pick, next, withRight, allBelow, saturate, universe, closure, denies, anyDenies, contradicted}
-use Rattle.tableau.proofs.Bools.{dec, clash, both-true, both-i, one-true, every-true, eqb-same, none≢some, some-inj}
+use Rattle.tableau.proofs.Bools.{dec, clash, both-true, both-i, one-true, or-l, or-r, every-true, eqb-same, none≢some, some-inj}
+use Rattle.tableau.proofs.TableGrowth.{inside}
 use Rattle.tableau.proofs.Match.{same-operator, same-relation, same-sort}
 
-or-l : {a : Bool} (b : Bool) → a ≡ true → a || b ≡ true
-or-l {a} b p = λ i. p i || b
-
-or-r : (a : Bool) {b : Bool} → b ≡ true → a || b ≡ true
-or-r true e = refl
-or-r false e = e
-
--- one of two, of five
+-- what follows from each of two tests, or of five, follows from their or
 either : {P : Type 0} (a b : Bool) → a || b ≡ true → (a ≡ true → P) → (b ≡ true → P) → P
 either true b h f g = f refl
 either false b h f g = g h
@@ -97,13 +91,6 @@ some-in (suc n) f c h e = go (some-in n f c) (dec (eqb c n))
     go : (c < n → f c ≡ true → someBelow n f ≡ true) → (eqb c n ≡ true) ⊎ (eqb c n ≡ false) → f n || someBelow n f ≡ true
     go ih (inl p) = or-l _ (ap f (sym (eqb-true c n p)) ∙ e)
     go ih (inr p) = or-r (f n) (ih (last-or c n h (λ q. clash (eq-eqb c n q) p)) e)
-
--- a term that passes a test which `nul` fails stands in the table
-inside : (f : Term → Bool) → f noTerm ≡ false → (table : Table) (t : TermNo) → f (at table t) ≡ true → t ≤ length table
-inside f z [] t h = clash h z
-inside f z (e ∷ es) zero h = clash h z
-inside f z (e ∷ es) (suc zero) h = omega arith
-inside f z (e ∷ es) (suc (suc n)) h = let k : suc n ≤ length es = inside f z es (suc n) h in omega arith
 
 takes : Term → Bool
 takes (variable s n) = false
@@ -317,14 +304,14 @@ module _ (table : Table) (branch : List Literal) where
 
   applied : {t : TermNo} {o : Operator} {k : Four TermNo} → at table t ≡ apply o k → takesTerms o ≡ true → t < N
   unfolding takes takesTerms arguments
-  applied {t} e h = bound-table branch (length table) t (inside takes refl table t (ap takes e ∙ h))
+  applied {t} e h = bound-table branch (length table) t (inside takes refl table t (ap takes e ∙ h) .1)
 
   class-term : (t : TermNo) → sortOf (at table t) ≡ Sort.Class → sameSort Sort.Class (sortOf (at table t)) ≡ true
   class-term t e = ap (sameSort Sort.Class) e ∙ eqb-same (sortIndex Sort.Class)
 
   class-range : (t : TermNo) → sortOf (at table t) ≡ Sort.Class → t < N
   unfolding result sortIndex
-  class-range t e = bound-table branch (length table) t (inside (λ x. sameSort Sort.Class (sortOf x)) refl table t (class-term t e))
+  class-range t e = bound-table branch (length table) t (inside (λ x. sameSort Sort.Class (sortOf x)) refl table t (class-term t e) .1)
 
   range-trn : {a b c : TermNo} → Range Relation.Eq a b → Range Relation.Eq b c → Range Relation.Eq a c
   range-trn {a} {b} {c} (inl p) r = subst (λ x. Range Relation.Eq x c) (sym p) r

@@ -16,6 +16,13 @@ use Rattle.tableau.specs.Terms.{TermNo, Name, Table, Term, variable, app
 use Rattle.tableau.proofs.Bools.{dec, clash, eqb-same, none≢some, both-i}
 use Rattle.tableau.proofs.WellFormed.{OkArgument, OkTerm, WellFormed}
 
+-- a term that passes a test which `nul` fails stands in the table: other numbers are read as `nul`
+pub inside : (f : Term → Bool) → f noTerm ≡ false → (table : Table) (t : TermNo) → f (at table t) ≡ true → (0 < t) × (t ≤ length table)
+inside f z [] t h = clash h z
+inside f z (e ∷ es) zero h = clash h z
+inside f z (e ∷ es) (suc zero) h = (omega arith, omega arith)
+inside f z (e ∷ es) (suc (suc n)) h = let k = inside f z es (suc n) h in let l : suc n ≤ length es = k .1 in (omega arith, omega arith)
+
 -- the table with one term more
 pub at-snoc : (table : Table) (e : Term) (t : TermNo) → at (table ++ (e ∷ [])) t ≡ cond (eqb t (suc (length table))) e (at table t)
 at-snoc [] e zero = refl

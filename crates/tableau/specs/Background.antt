@@ -18,7 +18,7 @@ On branch l = (i : ℕ) × (getElem? branch i ≡ some l)
 
 -- THE TWO RELATIONS, `Follows table branch Relation.Eq` and `Follows table branch Relation.Le`: "the smallest pair of relations over the terms in the table that holds the branch's eq
 -- and le literals and is closed under `ref`, `sym` on eq, `trn`, `sub` with several differing arguments at once, `ler`, `let`, `lea`, and putting equals for equals in le". A line for each; what no
--- line makes is in neither.
+-- line makes is in neither. Numbers that name no term are let in: no literal has one, and each is equal to itself alone.
 pub data Follows (table : Table) (branch : List Literal) : Relation → TermNo → TermNo → Type 0 where
   eq-literal : {a b : TermNo} → On branch (literal Relation.Eq a b) → Follows table branch Relation.Eq a b
   le-literal : {a b : TermNo} → On branch (literal Relation.Le a b) → Follows table branch Relation.Le a b

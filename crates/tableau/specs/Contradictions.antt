@@ -1,5 +1,5 @@
 -- Document 02, 'Let the checker close on equalities by itself': "Half of our proofs are `trn` and `sub` lines."
-use mathlib.Core.List.{List, [], _∷_}
+use mathlib.Core.List.{List, [], _∷_, _++_}
 use Prim.Native.String.{String}
 use Rattle.tableau.specs.Cases.{withLine, Case, _⊢_}
 
@@ -67,4 +67,5 @@ contradictionCases =
     -- no field is used; a closed tree
     (withLine 7 "S,bck,1,0,0,0" unionsOfEquals ⊢ "no,6,7,0,0,0,0,0") ∷
     (withLine 7 "S,bck,0,0,0,1" unionsOfEquals ⊢ "no,6,7,0,0,0,0,0") ∷
+    ((unionsOfEquals ++ ("S,bck,0,0,0,0" ∷ [])) ⊢ "no,5,8,0,0,0,0,0") ∷
     []

@@ -252,4 +252,5 @@ rule Rule.Fin = rows (p∶ (cup r i ≈ i) ∷ i≐ (img h r f) ∷ [] ⟶ only 
 -- "Add the closing `bck`, with no fields."
 rule Rule.Bck = background
 
--- What `sub`, `rep` and `cla` need and add is in Steps.antt; when `bck` closes, in Background.antt.
+-- What `sub`, `rep` and `cla` need and add is in Steps.antt.
+-- When `bck` closes is in Background.antt.

@@ -11,7 +11,7 @@ use Rattle.tableau.specs.Basics.{every}
 use Rattle.tableau.specs.Terms.{TermNo, Table, Term, variable, apply, Literal, literal, at, sortOf, sameSort, sameOperator, sameRelation}
 use Rattle.tableau.specs.Steps.{takesTerms}
 
--- From no literal on, as long as some eq or le literal follows in one step from those found, it is added to them.
+-- is it among these literals?
 unfoldable pub has : List Literal → Relation → TermNo → TermNo → Bool
 has [] R a b = false
 has (literal R′ a′ b′ ∷ ls) R a b = (sameRelation R R′ && (eqb a a′ && eqb b b′)) || has ls R a b
@@ -76,7 +76,7 @@ allBelow zero n = []
 allBelow (suc a) n = withRight a n ++ allBelow a n
 
 module _ (table : Table) (branch : List Literal) where
-  -- at most `fuel` literals more, out of `todo`
+  -- from no literal on, as long as some eq or le literal follows in one step from those found, it is added to them: at most `fuel` more, out of `todo`
   unfoldable pub saturate : ℕ → List Literal → List Literal → List Literal
   saturate zero known todo = known
   saturate (suc fuel) known todo = elim (next table branch known todo) [ none ↦ known | some x ↦ saturate fuel (x .0 ∷ known) (x .1) ]

@@ -52,7 +52,7 @@ pub record IsBranch (array : List ℕ) (n : ℕ) : Type 0 where
   pub room : n ≤ maxPlaces
   pub bounded : (k : ℕ) → getD array k 0 < codeLimit
 
--- the literals that they stand for, each a packed literal
+-- the branch that the first n codes of an array stand for
 abbrev pub branchOf : List ℕ → ℕ → List Literal
 branchOf array n = map unpackLiteral (take n array)
 

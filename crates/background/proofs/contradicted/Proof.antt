@@ -3,7 +3,7 @@ use mathlib.Core.Path.{refl}
 use Prim.Native.Nat.{_+_}
 use borrow.Author.Needs.{needs}
 use Rattle.tree.specs.State.{branchOf}
-use Rattle.partition.specs.Blocks.{one, roots}
+use Rattle.partition.specs.Blocks.{oneIf, roots}
 use Rattle.background.proofs.RoundLaws.{Running, run-start, run-more, run-less, answered}
 use Rattle.background.proofs.contradicted.Statement.{statement}
 use Rattle.background.proofs.contradicted.Tie as tie
@@ -12,7 +12,7 @@ abbrev Inv-loop : tie.InvT-loop
 Inv-loop terms n branch len blocks₀ rows₀ again₀ more₀ blocks rows again more = Running blocks rows terms n (branchOf branch len) more
 
 abbrev μ-loop : tie.MeasureT-loop
-μ-loop terms n branch len blocks₀ rows₀ again₀ more₀ blocks rows again more = roots 1024 blocks + one more
+μ-loop terms n branch len blocks₀ rows₀ again₀ more₀ blocks rows again more = roots 1024 blocks + oneIf more
 
 join-literals-requires : tie.Need-join-literals-requires Inv-loop μ-loop
 join-literals-requires c κs = (c .before .singletons .ensures .partition, c .before .before .pre .1)

@@ -1,9 +1,9 @@
 -- The invariant: the rows hold the class terms, and nothing but paths; where the last pass changed nothing, the literals have nothing to add.
 use Prim.Native.Nat.{_+_}
 use borrow.Author.Needs.{needs}
-use Rattle.partition.specs.Blocks.{one}
+use Rattle.partition.specs.Blocks.{oneIf}
 use Rattle.class_order.specs.Rows.{room}
-use Rattle.class_order.proofs.FillLaws.{FillPart, fill-none, fill-more, fill-followed, fill-less, fill-all}
+use Rattle.class_order.proofs.FillLaws.{FillPart, fill-none, fill-more, fill-composed, fill-less, fill-all}
 use Rattle.class_order.proofs.fill_rows.Statement.{statement}
 use Rattle.class_order.proofs.fill_rows.Tie as tie
 
@@ -11,7 +11,7 @@ abbrev Inv-loop : tie.InvT-loop
 Inv-loop blocks rows₀ terms n branch len more₀ rows more = FillPart blocks rows terms branch n len more
 
 abbrev μ-loop : tie.MeasureT-loop
-μ-loop blocks rows₀ terms n branch len more₀ rows more = room 16384 rows + one more
+μ-loop blocks rows₀ terms n branch len more₀ rows more = room 16384 rows + oneIf more
 
 reflexive-requires : tie.Need-reflexive-requires Inv-loop μ-loop
 reflexive-requires c κs = let s = c .before .before .before in (s .pre .0, (s .pre .1 .0, c .before .clear .ensures))
@@ -31,7 +31,7 @@ loop-holds c =
     let r = p .before .before in
     let s = r .before .before .before .before in
     let S = s .pre .1 .0 in
-    fill-followed _ _ _ _ _ _ _ _ S (fill-more _ _ _ _ _ _ _ _ _ S (fill-none _ _ _ _ _ _ (s .pre .0) (r .reflexive .ensures)) (p .pass .ensures)) (c .hasten .ensures)
+    fill-composed _ _ _ _ _ _ _ _ S (fill-more _ _ _ _ _ _ _ _ _ S (fill-none _ _ _ _ _ _ (s .pre .0) (r .reflexive .ensures)) (p .pass .ensures)) (c .hasten .ensures)
 
 pass-requires-2 : tie.Need-pass-requires-2 Inv-loop μ-loop
 pass-requires-2 c κs =

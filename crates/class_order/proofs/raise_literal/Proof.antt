@@ -1,4 +1,4 @@
-use mathlib.Core.Path.{_≡_, _∙_, ap, subst}
+use mathlib.Core.Path.{_∙_, ap, subst}
 use native.Mathlib.Omega.{arith}
 use borrow.Author.Needs.{needs}
 use Rattle.tableau.specs.declared.Relation.{Relation}
@@ -6,7 +6,6 @@ use Rattle.tableau.specs.Terms.{relationIndex}
 use Rattle.packing.specs.Packing.{literalOf, Small, SmallLiteral}
 use Rattle.packing.proofs.PackingLaws.{literal-read, literal-view-small}
 use Rattle.packing.proofs.ViewLaws.{is-not}
-use Rattle.class_order.specs.Rows.{Raised}
 use Rattle.class_order.proofs.RowLaws.{literal-skipped, literal-raised}
 use Rattle.class_order.proofs.raise_literal.Statement.{statement}
 use Rattle.class_order.proofs.raise_literal.Tie as tie

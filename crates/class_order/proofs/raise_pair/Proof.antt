@@ -1,14 +1,14 @@
 use mathlib.Core.Path.{sym, _∙_}
 use native.Mathlib.Omega.{arith}
 use borrow.Author.Needs.{needs}
-use Rattle.class_order.proofs.RowLaws.{unchanged, raised-followed}
+use Rattle.class_order.proofs.RowLaws.{unchanged, raised-composed}
 use Rattle.class_order.proofs.raise_pair.Statement.{statement}
 use Rattle.class_order.proofs.raise_pair.Tie as tie
 
 returns : tie.Need-returns
 returns c =
     let t = c .before .before in
-    raised-followed _ _ _ _ _ (c .raise .ensures) (omega arith) (omega arith) (sym (t .before .is-under .ensures) ∙ t .if1 .taken)
+    raised-composed _ _ _ _ _ (c .raise .ensures) (omega arith) (omega arith) (sym (t .before .is-under .ensures) ∙ t .if1 .taken)
 
 returns-2 : tie.Need-returns-2
 returns-2 c blocks = unchanged _ blocks _ (c .before .before .before .pre)

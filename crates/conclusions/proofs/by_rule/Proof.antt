@@ -147,6 +147,7 @@ cla : (c : tie.After-enum-told30) → Answers (c .before .before) (Outcome.Refus
 unfolding ruleFields
 cla c = let s = c .before .before in absurd (not-cla {x = s .args .rule} (s .pre .1 .3) (cc))
 
+-- nor is this asked here
 bck : (c : tie.After-enum-told32) → Answers (c .before .before) (Outcome.Refused Reason.NeedNotMet)
 unfolding ruleFields answer conclude rule
 bck c = infers {y = Rule.Bck} {A = λ table. Unit {0}} (cc) (c .before .before .pre .1 .2) (λ table S. tt) (record { room = tt; answers = λ table p fresh. refl })

@@ -1,4 +1,3 @@
-use borrow.Author.Needs.{needs}
 use Rattle.table.proofs.EntryLaws.{found-number}
 use Rattle.table.proofs.search.Statement.{statement}
 use Rattle.table.proofs.search.Tie as tie

@@ -4,8 +4,8 @@ use native.Mathlib.Omega.{arith}
 use borrow.Author.Needs.{needs}
 use Rattle.partition.proofs.JoinLaws.{unchanged, changed-then}
 use Rattle.congruence.specs.Signatures.{JoinedSome}
-use Rattle.congruence.proofs.follow.Statement.{statement}
-use Rattle.congruence.proofs.follow.Tie as tie
+use Rattle.congruence.proofs.join_pairs.Statement.{statement}
+use Rattle.congruence.proofs.join_pairs.Tie as tie
 
 abbrev Inv-loop : tie.InvT-loop
 Inv-loop blocks₀ terms pairs count changed₀ i₀ blocks changed i = JoinedSome terms blocks₀ blocks changed
@@ -18,8 +18,8 @@ loop-again c =
     let l = c .before .before .before .before .before in
     rw (c .either .ensures) (changed-then _ _ _ _ _ _ _ _ (l .loop .inv) (c .before .join-pair .ensures) (λ table B E _. E) (λ table B E _. E))
 
-pub follow-spec : {M : Type 1} → statement M
-follow-spec =
+pub join-pairs-spec : {M : Type 1} → statement M
+join-pairs-spec =
     tie.close
     (tie.spec
     Inv-loop

@@ -3,13 +3,13 @@ use mathlib.Core.List.{[]}
 use Prim.Native.Nat.{_-_}
 use native.Mathlib.Omega.{arith}
 use borrow.Author.Needs.{needs}
-use Rattle.class_order.specs.Rows.{Words, Followed}
+use Rattle.class_order.specs.Rows.{Words, Composed}
 use Rattle.class_order.proofs.RowLaws.{unchanged, extended-then}
-use Rattle.class_order.proofs.follow.Statement.{statement}
-use Rattle.class_order.proofs.follow.Tie as tie
+use Rattle.class_order.proofs.raise_pairs.Statement.{statement}
+use Rattle.class_order.proofs.raise_pairs.Tie as tie
 
 abbrev Inv-loop : tie.InvT-loop
-Inv-loop rows₀ pairs count i₀ rows i = Words rows × Followed rows₀ rows
+Inv-loop rows₀ pairs count i₀ rows i = Words rows × Composed rows₀ rows
 
 abbrev μ-loop : tie.MeasureT-loop
 μ-loop rows₀ pairs count i₀ rows i = count - i
@@ -20,8 +20,8 @@ loop-again c =
     let F = c .raise-pair .ensures in
     (F [] .words, λ blocks. extended-then _ _ _ blocks _ _ _ (l .loop .inv .1 blocks) (F blocks) (λ table B t. t) (λ table B t. t))
 
-pub follow-spec : {M : Type 1} → statement M
-follow-spec =
+pub raise-pairs-spec : {M : Type 1} → statement M
+raise-pairs-spec =
     tie.close
     (tie.spec
     Inv-loop
