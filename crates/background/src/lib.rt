@@ -1,4 +1,4 @@
-// `bck`: does a branch contradict its own equalities and its order of classes? Terms that follow to be equal are put into one block, and blocks into an order, until nothing changes.
+// `bck`: does a branch contradict its own equalities and its order of classes? Terms are put into one block where it follows that they are equal, and blocks into an order, until nothing changes.
 mod literals;
 mod order;
 
