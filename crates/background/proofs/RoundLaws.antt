@@ -84,7 +84,7 @@ pub record Running (blocks rows terms : List ℕ) (n : ℕ) (B : List Literal) (
   pub sound : (table : Table) → Entries table terms → length table ≡ n → Sound table B blocks
   pub saturated-if : SaturatedIf more blocks rows terms n B
 
-pub run-start : (first blocks rows terms : List ℕ) (n : ℕ) (B : List Literal) (r : Bool) → Singletons first → JoinedLiterals first blocks B r → length rows ≡ 16384 → Running blocks rows terms n B true
+run-start : (first blocks rows terms : List ℕ) (n : ℕ) (B : List Literal) (r : Bool) → Singletons first → JoinedLiterals first blocks B r → length rows ≡ 16384 → Running blocks rows terms n B true
 run-start first blocks rows terms n B r S J size = record {
   partition = J .change .partition;
   size = size;
@@ -102,6 +102,12 @@ run-more old new rows rows′ terms xs n m more r P R = record {
   sound = λ table E l. R .change .sound table (branchOf xs m) (E, l, refl) (P .sound table E l);
   saturated-if = R .saturated-if;
 }
+
+-- after the first round
+pub run-first : (first old new rows terms xs : List ℕ) (n m : ℕ) (q r : Bool) → Singletons first → JoinedLiterals first old (branchOf xs m) q → Rounded old new rows terms n (branchOf xs m) r
+    → Running new rows terms n (branchOf xs m) r
+run-first first old new rows terms xs n m q r S J R =
+    run-more old new rows rows terms xs n m true r (run-start first old rows terms n (branchOf xs m) q S J (R .size)) R
 
 pub run-less : (more r : Bool) (old new : List ℕ) → more ≡ true → Fewer r old new → roots 1024 new + oneIf r < roots 1024 old + oneIf more
 run-less true true old new e h = omega arith

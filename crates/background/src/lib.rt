@@ -57,11 +57,9 @@ pub fn contradicted(
     let mut blocks = singletons();
     join_literals(&mut blocks, branch, len);
     let mut rows = [0; WORDS];
-    let mut again = false;
-    let mut more = true;
+    let mut more = round(&mut blocks, &mut rows, terms, n, branch, len, false);
     while more {
-        more = round(&mut blocks, &mut rows, terms, n, branch, len, again);
-        again = true;
+        more = round(&mut blocks, &mut rows, terms, n, branch, len, true);
     }
     contradicts(&blocks, &rows, branch, len)
 }
