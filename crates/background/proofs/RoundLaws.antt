@@ -3,7 +3,7 @@ use mathlib.Core.Path.{_≡_, refl, sym, _∙_, ap, subst}
 use mathlib.Core.Bool.{Bool, true, false, true≢false, false≢true}
 use mathlib.Core.List.{List}
 use mathlib.Core.Logic.{inl, inr}
-use Prim.Native.Nat.{ℕ, _+_, _<_}
+use Prim.Native.Nat.{ℕ, _+_, _<_, _≤_}
 use native.Mathlib.Omega.{arith}
 use lib.ListN.{length}
 use borrow.Author.Tests.{eqb-true, eq-eqb}
@@ -20,26 +20,39 @@ use Rattle.table.specs.Held.{Entries}
 use Rattle.tree.specs.State.{branchOf}
 use Rattle.tree.proofs.BranchLaws.{sides-small}
 use Rattle.partition.specs.Blocks.{blockOf, IsPartition, Sound, Fewer, oneIf, roots, Singletons}
-use Rattle.congruence.specs.Signatures.{JoinedAlike}
+use Rattle.congruence.specs.Signatures.{JoinedAlike, CongruentIf}
 use Rattle.class_order.specs.Rows.{Filled}
 use Rattle.class_order.proofs.FillLaws.{class-in-table}
-use Rattle.background.specs.Closure.{AllEqual, JoinedLiterals, UnderFollows, AllMutual, Antisymmetric, AllMutualIf, Saturated, SaturatedIf, Over, Rounded, denies, Denied}
+use Rattle.background.specs.declared.RoundResult.{RoundResult}
+use Rattle.background.specs.Closure.{JoinedLiterals, UnderFollows, AllMutual, Antisymmetric, Saturated, denies, Denied, joined, SettledIf, Rounded}
 use Rattle.background.proofs.SaturatedLaws.{equal-follows, path-follows, under-follows, follows-there}
 
 class-small : (table : Table) (terms : List ℕ) → Entries table terms → (t : TermNo) → sortOf (at table t) ≡ Sort.Class → Small t
 class-small table terms E t s = omega (arith, class-in-table table t s .1, E .few)
 
--- a round that joined alike terms
-pub round-alike : (old new rows terms : List ℕ) (n : ℕ) (B : List Literal) (r : Bool) → length rows ≡ 16384 → r ≡ true → JoinedAlike old new terms n r → Rounded old new rows terms n B true
-round-alike old new rows terms n B true size e J = record {
-  change = record { partition = J .change .partition; coarser = J .change .coarser; fewer = J .change .fewer; sound = λ table C p. J .change .sound table C (p .0) };
-  size = size;
-  saturated-if = tt;
-}
-round-alike old new rows terms n B false size e J = absurd (false≢true e)
+-- blocks that were joined are fewer, and others as many
+fewer-if : (r : Bool) (old new : List ℕ) → Fewer r old new → roots 1024 new + oneIf r ≤ roots 1024 old
+fewer-if true old new h = omega arith
+fewer-if false old new h = let q : roots 1024 new ≡ roots 1024 old = ap (roots 1024) h in omega arith
 
--- one that found none: its blocks are as before, and the order is looked at
-module _ (old mid new rows terms xs : List ℕ) (n m : ℕ) (r : Bool) (J : JoinedAlike old mid terms n false)
+-- A ROUND THAT JOINED ALIKE TERMS
+pub round-alike : (old mid new terms : List ℕ) (n : ℕ) (B : List Literal) (q r : Bool) → r ≡ true → JoinedLiterals old mid B q → JoinedAlike mid new terms n r → Rounded old new terms n B RoundResult.Joined
+round-alike old mid new terms n B q r e L J = record {
+  partition = J .change .partition;
+  fewer = omega (arith, fewer-if q old mid (L .change .fewer), subst (λ v. Fewer v mid new) e (J .change .fewer));
+  sound = λ table E len D. J .change .sound table B E (L .change .sound table B (λ l o. o) D);
+  settled-if = tt;
+}
+
+-- ONE THAT FOUND NONE: its blocks are those that the literals made
+pub none-alike : (old mid new terms : List ℕ) (n : ℕ) (B : List Literal) (q r : Bool) → r ≡ false → JoinedLiterals old mid B q → JoinedAlike mid new terms n r
+    → JoinedLiterals old new B q × CongruentIf false new terms n
+none-alike old mid new terms n B q r e L J =
+    let N : JoinedAlike mid new terms n false = subst (λ v. JoinedAlike mid new terms n v) e J in
+    (subst (λ (v : List ℕ). JoinedLiterals old v B q) (sym (N .change .fewer)) L, N .congruent-if)
+
+-- then the order is looked at
+module _ (old mid new rows terms xs : List ℕ) (n m : ℕ) (q r : Bool) (L : JoinedLiterals old mid (branchOf xs m) q × CongruentIf false mid terms n)
     (F : (table : Table) → Entries table terms → length table ≡ n → Filled table mid rows (branchOf xs m)) (A : Antisymmetric rows mid new (branchOf xs m) r) where
   abbrev B : List Literal
   B = branchOf xs m
@@ -47,80 +60,59 @@ module _ (old mid new rows terms xs : List ℕ) (n m : ℕ) (r : Bool) (J : Join
   under : (table : Table) → Entries table terms → length table ≡ n → Sound table B mid → UnderFollows rows table B
   under table E len C x y lx ly h = path-follows table B mid C (sides-small xs m Relation.Le) (class-small table terms E) (F table E len .only x y lx ly h)
 
-  sound : (table : Table) (C : List Literal) → Over terms n B table C → Sound table C old → Sound table C new
-  sound table C p D = subst (λ (Z : List Literal). Sound table Z old → Sound table Z new) (sym (p .2)) at-B D
-    where
-      at-B : Sound table B old → Sound table B new
-      at-B D = let M = J .change .sound table B (p .0) D in A .change .sound table B ((λ l o. o), under table (p .0) (p .1) M) M
+  sound : (table : Table) → Entries table terms → length table ≡ n → Sound table B old → Sound table B new
+  sound table E len D = let M = L .0 .change .sound table B (λ l o. o) D in A .change .sound table B ((λ l o. o), under table E len M) M
 
-  saturated-if : (r : Bool) → Fewer r mid new → AllMutualIf r new rows B → SaturatedIf r new rows terms n B
-  saturated-if true e M = tt
-  saturated-if false e M = λ table E len q. subst (λ (v : List ℕ). AllEqual v B → AllMutual v rows B → Saturated table B v rows) (sym e)
-      (λ q M. record { equal = q; congruent = J .congruent-if table E len; filled = F table E len; antisymmetric = M }) q M
+  fewer : roots 1024 new + oneIf r ≤ roots 1024 old
+  fewer = omega (arith, fewer-if q old mid (L .0 .change .fewer), fewer-if r mid new (A .change .fewer))
 
-  round-order : length rows ≡ 16384 → Rounded old new rows terms n B r
-  round-order size = record {
-    change = record {
-      partition = A .change .partition;
-      coarser = λ x y lx ly e. A .change .coarser x y lx ly (J .change .coarser x y lx ly e);
-      fewer = subst (λ (v : List ℕ). Fewer r v new) (J .change .fewer) (A .change .fewer);
-      sound = sound;
-    };
-    size = size;
-    saturated-if = saturated-if r (A .change .fewer) (A .mutual-if);
-  }
+  pub round-mutual : r ≡ true → Rounded old new terms n B RoundResult.Joined
+  round-mutual e = record { partition = A .change .partition; fewer = subst (λ v. roots 1024 new + oneIf v ≤ roots 1024 old) e fewer; sound = sound; settled-if = tt }
 
-pub round-rest : (old mid new rows terms xs : List ℕ) (n m : ℕ) (q r : Bool) → q ≡ false → JoinedAlike old mid terms n q
-    → ((table : Table) → Entries table terms → length table ≡ n → Filled table mid rows (branchOf xs m)) → Antisymmetric rows mid new (branchOf xs m) r
-    → length rows ≡ 16384 → Rounded old new rows terms n (branchOf xs m) r
-round-rest old mid new rows terms xs n m false r e J F A size = round-order old mid new rows terms xs n m r J F A size
-round-rest old mid new rows terms xs n m true r e J F A size = absurd (true≢false e)
+  saturated : new ≡ mid → AllMutual new rows B → (table : Table) → Entries table terms → length table ≡ n → Saturated table B new rows
+  saturated e M table E len = subst (λ (v : List ℕ). AllMutual v rows B → Saturated table B v rows) (sym e)
+      (λ M. record { equal = L .0 .equal; congruent = L .1 table E len; filled = F table E len; antisymmetric = M }) M
+
+  pub round-settled : (s : Bool) → r ≡ false → Denied new rows B s → Rounded old new terms n B (RoundResult.Settled s)
+  round-settled s e D =
+      let N : Antisymmetric rows mid new B false = subst (λ v. Antisymmetric rows mid new B v) e A in
+      record {
+        partition = A .change .partition;
+        fewer = subst (λ v. roots 1024 new + oneIf v ≤ roots 1024 old) e fewer;
+        sound = sound;
+        settled-if = (rows, saturated (N .change .fewer) (N .mutual-if), D);
+      }
 
 -- ALL ROUNDS so far
-pub record Running (blocks rows terms : List ℕ) (n : ℕ) (B : List Literal) (more : Bool) : Type 0 where
+pub record Running (blocks terms : List ℕ) (n : ℕ) (B : List Literal) (r : RoundResult) : Type 0 where
   pub partition : IsPartition blocks
-  pub size : length rows ≡ 16384
-  pub equal : AllEqual blocks B
   pub sound : (table : Table) → Entries table terms → length table ≡ n → Sound table B blocks
-  pub saturated-if : SaturatedIf more blocks rows terms n B
+  pub settled-if : SettledIf r blocks terms n B
 
-run-start : (first blocks rows terms : List ℕ) (n : ℕ) (B : List Literal) (r : Bool) → Singletons first → JoinedLiterals first blocks B r → length rows ≡ 16384 → Running blocks rows terms n B true
-run-start first blocks rows terms n B r S J size = record {
-  partition = J .change .partition;
-  size = size;
-  equal = J .equal;
-  sound = λ table E l. J .change .sound table B (λ l o. o) (λ x lx. subst (λ v. Follows table B Relation.Eq x v) (sym (S .alone x lx)) background.ref);
-  saturated-if = tt;
+pub run-first : (old new terms : List ℕ) (n : ℕ) (B : List Literal) (r : RoundResult) → Singletons old → Rounded old new terms n B r → Running new terms n B r
+run-first old new terms n B r S R = record {
+  partition = R .partition;
+  sound = λ table E len. R .sound table E len (λ x lx. subst (λ v. Follows table B Relation.Eq x v) (sym (S .alone x lx)) background.ref);
+  settled-if = R .settled-if;
 }
 
-pub run-more : (old new rows rows′ terms xs : List ℕ) (n m : ℕ) (more r : Bool) → Running old rows terms n (branchOf xs m) more → Rounded old new rows′ terms n (branchOf xs m) r
-    → Running new rows′ terms n (branchOf xs m) r
-run-more old new rows rows′ terms xs n m more r P R = record {
-  partition = R .change .partition;
-  size = R .size;
-  equal = λ a b o. let s = sides-small xs m Relation.Eq a b o in R .change .coarser a b (s .0) (s .1) (P .equal a b o);
-  sound = λ table E l. R .change .sound table (branchOf xs m) (E, l, refl) (P .sound table E l);
-  saturated-if = R .saturated-if;
-}
+pub run-more : (old new terms : List ℕ) (n : ℕ) (B : List Literal) (q r : RoundResult) → Running old terms n B q → Rounded old new terms n B r → Running new terms n B r
+run-more old new terms n B q r P R = record { partition = R .partition; sound = λ table E len. R .sound table E len (P .sound table E len); settled-if = R .settled-if }
 
--- after the first round
-pub run-first : (first old new rows terms xs : List ℕ) (n m : ℕ) (q r : Bool) → Singletons first → JoinedLiterals first old (branchOf xs m) q → Rounded old new rows terms n (branchOf xs m) r
-    → Running new rows terms n (branchOf xs m) r
-run-first first old new rows terms xs n m q r S J R =
-    run-more old new rows rows terms xs n m true r (run-start first old rows terms n (branchOf xs m) q S J (R .size)) R
-
-pub run-less : (more r : Bool) (old new : List ℕ) → more ≡ true → Fewer r old new → roots 1024 new + oneIf r < roots 1024 old + oneIf more
-run-less true true old new e h = omega arith
-run-less true false old new e h = let q : roots 1024 new ≡ roots 1024 old = ap (roots 1024) h in omega arith
-run-less false r old new e h = absurd (false≢true e)
+pub run-less : (old new terms : List ℕ) (n : ℕ) (B : List Literal) (q r : RoundResult) → q ≡ RoundResult.Joined → Rounded old new terms n B r
+    → roots 1024 new + oneIf (joined r) < roots 1024 old + oneIf (joined q)
+run-less old new terms n B q r e R = subst (λ v. roots 1024 new + oneIf (joined r) < roots 1024 old + oneIf (joined v)) (sym e) (omega (arith, R .fewer))
 
 -- THE ANSWER
-module _ (blocks rows terms xs : List ℕ) (n m : ℕ) (P : Running blocks rows terms n (branchOf xs m) false) (table : Table) (E : Entries table terms) (len : length table ≡ n) where
+module _ (blocks terms xs : List ℕ) (n m : ℕ) (r : Bool) (P : Running blocks terms n (branchOf xs m) (RoundResult.Settled r)) (table : Table) (E : Entries table terms) (len : length table ≡ n) where
   abbrev C : List Literal
   C = branchOf xs m
 
-  saturated : Saturated table C blocks rows
-  saturated = P .saturated-if table E len (P .equal)
+  abbrev rows : List ℕ
+  rows = P .settled-if .0
+
+  all-there : Saturated table C blocks rows
+  all-there = P .settled-if .1 table E len
 
   denied-contradicted : (l : Literal) → On C l → denies blocks rows l ≡ true → Contradicted table C
   unfolding denies
@@ -130,7 +122,7 @@ module _ (blocks rows terms xs : List ℕ) (n m : ℕ) (P : Running blocks rows 
   denied-contradicted (literal Relation.Nl a b) o h =
       let s = sides-small xs m Relation.Nl a b o in
       by-nl o (under-follows table C blocks (P .sound table E len) (sides-small xs m Relation.Le) (class-small table terms E) a b (s .0) (s .1)
-      (saturated .filled .only (blockOf blocks a) (blockOf blocks b) (P .partition .small a) (P .partition .small b) h))
+      (all-there .filled .only (blockOf blocks a) (blockOf blocks b) (P .partition .small a) (P .partition .small b) h))
   denied-contradicted (literal Relation.In a b) o h = absurd (false≢true h)
   denied-contradicted (literal Relation.Ni a b) o h = absurd (false≢true h)
   denied-contradicted (literal Relation.Eq a b) o h = absurd (false≢true h)
@@ -139,14 +131,16 @@ module _ (blocks rows terms xs : List ℕ) (n m : ℕ) (P : Running blocks rows 
   none-contradicted : ((l : Literal) → On C l → denies blocks rows l ≡ false) → Contradicted table C → ⊥
   unfolding denies
   none-contradicted f (by-ne {a = a} {b = b} o h) =
-      true≢false (sym (eq-eqb (blockOf blocks a) (blockOf blocks b) (follows-there table C blocks rows (P .partition) saturated h)) ∙ f (literal Relation.Ne a b) o)
-  none-contradicted f (by-nl {a = a} {b = b} o h) = true≢false (sym (follows-there table C blocks rows (P .partition) saturated h) ∙ f (literal Relation.Nl a b) o)
+      true≢false (sym (eq-eqb (blockOf blocks a) (blockOf blocks b) (follows-there table C blocks rows (P .partition) all-there h)) ∙ f (literal Relation.Ne a b) o)
+  none-contradicted f (by-nl {a = a} {b = b} o h) = true≢false (sym (follows-there table C blocks rows (P .partition) all-there h) ∙ f (literal Relation.Nl a b) o)
 
   answer : (r : Bool) → Denied blocks rows C r → r ≡ contradicted table C
   answer true (l, o, h) = sym (contradicted-if table C (denied-contradicted l o h))
   answer false f = elim (dec (contradicted table C)) [ inl e ↦ absurd (none-contradicted f (contradicted-only table C e)) | inr e ↦ sym e ]
 
-pub answered : (blocks rows terms xs : List ℕ) (n m : ℕ) (more r : Bool) → more ≡ false → Running blocks rows terms n (branchOf xs m) more → Denied blocks rows (branchOf xs m) r
+  answered-so : r ≡ contradicted table C
+  answered-so = answer r (P .settled-if .2)
+
+pub answered : (blocks terms xs : List ℕ) (n m : ℕ) (q : RoundResult) (r : Bool) → q ≡ RoundResult.Settled r → Running blocks terms n (branchOf xs m) q
     → (table : Table) → Entries table terms → length table ≡ n → r ≡ contradicted table (branchOf xs m)
-answered blocks rows terms xs n m false r e P D table E len = answer blocks rows terms xs n m P table E len r D
-answered blocks rows terms xs n m true r e P D table E len = absurd (true≢false e)
+answered blocks terms xs n m q r e P = answered-so blocks terms xs n m r (subst (λ v. Running blocks terms n (branchOf xs m) v) e P)

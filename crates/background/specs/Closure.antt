@@ -2,7 +2,7 @@
 use mathlib.Core.Path.{_≡_}
 use mathlib.Core.Bool.{Bool, true, false}
 use mathlib.Core.List.{List}
-use Prim.Native.Nat.{ℕ}
+use Prim.Native.Nat.{ℕ, _+_, _≤_}
 use lib.Dec.{eqb}
 use lib.ListN.{length}
 use Rattle.tableau.specs.declared.Relation.{Relation}
@@ -10,9 +10,10 @@ use Rattle.tableau.specs.Terms.{TermNo, Table, Literal, literal}
 use Rattle.tableau.specs.Background.{On, Follows}
 use Rattle.packing.specs.Packing.{Small}
 use Rattle.table.specs.Held.{Entries}
-use Rattle.partition.specs.Blocks.{blockOf, Coarsened}
+use Rattle.partition.specs.Blocks.{blockOf, IsPartition, Sound, oneIf, roots, Coarsened}
 use Rattle.congruence.specs.Signatures.{Congruent}
 use Rattle.class_order.specs.Rows.{isUnder, AllOn, Filled}
+use Rattle.background.specs.declared.RoundResult.{RoundResult}
 
 -- AN EQ LITERAL, and all of a branch
 pub record JoinedLiteral (old new : List ℕ) (l : Literal) (r : Bool) : Type 0 where
@@ -59,19 +60,6 @@ pub record Saturated (table : Table) (B : List Literal) (blocks rows : List ℕ)
   pub filled : Filled table blocks rows B
   pub antisymmetric : AllMutual blocks rows B
 
--- ONE ROUND: r says whether any blocks were joined
-abbrev pub SaturatedIf : Bool → List ℕ → List ℕ → List ℕ → ℕ → List Literal → Type 0
-SaturatedIf false blocks rows terms n B = (table : Table) → Entries table terms → length table ≡ n → AllEqual blocks B → Saturated table B blocks rows
-SaturatedIf true blocks rows terms n B = Unit {0}
-
-abbrev pub Over : List ℕ → ℕ → List Literal → Table → List Literal → Type 0
-Over terms n B table C = Entries table terms × (length table ≡ n) × (C ≡ B)
-
-pub record Rounded (old new rows terms : List ℕ) (n : ℕ) (B : List Literal) (r : Bool) : Type 0 where
-  pub change : Coarsened (Over terms n B) old new r
-  pub size : length rows ≡ 16384
-  pub saturated-if : SaturatedIf r new rows terms n B
-
 -- DOES A LITERAL DENY what the blocks and rows say?
 unfoldable pub denies : List ℕ → List ℕ → Literal → Bool
 denies blocks rows (literal Relation.Ne a b) = eqb (blockOf blocks a) (blockOf blocks b)
@@ -84,3 +72,18 @@ denies blocks rows (literal Relation.Le a b) = false
 abbrev pub Denied : List ℕ → List ℕ → List Literal → Bool → Type 0
 Denied blocks rows B true = (l : Literal) × On B l × (denies blocks rows l ≡ true)
 Denied blocks rows B false = (l : Literal) → On B l → denies blocks rows l ≡ false
+
+-- ONE ROUND: it joined blocks, or none can be joined any more, and it says whether a literal denies what they say
+abbrev pub joined : RoundResult → Bool
+joined RoundResult.Joined = true
+joined (RoundResult.Settled r) = false
+
+abbrev pub SettledIf : RoundResult → List ℕ → List ℕ → ℕ → List Literal → Type 0
+SettledIf RoundResult.Joined blocks terms n B = Unit {0}
+SettledIf (RoundResult.Settled r) blocks terms n B = (rows : List ℕ) × ((table : Table) → Entries table terms → length table ≡ n → Saturated table B blocks rows) × Denied blocks rows B r
+
+pub record Rounded (old new terms : List ℕ) (n : ℕ) (B : List Literal) (r : RoundResult) : Type 0 where
+  pub partition : IsPartition new
+  pub fewer : roots 1024 new + oneIf (joined r) ≤ roots 1024 old
+  pub sound : (table : Table) → Entries table terms → length table ≡ n → Sound table B old → Sound table B new
+  pub settled-if : SettledIf r new terms n B

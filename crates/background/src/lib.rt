@@ -20,26 +20,36 @@ ghost use Rattle.tree.specs.State.{IsBranch, branchOf};
 ghost use Rattle.partition.specs.Blocks.{IsPartition};
 ghost use Rattle.background.specs.Closure.{Rounded};
 
-// One round: joins blocks, and says whether it did. The rows are those of the blocks before. `again` is set from the second round on: most branches need no second, and
-// the search would cost them more than it saves.
+// What a round comes to: it joined blocks, or there are none left to join, and it says whether the branch contradicts itself.
+enum RoundResult {
+    Joined,
+    Settled(bool),
+}
+
+// One round. `again` is set from the second one on: most branches need no second, and the search for congruent terms would cost them more than it saves.
 fn round(
     blocks: &mut [u16; NUMBERS],
-    rows: &mut [u64; WORDS],
     terms: &[u64; NUMBERS],
     n: usize,
     branch: &[u32; Tree::PLACES],
     len: usize,
     again: bool,
-) -> bool
+) -> RoundResult
     requires { ⌜ ((table : Table) × Entries table (now terms) × (length table ≡ n)) ⌝ }
-    requires { ⌜ IsPartition (now blocks) × (length (now rows) ≡ 16384) × IsBranch (now branch) len ⌝ }
-    ensures { λ r. ⌜ Rounded (now (blocks .entry)) (now (blocks .exit)) (now (rows .exit)) (now (terms .entry)) n (branchOf (now (branch .entry)) len) r ⌝ }
+    requires { ⌜ IsPartition (now blocks) × IsBranch (now branch) len ⌝ }
+    ensures { λ r. ⌜ Rounded (now (blocks .entry)) (now (blocks .exit)) (now (terms .entry)) n (branchOf (now (branch .entry)) len) r ⌝ }
 {
+    join_literals(blocks, branch, len);
     if join_congruent(blocks, terms, n, again) {
-        return true;
+        return RoundResult::Joined;
     }
-    fill_rows(&*blocks, rows, terms, n, branch, len);
-    antisymmetry(blocks, &*rows, branch, len)
+    let mut rows = [0; WORDS];
+    fill_rows(&*blocks, &mut rows, terms, n, branch, len);
+    if antisymmetry(blocks, &rows, branch, len) {
+        RoundResult::Joined
+    } else {
+        RoundResult::Settled(contradicts(&*blocks, &rows, branch, len))
+    }
 }
 
 // Does the branch of the first len literals contradict itself, over the table of the n packed terms?
@@ -55,11 +65,11 @@ pub fn contradicted(
         → r ≡ specification.contradicted table (branchOf (now (branch .entry)) len)) ⌝ }
 {
     let mut blocks = singletons();
-    join_literals(&mut blocks, branch, len);
-    let mut rows = [0; WORDS];
-    let mut more = round(&mut blocks, &mut rows, terms, n, branch, len, false);
-    while more {
-        more = round(&mut blocks, &mut rows, terms, n, branch, len, true);
+    let mut last = round(&mut blocks, terms, n, branch, len, false);
+    loop {
+        if let RoundResult::Settled(answer) = last {
+            return answer;
+        }
+        last = round(&mut blocks, terms, n, branch, len, true);
     }
-    contradicts(&blocks, &rows, branch, len)
 }

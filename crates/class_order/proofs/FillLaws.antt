@@ -16,7 +16,7 @@ use Rattle.tree.specs.State.{IsBranch, branchOf}
 use Rattle.tree.proofs.BranchLaws.{on-branch, each-on}
 use Rattle.partition.specs.Blocks.{blockOf, IsPartition, oneIf}
 use Rattle.partition.proofs.Loops.{up-to, nothing-yet}
-use Rattle.class_order.specs.Rows.{isUnder, Words, Cleared, room, Less, Only, Extended, Held, HeldIf, RaisedLiteral, AllHeldIf, AllOn, Passed, Composed, RaisedClass, ClassesUnder, Reflexive, Filled}
+use Rattle.class_order.specs.Rows.{isUnder, Words, Empty, room, Less, Only, Extended, Held, HeldIf, RaisedLiteral, AllHeldIf, AllOn, Passed, Composed, RaisedClass, ClassesUnder, Reflexive, Filled}
 use Rattle.class_order.proofs.WordLaws.{less-then}
 use Rattle.class_order.proofs.RowLaws.{unchanged, extended-then}
 
@@ -70,7 +70,7 @@ pub record ClassPart (blocks rows terms : List ℕ) (n t : ℕ) : Type 0 where
   pub done : (s : ℕ) → s < t → 1 ≤ s → (table : Table) → Entries table terms → sortOf (at table s) ≡ Sort.Class → isUnder rows (blockOf blocks s) (blockOf blocks s) ≡ true
   pub only : (table : Table) → Entries table terms → (B : List Literal) → Only table B blocks rows
 
-pub class-none : (blocks rows terms : List ℕ) (n : ℕ) → Cleared rows → ClassPart blocks rows terms n 1
+pub class-none : (blocks rows terms : List ℕ) (n : ℕ) → Empty rows → ClassPart blocks rows terms n 1
 class-none blocks rows terms n C = record {
   first = omega arith;
   most = omega arith;

@@ -8,15 +8,16 @@ use native.Mathlib.Nat.{eq-or-lt-of-le}
 use native.Mathlib.Omega.{arith}
 use lib.Bits.{bitOr, or-lt, or-add-and, and-le-r}
 use lib.Dec.{eqb}
-use lib.ListN.{length, getD, set, length-set, List·getD-eq-default}
+use lib.ListN.{length, getD, set, replicate, length-set, length-replicate}
 use lib.Seq.{getD-set-same, getD-set-other, set-getD, set-out}
 use borrow.Author.Tests.{eqb-true, eqb-false, ne-eqb}
 use Rattle.tableau.proofs.Bools.{dec}
 use Rattle.packing.specs.Packing.{Small}
+use Rattle.table.proofs.GrowthLaws.{zeros}
 use Rattle.mentions.specs.Mentions.{bitAt}
 use Rattle.mentions.proofs.BitLaws.{bit-or, bit-zero}
 use Rattle.partition.proofs.Loops.{up-to, nothing-yet, below-or}
-use Rattle.class_order.specs.Rows.{isUnder, Words, Cleared, room, Less, unitedWord, RaisedWord, Raised}
+use Rattle.class_order.specs.Rows.{isUnder, Words, Empty, room, Less, unitedWord, RaisedWord, Raised}
 
 -- a word in which the bit of y is not
 pub own-elsewhere : (y i q : ℕ) → (y / 64 ≡ i → ⊥) → q < 64 → bitAt 0 q ≡ eqb y (i * 64 + q)
@@ -136,23 +137,8 @@ raised-all old new x y i r h P = record {
 }
 
 -- NO BITS
-pub record ClearedPart (rows : List ℕ) (i : ℕ) : Type 0 where
-  pub most : i ≤ 16384
-  pub size : length rows ≡ 16384
-  pub done : (k : ℕ) → k < i → getD rows k 0 ≡ 0
-
-pub cleared-more : (rows : List ℕ) (i : ℕ) → i < 16384 → ClearedPart rows i → ClearedPart (set rows i 0) (i + 1)
-cleared-more rows i l P = record {
-  most = omega arith;
-  size = length-set rows i 0 ∙ P .size;
-  done = up-to _ i (λ k z. getD-set-other rows i k 0 0 (omega arith) ∙ P .done k z) (getD-set-same rows i 0 0 (omega (arith, P .size)));
+pub no-bits : (n : ℕ) → n ≡ 16384 → Empty (replicate {A = ℕ} n 0)
+no-bits n e = record {
+  words = record { size = length-replicate {A = ℕ} n 0 ∙ e; fits = λ k. rw (zeros n k) (omega arith) };
+  none = λ x y. ap (λ v. bitAt v (y % 64)) (zeros n (x * 16 + y / 64)) ∙ bit-zero (y % 64);
 }
-
-pub cleared-all : (rows : List ℕ) (i : ℕ) → 16384 ≤ i → ClearedPart rows i → Cleared rows
-cleared-all rows i h P = record {
-  words = record { size = P .size; fits = λ k. rw (zero-at k) (omega arith) };
-  none = λ x y. ap (λ v. bitAt v (y % 64)) (zero-at (x * 16 + y / 64)) ∙ bit-zero (y % 64);
-}
-  where
-    zero-at : (k : ℕ) → getD rows k 0 ≡ 0
-    zero-at k = elim (below-or k 16384) [ inl l ↦ P .done k (omega arith) | inr l ↦ List·getD-eq-default rows 0 {n = k} (omega (arith, P .size)) ]

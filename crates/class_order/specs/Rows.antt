@@ -29,7 +29,7 @@ abbrev pub isUnder : List ℕ → TermNo → TermNo → Bool
 isUnder rows x y = bitAt (getD rows (x * 16 + y / 64) 0) (y % 64)
 
 -- no bits
-pub record Cleared (rows : List ℕ) : Type 0 where
+pub record Empty (rows : List ℕ) : Type 0 where
   pub words : Words rows
   pub none : (x y : TermNo) → isUnder rows x y ≡ false
 

@@ -1,8 +1,8 @@
 // The order of blocks that the le literals of a branch and its class terms come to, in rows of bits that the caller lends: bit y of row x, ROW words from x * ROW on, says that block x is under block y.
-use order_search::PAIRS;
 use order_search::plan;
 use packing::LiteralView;
 use packing::literals::view;
+use pairs::PAIRS;
 use partition::either;
 use table::NUMBERS;
 use table::wide;
@@ -18,9 +18,9 @@ ghost use Rattle.packing.specs.Packing.{unpackLiteral, Small};
 ghost use Rattle.table.specs.Held.{Entries};
 ghost use Rattle.mentions.specs.Mentions.{bitAt};
 ghost use Rattle.tree.specs.State.{IsBranch, branchOf};
-ghost use Rattle.order_search.specs.Search.{AtMostPairs};
+ghost use Rattle.pairs.specs.Pairs.{AtMostPairs};
 ghost use Rattle.partition.specs.Blocks.{blockOf, IsPartition};
-ghost use Rattle.class_order.specs.Rows.{isUnder, Words, RaisedWord, Raised, RaisedLiteral, Passed, Composed, RaisedClass, Cleared, Reflexive, Filled};
+ghost use Rattle.class_order.specs.Rows.{isUnder, Words, RaisedWord, Raised, RaisedLiteral, Passed, Composed, RaisedClass, Empty, Reflexive, Filled};
 
 // The words of a row: a bit for each number.
 const ROW: usize = 16;
@@ -128,8 +128,8 @@ fn raise_pair(rows: &mut [u64; WORDS], pair: u32)
     requires { ⌜ Words (now rows) ⌝ }
     ensures { λ _. ⌜ Composed (now (rows .entry)) (now (rows .exit)) ⌝ }
 {
-    let x = (pair / 1024 % 1024) as usize;
-    let y = (pair % 1024) as usize;
+    let x = pairs::first(pair);
+    let y = pairs::second(pair);
     if is_under(&*rows, x, y) {
         raise(rows, x, y);
     }
@@ -161,17 +161,6 @@ fn hasten(
     raise_pairs(rows, &pairs, count);
 }
 
-fn clear(rows: &mut [u64; WORDS])
-    requires { ⌜ length (now rows) ≡ 16384 ⌝ }
-    ensures { λ _. ⌜ Cleared (now (rows .exit)) ⌝ }
-{
-    let mut i = 0;
-    while i < WORDS {
-        rows[i] = 0;
-        i += 1;
-    }
-}
-
 // Where the packed term t is a class, its block is under itself.
 fn raise_class(blocks: &[u16; NUMBERS], rows: &mut [u64; WORDS], packed: u64, t: usize)
     requires { ⌜ IsPartition (now blocks) × Words (now rows) × Small t ⌝ }
@@ -187,7 +176,7 @@ fn raise_class(blocks: &[u16; NUMBERS], rows: &mut [u64; WORDS], packed: u64, t:
 // The blocks of class terms are under themselves.
 fn reflexive(blocks: &[u16; NUMBERS], rows: &mut [u64; WORDS], terms: &[u64; NUMBERS], n: usize)
     requires { ⌜ ((table : Table) × Entries table (now terms) × (length table ≡ n)) ⌝ }
-    requires { ⌜ IsPartition (now blocks) × Cleared (now rows) ⌝ }
+    requires { ⌜ IsPartition (now blocks) × Empty (now rows) ⌝ }
     ensures { λ _. ⌜ ((table : Table) → Entries table (now (terms .entry)) → length table ≡ n → Reflexive table (now (blocks .entry)) (now (rows .exit))) ⌝ }
 {
     let mut t = 1;
@@ -197,7 +186,7 @@ fn reflexive(blocks: &[u16; NUMBERS], rows: &mut [u64; WORDS], terms: &[u64; NUM
     }
 }
 
-// The order that the branch's le literals and the class terms come to.
+// Fills empty rows with the order that the branch's le literals and the class terms come to.
 pub fn fill_rows(
     blocks: &[u16; NUMBERS],
     rows: &mut [u64; WORDS],
@@ -207,11 +196,10 @@ pub fn fill_rows(
     len: usize,
 )
     requires { ⌜ ((table : Table) × Entries table (now terms) × (length table ≡ n)) ⌝ }
-    requires { ⌜ IsPartition (now blocks) × (length (now rows) ≡ 16384) × IsBranch (now branch) len ⌝ }
+    requires { ⌜ IsPartition (now blocks) × Empty (now rows) × IsBranch (now branch) len ⌝ }
     ensures { λ _. ⌜ ((table : Table) → Entries table (now (terms .entry)) → length table ≡ n
         → Filled table (now (blocks .entry)) (now (rows .exit)) (branchOf (now (branch .entry)) len)) ⌝ }
 {
-    clear(rows);
     reflexive(blocks, rows, terms, n);
     pass(blocks, rows, branch, len);
     hasten(blocks, rows, branch, len);

@@ -1,7 +1,7 @@
 // Terms with one word and equal arguments are equal. The signature of a term is its packed form with the block of each argument in the argument's place; the chains of the term table lead from a
 // signature to a term that has it.
-use congruence_search::PAIRS;
 use congruence_search::plan;
+use pairs::PAIRS;
 use partition::either;
 use partition::join;
 use syntax::Arguments;
@@ -16,7 +16,7 @@ ghost use Rattle.tableau.specs.Terms.{maxTerms};
 ghost use Rattle.syntax.specs.Syntax.{argumentsIn};
 ghost use Rattle.packing.specs.Packing.{Small, AllSmall};
 ghost use Rattle.table.specs.Held.{Chains};
-ghost use Rattle.congruence_search.specs.Search.{AtMostPairs};
+ghost use Rattle.pairs.specs.Pairs.{AtMostPairs};
 ghost use Rattle.partition.specs.Blocks.{blockOf, IsPartition};
 ghost use Rattle.congruence.specs.Signatures.{signatureOf, signOf, JoinedSigned, JoinedAlike, JoinedSome};
 
@@ -109,8 +109,8 @@ fn join_pair(blocks: &mut [u16; NUMBERS], terms: &[u64; NUMBERS], pair: u32) -> 
     requires { ⌜ IsPartition (now blocks) ⌝ }
     ensures { λ r. ⌜ JoinedSome (now (terms .entry)) (now (blocks .entry)) (now (blocks .exit)) r ⌝ }
 {
-    let t = (pair / 1024 % 1024) as usize;
-    let w = (pair % 1024) as usize;
+    let t = pairs::first(pair);
+    let w = pairs::second(pair);
     let x = terms[t];
     if !packing::term_codes::takes_terms(x) {
         return false;

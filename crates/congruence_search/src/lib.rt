@@ -5,6 +5,7 @@
 use packing::term_codes::fields;
 use packing::term_codes::takes_terms;
 use packing::term_codes::with_fields;
+use pairs::PAIRS;
 use syntax::Arguments;
 use table::NUMBERS;
 use table::wide;
@@ -13,10 +14,8 @@ ghost use Prim.Native.Nat.{_≤_, _<_};
 ghost use Rattle.tableau.specs.Terms.{maxTerms};
 ghost use Rattle.syntax.specs.Syntax.{argumentsIn};
 ghost use Rattle.packing.specs.Packing.{Small, AllSmall};
-ghost use Rattle.congruence_search.specs.Search.{Within, AtMostPairs};
-
-// No more terms than there are can be joined. A pair x, y is the number x * NUMBERS + y.
-pub const PAIRS: usize = 1024;
+ghost use Rattle.pairs.specs.Pairs.{AtMostPairs};
+ghost use Rattle.congruence_search.specs.Search.{Within};
 
 // Arrays in one: seven of NUMBERS cells, then three of LONG. Numbers are cut to LONG, so that no index passes the end of all; callers cut
 // to NUMBERS for the seven short ones.
@@ -328,16 +327,11 @@ fn note(pairs: &mut [u32; PAIRS], s: Search, x: usize, y: usize) -> Search
     requires { ⌜ Within s × Small x × Small y ⌝ }
     ensures { λ r. ⌜ Within r ⌝ }
 {
-    let n = s.pairs;
-    if PAIRS <= n {
-        return s;
-    }
-    pairs[n] = (x * NUMBERS + y) as u32;
     Search {
         front: s.front,
         waiting: s.waiting,
         entries: s.entries,
-        pairs: n + 1,
+        pairs: pairs::note(pairs, s.pairs, x, y),
     }
 }
 

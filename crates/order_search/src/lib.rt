@@ -4,6 +4,7 @@
 // Nothing is promised of the pairs but their number: whoever follows them takes a pair only where the rows already say that it holds, so that a search that errs costs time and nothing else.
 use packing::LiteralView;
 use packing::literals::view;
+use pairs::PAIRS;
 use table::NUMBERS;
 use table::wide;
 use tableau::TermNumber;
@@ -11,10 +12,8 @@ use tree::Tree;
 ghost use Prim.Native.Nat.{_≤_, _<_};
 ghost use Rattle.packing.specs.Packing.{Small};
 ghost use Rattle.tree.specs.State.{IsBranch};
-ghost use Rattle.order_search.specs.Search.{Within, AtMostPairs};
-
-// Room for a pair from each literal, and one from each block. A pair x, y is the number x * NUMBERS + y.
-pub const PAIRS: usize = 2048;
+ghost use Rattle.pairs.specs.Pairs.{AtMostPairs};
+ghost use Rattle.order_search.specs.Search.{Within};
 
 // Each step takes a literal or a block off, so that these are enough.
 const STEPS: usize = 4096;
@@ -130,16 +129,11 @@ fn note(pairs: &mut [u32; PAIRS], s: Search, x: usize, y: usize) -> Search
     requires { ⌜ Within s × Small x × Small y ⌝ }
     ensures { λ r. ⌜ Within r ⌝ }
 {
-    let n = s.pairs;
-    if PAIRS <= n {
-        return s;
-    }
-    pairs[n] = (x * NUMBERS + y) as u32;
     Search {
         depth: s.depth,
         stack: s.stack,
         found: s.found,
-        pairs: n + 1,
+        pairs: pairs::note(pairs, s.pairs, x, y),
     }
 }
 

@@ -1,20 +1,51 @@
+use mathlib.Core.Path.{refl}
 use borrow.Author.Needs.{needs}
-use Rattle.background.proofs.RoundLaws.{round-alike, round-rest}
+use Rattle.class_order.proofs.WordLaws.{no-bits}
+use Rattle.background.proofs.RoundLaws.{round-alike, none-alike, round-mutual, round-settled}
 use Rattle.background.proofs.round.Statement.{statement}
 use Rattle.background.proofs.round.Tie as tie
 
 returns : tie.Need-returns
-returns c = let a = c .before in round-alike _ _ _ _ _ _ _ (a .before .before .pre .1 .1) (c .if1 .taken) (a .join-congruent .ensures)
+returns c = let j = c .before in round-alike _ _ _ _ _ _ _ _ (c .if1 .taken) (j .before .before .join-literals .ensures) (j .join-congruent .ensures)
+
+fill-rows-requires : tie.Need-fill-rows-requires
+fill-rows-requires c κs =
+    let j = c .before .before .before in
+    let s = j .before .before .before .before in
+    (s .pre .0, (j .join-congruent .ensures .change .partition, no-bits _ refl, s .pre .1 .1))
 
 returns-2 : tie.Need-returns-2
 returns-2 c =
-    let f = c .before .before .before in
+    let a = c .before in
+    let f = a .before .before .before in
     let e = f .before .before .before in
-    let a = e .before in
-    let s = a .before .before in
-    let G = s .pre .0 in
-    round-rest _ _ _ _ _ (s .args .branch .now) _ (s .args .len) _ _ (e .if1 .left) (a .join-congruent .ensures) (f .fill-rows .ensures) (c .antisymmetry .ensures)
-    (f .fill-rows .ensures (G .0) (G .1) (G .2) .words .size)
+    let j = e .before in
+    let l = j .before .before in
+    let s = l .before .before .args in
+    round-mutual _ _ _ _ _ (s .branch .now) _ (s .len) _ _ (none-alike _ _ _ _ _ _ _ _ (e .if1 .left) (l .join-literals .ensures) (j .join-congruent .ensures)) (f .fill-rows .ensures)
+    (a .antisymmetry .ensures) (c .if2 .taken)
+
+returns-3 : tie.Need-returns-3
+returns-3 c =
+    let i = c .before .before .before in
+    let a = i .before in
+    let f = a .before .before .before in
+    let e = f .before .before .before in
+    let j = e .before in
+    let l = j .before .before in
+    let s = l .before .before .args in
+    round-settled _ _ _ _ _ (s .branch .now) _ (s .len) _ _ (none-alike _ _ _ _ _ _ _ _ (e .if1 .left) (l .join-literals .ensures) (j .join-congruent .ensures)) (f .fill-rows .ensures)
+    (a .antisymmetry .ensures) _ (i .if2 .left) (c .contradicts .ensures)
 
 pub round-spec : {M : Type 1} → statement M
-round-spec = tie.close (tie.spec (λ c κs. search needs) returns (λ c κs. search needs) (λ c κs. search needs) returns-2)
+round-spec =
+    tie.close
+    (tie.spec
+    (λ c κs. search needs)
+    (λ c κs. search needs)
+    returns
+    fill-rows-requires
+    (λ c κs. search needs)
+    (λ c κs. search needs)
+    returns-2
+    returns-3)

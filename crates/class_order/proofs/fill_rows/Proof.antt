@@ -13,30 +13,27 @@ Inv-loop blocks rows₀ terms n branch len more₀ rows more = FillPart blocks r
 abbrev μ-loop : tie.MeasureT-loop
 μ-loop blocks rows₀ terms n branch len more₀ rows more = room 16384 rows + oneIf more
 
-reflexive-requires : tie.Need-reflexive-requires Inv-loop μ-loop
-reflexive-requires c κs = let s = c .before .before .before in (s .pre .0, (s .pre .1 .0, c .before .clear .ensures))
-
 pass-requires : tie.Need-pass-requires Inv-loop μ-loop
 pass-requires c κs =
-    let s = c .before .before .before .before .before in
+    let s = c .before .before .before in
     let G = s .pre .0 in
     (s .pre .1 .0, c .before .reflexive .ensures (G .0) (G .1) (G .2) .words, s .pre .1 .2)
 
 hasten-requires : tie.Need-hasten-requires Inv-loop μ-loop
-hasten-requires c κs = (c .before .pass .ensures .change .words, c .before .before .before .before .before .before .before .pre .1 .2)
+hasten-requires c κs = (c .before .pass .ensures .change .words, c .before .before .before .before .before .pre .1 .2)
 
 loop-holds : tie.Need-loop-holds Inv-loop μ-loop
 loop-holds c =
     let p = c .before .before in
     let r = p .before .before in
-    let s = r .before .before .before .before in
+    let s = r .before .before in
     let S = s .pre .1 .0 in
     fill-composed _ _ _ _ _ _ _ _ S (fill-more _ _ _ _ _ _ _ _ _ S (fill-none _ _ _ _ _ _ (s .pre .0) (r .reflexive .ensures)) (p .pass .ensures)) (c .hasten .ensures)
 
 pass-requires-2 : tie.Need-pass-requires-2 Inv-loop μ-loop
 pass-requires-2 c κs =
     let l = c .before .before in
-    let s = l .before .before .before .before .before .before .before .before .before in
+    let s = l .before .before .before .before .before .before .before in
     (s .pre .1 .0, l .loop .inv .words, s .pre .1 .2)
 
 loop-less : tie.Need-loop-less Inv-loop μ-loop
@@ -45,7 +42,7 @@ loop-less c = let l = c .before .before .before in fill-less (l .loop .more) (c 
 loop-again : tie.Need-loop-again Inv-loop μ-loop
 loop-again c =
     let l = c .before .before .before in
-    let s = l .before .before .before .before .before .before .before .before .before in
+    let s = l .before .before .before .before .before .before .before in
     fill-more _ _ _ _ _ _ _ _ _ (s .pre .1 .0) (l .loop .inv) (c .pass2 .ensures)
 
 returns : tie.Need-returns Inv-loop μ-loop
@@ -58,7 +55,6 @@ fill-rows-spec =
     Inv-loop
     μ-loop
     (λ c κs. search needs)
-    reflexive-requires
     pass-requires
     hasten-requires
     loop-holds

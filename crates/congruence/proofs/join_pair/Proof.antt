@@ -1,5 +1,4 @@
 use mathlib.Core.Path.{sym, _∙_}
-use native.Mathlib.Omega.{arith}
 use borrow.Author.Needs.{needs}
 use borrow.Author.Tests.{not-false}
 use Rattle.partition.proofs.JoinLaws.{unchanged}
@@ -8,7 +7,9 @@ use Rattle.congruence.proofs.join_pair.Statement.{statement}
 use Rattle.congruence.proofs.join_pair.Tie as tie
 
 join-requires : tie.Need-join-requires
-join-requires c κs = let s = c .before .before .before .before .before .before .before .before .before .before in (s .pre, omega arith, omega arith)
+join-requires c κs =
+    let w = c .before .before .before .before .before .before .before .before .before .before in
+    (w .before .before .pre, w .before .first .ensures, w .second .ensures)
 
 returns-3 : tie.Need-returns-3
 returns-3 c =
@@ -21,7 +22,7 @@ returns-3 c =
       partition = J .change .partition;
       coarser = J .change .coarser;
       fewer = J .change .fewer;
-      sound = λ table B E C. J .change .sound table B (signed-follow table _ E B _ (takes .before .before .before .pre) C _ _
+      sound = λ table B E C. J .change .sound table B (signed-follow table _ E B _ (takes .before .before .before .before .before .pre) C _ _
           (sym (takes .before .takes-terms .ensures) ∙ not-false _ (takes .if1 .left)) (sym (first .signature .ensures) ∙ e .if2 .left ∙ second .signature2 .ensures)) C;
     }
 
@@ -29,16 +30,16 @@ pub join-pair-spec : {M : Type 1} → statement M
 join-pair-spec =
     tie.close
     (tie.spec
-    (λ c. search needs)
-    (λ c. search needs)
-    (λ c. search needs)
-    (λ c. search needs)
     (λ c κs. search needs)
-    (λ c. unchanged _ _ (c .before .before .before .pre))
     (λ c κs. search needs)
     (λ c. search needs)
     (λ c. search needs)
     (λ c κs. search needs)
-    (λ c. unchanged _ _ (c .before .before .before .before .before .before .before .before .before .pre))
+    (λ c. unchanged _ _ (c .before .before .before .before .before .pre))
+    (λ c κs. search needs)
+    (λ c. search needs)
+    (λ c. search needs)
+    (λ c κs. search needs)
+    (λ c. unchanged _ _ (c .before .before .before .before .before .before .before .before .before .before .before .pre))
     join-requires
     returns-3)
