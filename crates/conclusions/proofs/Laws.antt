@@ -12,14 +12,18 @@ use Rattle.tableau.specs.declared.Rule.{Rule}
 use Rattle.tableau.specs.Words.{ruleNames}
 use Rattle.tableau.specs.Fields.{ThirdField, TermField, unused, side, clause, term, of, ruleFields}
 use Rattle.tableau.specs.Terms.{Table, Literal}
+use Rattle.tableau.specs.Rules.{Kind, rows, congruence, replacement, disjunction, background, rule}
+use Rattle.tableau.specs.Steps.{conclude}
 use Rattle.tableau.specs.Tree.{answer}
+use Rattle.tableau.proofs.Bools.{clash}
 use Rattle.tableau.proofs.Places.{rules, placeOf, allOf, every-rule, same-rule}
 use Rattle.syntax.specs.Syntax.{kindOf}
 use Rattle.packing.specs.declared.LiteralView.{LiteralView}
 use Rattle.table.specs.Held.{Searchable}
 use Rattle.rules.specs.declared.outcome.Outcome.{Outcome}
-use Rattle.rules.specs.Answer.{Concludes, ConcludesFresh}
-use Rattle.conclusions.specs.Infers.{atPlace, ThirdGiven, TermGiven, Given, Infers}
+use Rattle.rules.specs.Answer.{Room, answerOf, Concludes, ConcludesFresh}
+use Rattle.equality_rules.specs.Closing.{closesWhere}
+use Rattle.conclusions.specs.Infers.{atPlace, ThirdGiven, TermGiven, Given, wholeBranch, isBackground, Infers}
 
 -- THE NUMBERS that a rule's function speaks of: 0 for a field that the rule does not use
 abbrev thirdOf : ThirdField → ℕ → ℕ
@@ -50,31 +54,62 @@ fourth-of (of s) n h = refl
 pub given-as : {x y : Rule} {t w : ℕ} → x ≡ y → Given x t w → Given y t w
 given-as {t = t} {w = w} e g = subst (λ (z : Rule). Given z t w) e g
 
--- WHAT A STEP INFERS is what the function of its rule concludes
-same-answer : (table : Table) (fresh : Freshness) (P Q : Option Literal) (t w : ℕ) (x : Rule) → Given x t w
-    → answer table fresh P Q [] false t w x ≡ answer table fresh P Q [] false (thirdOf (ruleFields x .t) t) (fourthOf (ruleFields x .w) w) x
-same-answer table fresh P Q t w x g =
-    ap₂ (λ (k l : ℕ). answer table fresh P Q [] false k l x) (third-of (ruleFields x .t) t (g .third)) (fourth-of (ruleFields x .w) w (g .fourth))
+-- A RULE THAT DOES NOT LOOK AT THE WHOLE BRANCH answers the same whatever that says
+module _ (table : Table) (P Q : Option Literal) (D : List Literal) (E F : Bool) (t w : ℕ) where
+  same-conclusion : (k : Kind) → wholeBranch k ≡ false → conclude table P Q t w D E k ≡ conclude table P Q t w D F k
+  unfolding conclude
+  same-conclusion (rows Rs) h = refl
+  same-conclusion congruence h = refl
+  same-conclusion replacement h = refl
+  same-conclusion disjunction h = refl
+  same-conclusion background h = clash refl h
 
-module _ {x y : Rule} {P Q : LiteralView} {t w : ℕ} {fresh : Freshness} {terms chains : List ℕ} {r : Outcome} {A : Table → Type 0} (e : x ≡ y)
-    (g : Given x t w) (f : (table : Table) → Searchable table terms chains → A table) where
-  as-rule : Infers y P Q t w fresh terms chains r → Infers x P Q t w fresh terms chains r
-  as-rule i = subst (λ (z : Rule). Infers z P Q t w fresh terms chains r) (sym e) i
+  pub same-whatever : (fresh : Freshness) (x : Rule) → isBackground x ≡ false → answer table fresh P Q D E t w x ≡ answer table fresh P Q D F t w x
+  unfolding answer
+  same-whatever fresh x b = rw (same-conclusion (rule x) b)
+
+-- WHAT A STEP INFERS is what the function of its rule concludes
+same-answer : (table : Table) (fresh : Freshness) (P Q : Option Literal) (E : Bool) (t w : ℕ) (x : Rule) → isBackground x ≡ false → Given x t w
+    → answer table fresh P Q [] E t w x ≡ answer table fresh P Q [] false (thirdOf (ruleFields x .t) t) (fourthOf (ruleFields x .w) w) x
+same-answer table fresh P Q E t w x b g = same-whatever table P Q [] E false t w fresh x b
+    ∙ (ap₂ (λ (k l : ℕ). answer table fresh P Q [] false k l x) (third-of (ruleFields x .t) t (g .third)) (fourth-of (ruleFields x .w) w (g .fourth)))
+
+module _ {x y : Rule} {P Q : LiteralView} {t w : ℕ} {fresh : Freshness} {E : Bool} {terms chains : List ℕ} {r : Outcome} {A : Table → Type 0} (e : x ≡ y)
+    (b : isBackground y ≡ false) (g : Given x t w) (f : (table : Table) → Searchable table terms chains → A table) where
+  as-rule : Infers y P Q t w fresh E terms chains r → Infers x P Q t w fresh E terms chains r
+  as-rule i = subst (λ (z : Rule). Infers z P Q t w fresh E terms chains r) (sym e) i
 
   pub infers : Concludes A y (atPlace (ruleFields y .p) P) (atPlace (ruleFields y .q) Q) (thirdOf (ruleFields y .t) t) (fourthOf (ruleFields y .w) w) r
-      → Infers x P Q t w fresh terms chains r
+      → Infers x P Q t w fresh E terms chains r
   infers C = as-rule record {
     room = C .room;
-    answers = λ table S. same-answer table fresh (atPlace (ruleFields y .p) P) (atPlace (ruleFields y .q) Q) t w y (given-as e g) ∙ C .answers table (f table S) fresh;
+    answers = λ table S. same-answer table fresh (atPlace (ruleFields y .p) P) (atPlace (ruleFields y .q) Q) E t w y b (given-as e g) ∙ C .answers table (f table S) fresh;
   }
 
   -- the same for a rule that asks for a fresh w
   pub infers-fresh : ConcludesFresh A fresh y (atPlace (ruleFields y .p) P) (atPlace (ruleFields y .q) Q) (thirdOf (ruleFields y .t) t) (fourthOf (ruleFields y .w) w) r
-      → Infers x P Q t w fresh terms chains r
+      → Infers x P Q t w fresh E terms chains r
   infers-fresh C = as-rule record {
     room = C .room;
-    answers = λ table S. same-answer table fresh (atPlace (ruleFields y .p) P) (atPlace (ruleFields y .q) Q) t w y (given-as e g) ∙ C .answers table (f table S);
+    answers = λ table S. same-answer table fresh (atPlace (ruleFields y .p) P) (atPlace (ruleFields y .q) Q) E t w y b (given-as e g) ∙ C .answers table (f table S);
   }
+
+-- `bck` closes where the branch contradicts itself
+background-answer : (table : Table) (fresh : Freshness) (P Q : Option Literal) (E : Bool) (t w : ℕ) → answer table fresh P Q [] E t w Rule.Bck ≡ answerOf (closesWhere E)
+unfolding answer conclude rule
+background-answer table fresh P Q true t w = refl
+background-answer table fresh P Q false t w = refl
+
+closes-room : (E : Bool) → Room (closesWhere E)
+closes-room true = tt
+closes-room false = tt
+
+pub infers-background : {x : Rule} {P Q : LiteralView} {t w : ℕ} {fresh : Freshness} {terms chains : List ℕ} {r : Outcome} → x ≡ Rule.Bck → (E : Bool) → r ≡ closesWhere E
+    → Infers x P Q t w fresh E terms chains r
+infers-background {P = P} {Q = Q} {t = t} {w = w} {fresh = fresh} {terms = terms} {chains = chains} {r = r} e E q = subst (λ (z : Rule). Infers z P Q t w fresh E terms chains r) (sym e) record {
+  room = subst Room (sym q) (closes-room E);
+  answers = λ table S. background-answer table fresh _ _ E t w ∙ ap answerOf (sym q);
+}
 
 -- FIELD t: only that of `rep` is a side, and only that of `cla` a clause number
 abbrev hasKind : ℕ → Rule → Bool

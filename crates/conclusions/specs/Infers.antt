@@ -1,6 +1,6 @@
 -- What a rule is given, and what it answers: checks 12 to 14.
 use mathlib.Core.Path.{_≡_}
-use mathlib.Core.Bool.{false}
+use mathlib.Core.Bool.{Bool, true, false}
 use mathlib.Core.List.{List, []}
 use mathlib.Core.Option.{Option, none, some}
 use Prim.Native.Nat.{ℕ}
@@ -8,6 +8,7 @@ use Rattle.tableau.specs.declared.Freshness.{Freshness}
 use Rattle.tableau.specs.declared.Rule.{Rule}
 use Rattle.tableau.specs.Fields.{PlaceField, ThirdField, TermField, unused, place, side, clause, term, of, ruleFields}
 use Rattle.tableau.specs.Terms.{Table, Literal}
+use Rattle.tableau.specs.Rules.{Kind, rows, congruence, replacement, disjunction, background, rule}
 use Rattle.tableau.specs.Tree.{answer}
 use Rattle.packing.specs.declared.LiteralView.{LiteralView}
 use Rattle.packing.specs.Packing.{literalOf, Small}
@@ -37,8 +38,19 @@ pub record Given (x : Rule) (t w : ℕ) : Type 0 where
   pub third : ThirdGiven (ruleFields x .t) t
   pub fourth : TermGiven (ruleFields x .w) w
 
--- the outcome is the answer of rule x, which looks at no clause and not at the whole branch
-pub record Infers (x : Rule) (P Q : LiteralView) (t w : ℕ) (fresh : Freshness) (terms chains : List ℕ) (r : Outcome) : Type 0 where
+-- the rule that looks at the whole branch
+abbrev pub wholeBranch : Kind → Bool
+wholeBranch (rows Rs) = false
+wholeBranch congruence = false
+wholeBranch replacement = false
+wholeBranch disjunction = false
+wholeBranch background = true
+
+abbrev pub isBackground : Rule → Bool
+isBackground x = wholeBranch (rule x)
+
+-- the outcome is the answer of rule x, which looks at no clause, where E says whether the branch contradicts itself
+pub record Infers (x : Rule) (P Q : LiteralView) (t w : ℕ) (fresh : Freshness) (E : Bool) (terms chains : List ℕ) (r : Outcome) : Type 0 where
   pub room : Room r
   pub answers : (table : Table) → Searchable table terms chains
-      → answer table fresh (atPlace (ruleFields x .p) P) (atPlace (ruleFields x .q) Q) [] false t w x ≡ answerOf r
+      → answer table fresh (atPlace (ruleFields x .p) P) (atPlace (ruleFields x .q) Q) [] E t w x ≡ answerOf r

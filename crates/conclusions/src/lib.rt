@@ -19,7 +19,7 @@ ghost use Rattle.syntax.specs.declared.ThirdField.{ThirdField as Third};
 ghost use Rattle.packing.specs.Packing.{SmallLiteral};
 ghost use Rattle.conclusions.specs.Infers.{Given, Infers};
 
-// The rules whose t is a term; `rep` and `cla` do not come here, and are refused. Nor is `bck` asked here: the answer to it is that of a branch which nothing contradicts.
+// The rules whose t is a term; `rep` and `cla` do not come here, and are refused.
 fn by_rule(
     rule: Rule,
     p: LiteralView,
@@ -27,12 +27,13 @@ fn by_rule(
     t: TermNumber,
     w: TermNumber,
     fresh: Freshness,
+    contradicted: bool,
     terms: &[u64; table::NUMBERS],
     chains: &[u16; table::LINKS],
 ) -> Outcome
     requires { ⌜ ((table : Table) × Searchable table (now terms) (now chains)) ⌝ }
     requires { ⌜ SmallLiteral p × SmallLiteral q × Given rule (t .0) (w .0) × ThirdFits (ruleFields rule .t) (Third.Term t) ⌝ }
-    ensures { λ r. ⌜ Infers rule p q (t .0) (w .0) fresh (now (terms .entry)) (now (chains .entry)) r ⌝ }
+    ensures { λ r. ⌜ Infers rule p q (t .0) (w .0) fresh contradicted (now (terms .entry)) (now (chains .entry)) r ⌝ }
 {
     match rule {
         Rule::Eqr => set_rules::eqr(p, q, terms),
@@ -66,11 +67,11 @@ fn by_rule(
         Rule::Emp => closing::emp(p, terms),
         Rule::Cla => Outcome::Refused(Reason::NeedNotMet),
         Rule::Fin => images::fin(p, terms, chains),
-        Rule::Bck => Outcome::Refused(Reason::NeedNotMet),
+        Rule::Bck => closing::bck(contradicted),
     }
 }
 
-// Every rule but `cla`, which does not come here either, and `bck`, as above.
+// Every rule but `cla`, which does not come here either. `contradicted` says whether the branch contradicts itself, if the rule asks for that.
 pub fn conclude(
     rule: Rule,
     p: LiteralView,
@@ -78,16 +79,17 @@ pub fn conclude(
     third: ThirdField,
     w: TermNumber,
     fresh: Freshness,
+    contradicted: bool,
     terms: &[u64; table::NUMBERS],
     chains: &[u16; table::LINKS],
 ) -> Outcome
     requires { ⌜ ((table : Table) × Searchable table (now terms) (now chains)) ⌝ }
     requires { ⌜ SmallLiteral p × SmallLiteral q × Given rule (thirdIn third) (w .0) × ThirdFits (ruleFields rule .t) third × NoClause third ⌝ }
-    ensures { λ r. ⌜ Infers rule p q (thirdIn third) (w .0) fresh (now (terms .entry)) (now (chains .entry)) r ⌝ }
+    ensures { λ r. ⌜ Infers rule p q (thirdIn third) (w .0) fresh contradicted (now (terms .entry)) (now (chains .entry)) r ⌝ }
 {
     match third {
         ThirdField::Side(side) => equality::rep(p, q, side),
-        ThirdField::Term(t) => by_rule(rule, p, q, t, w, fresh, terms, chains),
+        ThirdField::Term(t) => by_rule(rule, p, q, t, w, fresh, contradicted, terms, chains),
         // `cla` is no rule of these: its alternatives are the clause's.
         ThirdField::Clause(_) => Outcome::Refused(Reason::NeedNotMet),
     }

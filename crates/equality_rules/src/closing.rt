@@ -1,4 +1,4 @@
-// The rules that close: cls and emp.
+// The rules that close: cls, emp and bck.
 use packing::LiteralView;
 use packing::TermView;
 use rules::outcome::Outcome;
@@ -11,7 +11,7 @@ ghost use Rattle.tableau.specs.declared.Rule.{Rule};
 ghost use Rattle.tableau.specs.Terms.{Table};
 ghost use Rattle.packing.specs.Packing.{literalOf, SmallLiteral};
 ghost use Rattle.rules.specs.Answer.{IsNot, Anywhere, HeldBy, Concludes};
-ghost use Rattle.equality_rules.specs.Closing.{closesIf};
+ghost use Rattle.equality_rules.specs.Closing.{closesIf, closesWhere};
 
 // The same two terms, in the same order, close.
 fn closes(a: TermNumber, b: TermNumber, x: TermNumber, y: TermNumber) -> Outcome
@@ -80,4 +80,14 @@ pub fn emp(p: LiteralView, terms: &[u64; table::NUMBERS]) -> Outcome
         return Outcome::Refused(Reason::NeedNotMet);
     };
     Outcome::Closes
+}
+
+// A branch that its equalities and order contradict closes.
+pub fn bck(contradicted: bool) -> Outcome
+    ensures { λ r. ⌜ r ≡ closesWhere contradicted ⌝ }
+{
+    if contradicted {
+        return Outcome::Closes;
+    }
+    Outcome::Refused(Reason::NeedNotMet)
 }

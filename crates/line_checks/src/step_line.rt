@@ -6,7 +6,7 @@ use growth::grow;
 use lines::LineFields;
 use parsing::StepTaken;
 use steps::Inference;
-use steps::ask_fresh;
+use steps::ask;
 use steps::infer;
 use syntax::Step;
 use tableau::Letter;
@@ -51,9 +51,8 @@ fn take(
     let len = extent.len;
     let noted = progress.noted;
     let last = progress.clauses;
-    let asked = ask_fresh(step, branch, len, noted, terms, rows, prefix, n);
-    let fresh = asked.fresh;
-    let inference = infer(step, fresh, branch, len, last, terms, chains, n);
+    let asked = ask(step, branch, len, noted, terms, rows, prefix, n);
+    let inference = infer(step, asked, branch, len, last, terms, chains, n);
     let next = progress.after_step(rule, asked.noted);
     match inference {
         Inference::ByRule(outcome) => next.result(extent, grow(extent, outcome)),

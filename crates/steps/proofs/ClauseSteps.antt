@@ -1,4 +1,4 @@
--- Which steps look at a clause, and which at the whole branch: those of `cla` and of `bck` alone, and what they add.
+-- Which steps look at a clause: those of `cla` alone, and what they add.
 use mathlib.Core.Path.{_≡_, refl, sym, _∙_, ap}
 use mathlib.Core.Bool.{Bool, true, false, not, _&&_, _||_, cond}
 use mathlib.Core.List.{List, [], _∷_, map}
@@ -6,7 +6,6 @@ use mathlib.Core.Option.{Option}
 use Prim.Native.Nat.{ℕ, _<_}
 use native.Mathlib.Omega.{arith}
 use lib.Dec.{eqb, leb}
-use types.Run.{OneOf}
 use borrow.Author.Tests.{leb-true, ne-eqb, not-true}
 use Rattle.tableau.specs.declared.Freshness.{Freshness}
 use Rattle.tableau.specs.declared.ClauseNumber.{ClauseNumber}
@@ -18,70 +17,45 @@ use Rattle.tableau.specs.Words.{ruleNames}
 use Rattle.tableau.specs.Terms.{Table, Literal, Clauses, clauseOf, lastClause}
 use Rattle.tableau.specs.Rules.{Kind, rows, congruence, replacement, disjunction, background, rule}
 use Rattle.tableau.specs.Steps.{conclude}
-use Rattle.tableau.specs.Saturation.{contradicted}
 use Rattle.tableau.specs.Tree.{passed, isClause, isThere, answer, alternatives}
-use Rattle.tableau.specs.Reply.{zeroIfUnused, stepLine}
 use Rattle.tableau.proofs.Bools.{clash}
 use Rattle.tableau.proofs.ClauseLaws.{InSequence}
-use Rattle.tableau.proofs.Places.{rules, placeOf, placesBut, every-rule, same-rule, other-rule}
+use Rattle.tableau.proofs.Places.{rules, every-rule}
 use Rattle.syntax.specs.declared.Step.{Step}
 use Rattle.syntax.specs.declared.ThirdField as declared
 use Rattle.syntax.specs.Syntax.{kindOf, thirdIn, stepFields}
 use Rattle.clauses.proofs.Laws.{is-clause}
 use Rattle.rules.specs.declared.outcome.Outcome.{Outcome}
 use Rattle.steps.specs.declared.inferring.Inference.{Inference}
-use Rattle.steps.specs.Inference.{inferredIn, namedUpTo, isBackground, closingIf, RoomFor}
+use Rattle.steps.specs.Inference.{inferredIn, namedUpTo, RoomFor}
 use Rattle.steps.proofs.CheckLaws.{and-true}
 
--- the rules that look at a clause, and at the whole branch
-abbrev looksFurther : Kind → Bool
-looksFurther (rows Rs) = false
-looksFurther congruence = false
-looksFurther replacement = false
-looksFurther disjunction = true
-looksFurther background = true
+-- the rules that look at a clause
+abbrev looksAtClause : Kind → Bool
+looksAtClause (rows Rs) = false
+looksAtClause congruence = false
+looksAtClause replacement = false
+looksAtClause disjunction = true
+looksAtClause background = false
 
--- a rule of another kind concludes the same of any clause and branch
+-- a rule of another kind concludes the same of any clause
 module _ (table : Table) (P Q : Option Literal) (t w : ℕ) (D : List Literal) (E : Bool) where
-  same-conclusion : (k : Kind) → looksFurther k ≡ false → conclude table P Q t w D E k ≡ conclude table P Q t w [] false k
+  same-conclusion : (k : Kind) → looksAtClause k ≡ false → conclude table P Q t w D E k ≡ conclude table P Q t w [] E k
   unfolding conclude
   same-conclusion (rows Rs) h = refl
   same-conclusion congruence h = refl
   same-conclusion replacement h = refl
   same-conclusion disjunction h = clash refl h
-  same-conclusion background h = clash refl h
+  same-conclusion background h = refl
 
--- a rule that is neither `cla`, whose t is a clause's number, nor `bck`
-pub no-clause-asked : (table : Table) (fresh : Freshness) (P Q : Option Literal) (D : List Literal) (E : Bool) (t w : ℕ) (x : Rule) → kindOf (ruleFields x .t) < 2 → isBackground x ≡ false
-    → answer table fresh P Q D E t w x ≡ answer table fresh P Q [] false t w x
+-- a rule that is not `cla`, whose t is a clause's number
+pub no-clause-asked : (table : Table) (fresh : Freshness) (P Q : Option Literal) (D : List Literal) (E : Bool) (t w : ℕ) (x : Rule) → kindOf (ruleFields x .t) < 2
+    → answer table fresh P Q D E t w x ≡ answer table fresh P Q [] E t w x
 unfolding answer rules ruleNames ruleFields rule
-no-clause-asked table fresh P Q D E t w x h b =
-    let e = every-rule (λ y. eqb (kindOf (ruleFields y .t)) 2 || (isBackground y || not (looksFurther (rule y)))) refl x in
-    let n = not-true _ (rw (ne-eqb (kindOf (ruleFields x .t)) 2 (λ z. omega arith), b) at e) in
+no-clause-asked table fresh P Q D E t w x h =
+    let e = every-rule (λ y. eqb (kindOf (ruleFields y .t)) 2 || not (looksAtClause (rule y))) refl x in
+    let n = not-true _ (rw (ne-eqb (kindOf (ruleFields x .t)) 2 (λ z. omega arith)) at e) in
     rw (same-conclusion table P Q t w D E (rule x) n)
-
--- `bck` CLOSES where the branch's equalities and order contradict it: it uses no field, so that no other check is met
-bck-answer : (C : Clauses) (b : Bool) (table : Table) (fresh : Freshness) (P Q : Option Literal) (D : List Literal) (t w : ℕ) → answer table fresh P Q D b t w Rule.Bck ≡ inferredIn C (closingIf b)
-unfolding answer conclude rule
-bck-answer C true table fresh P Q D t w = refl
-bck-answer C false table fresh P Q D t w = refl
-
-pub bck-line : (table : Table) (C : Clauses) (B : List Literal) (s : Step) → isBackground (s .rule) ≡ true → every zeroIfUnused (ruleUses (s .rule)) (stepFields s) ≡ true
-    → inferredIn C (closingIf (contradicted table B)) ≡ stepLine table C B (s .rule) (stepFields s)
-unfolding stepLine alternatives rules ruleNames rule ruleFields
-bck-line table C B s b z =
-    let e = every-rule (λ y. not (isBackground y) || eqb (placeOf y) (placeOf Rule.Bck)) refl (s .rule) in
-    let x : s .rule ≡ Rule.Bck = same-rule (s .rule) Rule.Bck (rw b at e) in
-    rw z (rw x (sym (bck-answer C (contradicted table B) table _ _ _ _ _ _)))
-
-pub others-not-background : (x : Rule) → OneOf (placesBut (Rule.Bck ∷ [])) (placeOf x) → isBackground x ≡ false
-unfolding rules ruleNames rule
-others-not-background x o = not-true _ (other-rule (λ y. not (isBackground y)) (Rule.Bck ∷ []) refl refl x o)
-
--- what a closing, or its refusal, asks of the tree
-pub closing-room : (last : ℕ) (b : Bool) → RoomFor last (closingIf b)
-closing-room last true = tt
-closing-room last false = tt
 
 -- `cla` adds the literals of its clause
 pub cla-answer : (table : Table) (C : Clauses) (s : Step) {k : ClauseNumber} (fresh : Freshness) (P Q : Option Literal) (E : Bool) (w : ℕ) → s .rule ≡ Rule.Cla → s .t ≡ declared.ThirdField.Clause k

@@ -1,13 +1,11 @@
 -- What a step adds, as the specification has it.
-use mathlib.Core.Bool.{Bool, true, false, _&&_, cond}
+use mathlib.Core.Bool.{_&&_, cond}
 use mathlib.Core.List.{List, [], _∷_, map}
 use Prim.Native.Nat.{ℕ, _≤_}
 use lib.Dec.{leb}
 use Rattle.tableau.specs.declared.ClauseNumber.{ClauseNumber}
 use Rattle.tableau.specs.declared.Reason.{Reason}
-use Rattle.tableau.specs.declared.Rule.{Rule}
 use Rattle.tableau.specs.Terms.{Literal, Clauses, clauseOf}
-use Rattle.tableau.specs.Rules.{Kind, rows, congruence, replacement, disjunction, background, rule}
 use Rattle.tableau.specs.Tree.{Checked, passed}
 use Rattle.rules.specs.declared.outcome.Outcome.{Outcome}
 use Rattle.rules.specs.Answer.{Room, answerOf}
@@ -20,21 +18,6 @@ inferredIn C (Inference.ByClause k) = passed (map (λ l. l ∷ []) (clauseOf C (
 -- `cla` on clause k, where this is the number of the last
 abbrev pub namedUpTo : ℕ → ClauseNumber → Inference
 namedUpTo last k = cond (leb 1 (k .0) && leb (k .0) last) (Inference.ByClause k) (Inference.ByRule (Outcome.Refused Reason.NoSuchPlace))
-
--- the rule that looks at the whole branch, and what it infers from whether the branch's equalities and order contradict it
-abbrev pub wholeBranch : Kind → Bool
-wholeBranch (rows Rs) = false
-wholeBranch congruence = false
-wholeBranch replacement = false
-wholeBranch disjunction = false
-wholeBranch background = true
-
-abbrev pub isBackground : Rule → Bool
-isBackground x = wholeBranch (rule x)
-
-abbrev pub closingIf : Bool → Inference
-closingIf true = Inference.ByRule Outcome.Closes
-closingIf false = Inference.ByRule (Outcome.Refused Reason.NeedNotMet)
 
 -- the tree has room for an outcome's alternatives; a clause that is named is one of those up to the last
 abbrev pub RoomFor : ℕ → Inference → Type 0

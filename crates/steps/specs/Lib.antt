@@ -1,4 +1,4 @@
 pub mod Reading
 pub mod Checks
-pub mod Freshness
+pub mod Asking
 pub mod Inference

@@ -1,4 +1,4 @@
-// Is w fresh? Asked only where the rule asks it.
+// What a step asks of the whole branch: is w fresh, does the branch contradict itself? Asked only where the rule asks it.
 use syntax::Step;
 use tableau::Freshness;
 use tableau::Rule;
@@ -11,26 +11,38 @@ ghost use Rattle.table.specs.Held.{Entries};
 ghost use Rattle.mentions.specs.Mentions.{MentionRows};
 ghost use Rattle.freshness.specs.Prefixes.{PrefixRows};
 ghost use Rattle.tree.specs.State.{IsBranch};
-ghost use Rattle.steps.specs.Freshness.{asksFresh, Told};
+ghost use Rattle.conclusions.specs.Infers.{isBackground};
+ghost use Rattle.steps.specs.Asking.{asksBranch, Told};
 
-// Whether w is fresh, and how many literals have their rows after the test.
+// The answers, and how many literals have their rows after the test of w.
 pub struct Asked {
     pub fresh: Freshness,
+    pub contradicted: bool,
     pub noted: usize,
 }
 
-fn asks_fresh(rule: Rule) -> bool
-    ensures { λ r. ⌜ r ≡ asksFresh rule ⌝ }
+fn asks(rule: Rule) -> bool
+    ensures { λ r. ⌜ r ≡ asksBranch rule ⌝ }
 {
     match rule {
         Rule::Ext => true,
         Rule::Wit => true,
+        Rule::Bck => true,
+        _ => false,
+    }
+}
+
+fn is_background(rule: Rule) -> bool
+    ensures { λ r. ⌜ r ≡ isBackground rule ⌝ }
+{
+    match rule {
+        Rule::Bck => true,
         _ => false,
     }
 }
 
 // The first `noted` of the branch's len literals have their rows. A rule that does not ask looks at no answer: any serves.
-pub fn ask_fresh(
+pub fn ask(
     step: Step,
     branch: &[u32; Tree::PLACES],
     len: usize,
@@ -49,15 +61,24 @@ pub fn ask_fresh(
 {
     let rule = step.rule;
     let w = step.w;
-    if !asks_fresh(rule) {
+    if !asks(rule) {
         return Asked {
             fresh: Freshness::Fresh,
+            contradicted: false,
+            noted,
+        };
+    }
+    if is_background(rule) {
+        return Asked {
+            fresh: Freshness::Fresh,
+            contradicted: background::contradicted(terms, n, branch, len),
             noted,
         };
     }
     freshness::note(prefix, rows, n, branch, noted, len);
     Asked {
         fresh: freshness::test(terms, rows, &*prefix, n, branch, len, w),
+        contradicted: false,
         noted: len,
     }
 }

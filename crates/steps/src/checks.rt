@@ -23,7 +23,7 @@ ghost use Rattle.syntax.specs.Syntax.{NoClause, stepFields, WellTaken};
 ghost use Rattle.table.specs.Held.{Entries};
 ghost use Rattle.packing.specs.Packing.{Small};
 ghost use Rattle.steps.specs.Checks.{HasSorts};
-ghost use Rattle.steps.specs.Freshness.{TermsNamed};
+ghost use Rattle.steps.specs.Asking.{TermsNamed};
 
 // A term whose bit is not set is not asked for.
 fn made_if_used(n: usize, used: Mask, bit: u8, t: TermNumber) -> bool

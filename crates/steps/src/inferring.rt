@@ -1,4 +1,5 @@
 // An S line that was taken apart, as far as the alternatives that it adds.
+use crate::asking::Asked;
 use crate::checks;
 use crate::reading::literal;
 use conclusions::conclude;
@@ -6,25 +7,21 @@ use rules::outcome::Outcome;
 use syntax::Step;
 use syntax::ThirdField;
 use tableau::ClauseNumber;
-use tableau::Freshness;
 use tableau::Reason;
-use tableau::Rule;
 use tree::Tree;
 ghost use mathlib.Core.Path.{_≡_};
-ghost use mathlib.Core.Bool.{false};
 ghost use lib.ListN.{length};
 ghost use Rattle.tableau.specs.Terms.{Table, Clauses, lastClause};
-ghost use Rattle.tableau.specs.Saturation.{contradicted};
 ghost use Rattle.tableau.specs.Reply.{stepLine};
 ghost use Rattle.tableau.specs.Tree.{alternatives};
 ghost use Rattle.tableau.proofs.ClauseLaws.{InSequence};
 ghost use Rattle.syntax.specs.Syntax.{stepFields, WellTaken};
-ghost use Rattle.table.specs.Held.{Entries, Searchable};
+ghost use Rattle.table.specs.Held.{Searchable};
 ghost use Rattle.tree.specs.State.{IsBranch, branchOf};
 ghost use Rattle.rules.specs.declared.outcome.Outcome.{Outcome as Outcomes};
 ghost use Rattle.steps.specs.declared.inferring.Inference.{Inference as Inferred};
-ghost use Rattle.steps.specs.Freshness.{TellsFreshness, TermsNamed};
-ghost use Rattle.steps.specs.Inference.{RoomFor, inferredIn, namedUpTo, isBackground, closingIf};
+ghost use Rattle.steps.specs.Asking.{Tells, TermsNamed};
+ghost use Rattle.steps.specs.Inference.{RoomFor, inferredIn, namedUpTo};
 
 // What a step adds: the outcome of its rule, or, of `cla`, the literals of a clause, which is named.
 pub enum Inference {
@@ -48,38 +45,10 @@ fn by_clause(last: usize, k: ClauseNumber) -> Inference
     Inference::ByClause(k)
 }
 
-// The rule that looks at the whole branch.
-fn is_background(rule: Rule) -> bool
-    ensures { λ r. ⌜ r ≡ isBackground rule ⌝ }
-{
-    match rule {
-        Rule::Bck => true,
-        _ => false,
-    }
-}
-
-// `bck`: check 12, over a table of n terms. It uses no field, so that no other check can fail.
-fn by_background(
-    branch: &[u32; Tree::PLACES],
-    len: usize,
-    terms: &[u64; table::NUMBERS],
-    n: usize,
-) -> Inference
-    requires { ⌜ ((table : Table) × Entries table (now terms) × (length table ≡ n)) ⌝ }
-    requires { ⌜ IsBranch (now branch) len ⌝ }
-    ensures { λ r. ⌜ ((table : Table) → Entries table (now (terms .entry)) → length table ≡ n
-        → r ≡ closingIf (contradicted table (branchOf (now (branch .entry)) len))) ⌝ }
-{
-    if background::contradicted(terms, n, branch, len) {
-        return Inference::ByRule(Outcome::Closes);
-    }
-    refused(Reason::NeedNotMet)
-}
-
-// Checks 11 to 14 of a line that passed those before, and is no `bck`; `last` is the number of the last clause.
+// Checks 11 to 14 of a line that passed those before; `last` is the number of the last clause.
 fn added(
     step: Step,
-    fresh: Freshness,
+    asked: Asked,
     branch: &[u32; Tree::PLACES],
     len: usize,
     last: usize,
@@ -87,10 +56,10 @@ fn added(
     chains: &[u16; table::LINKS],
 ) -> Inference
     requires { ⌜ ((table : Table) × Searchable table (now terms) (now chains) × TermsNamed table step) ⌝ }
-    requires { ⌜ IsBranch (now branch) len × WellTaken step × (isBackground (step .rule) ≡ false) ⌝ }
+    requires { ⌜ IsBranch (now branch) len × WellTaken step ⌝ }
     ensures { λ r. ⌜ RoomFor last r ⌝ }
     ensures { λ r. ⌜ ((table : Table) (C : Clauses) → Searchable table (now (terms .entry)) (now (chains .entry)) → InSequence C → lastClause C ≡ last
-        → TellsFreshness table C (branchOf (now (branch .entry)) len) step fresh
+        → Tells table C (branchOf (now (branch .entry)) len) step (asked .fresh) (asked .contradicted)
         → inferredIn C r ≡ alternatives table C (branchOf (now (branch .entry)) len) (step .rule) (stepFields step)) ⌝ }
 {
     let third = step.t;
@@ -106,13 +75,25 @@ fn added(
     let q = literal(branch, len, place_q);
     let rule = step.rule;
     let w = step.w;
-    Inference::ByRule(conclude(rule, p, q, third, w, fresh, terms, chains))
+    let fresh = asked.fresh;
+    let contradicted = asked.contradicted;
+    Inference::ByRule(conclude(
+        rule,
+        p,
+        q,
+        third,
+        w,
+        fresh,
+        contradicted,
+        terms,
+        chains,
+    ))
 }
 
-// Checks 8, 9 and 11 to 14, where n terms are made. `fresh` says whether w is fresh, if the rule asks for that.
+// Checks 8, 9 and 11 to 14, where n terms are made, and what the rule asks of the whole branch was asked.
 pub fn infer(
     step: Step,
-    fresh: Freshness,
+    asked: Asked,
     branch: &[u32; Tree::PLACES],
     len: usize,
     last: usize,
@@ -124,18 +105,14 @@ pub fn infer(
     requires { ⌜ IsBranch (now branch) len × WellTaken step ⌝ }
     ensures { λ r. ⌜ RoomFor last r ⌝ }
     ensures { λ r. ⌜ ((table : Table) (C : Clauses) → Searchable table (now (terms .entry)) (now (chains .entry)) → length table ≡ n → InSequence C → lastClause C ≡ last
-        → TellsFreshness table C (branchOf (now (branch .entry)) len) step fresh
+        → Tells table C (branchOf (now (branch .entry)) len) step (asked .fresh) (asked .contradicted)
         → inferredIn C r ≡ stepLine table C (branchOf (now (branch .entry)) len) (step .rule) (stepFields step)) ⌝ }
 {
-    let rule = step.rule;
-    if is_background(rule) {
-        return by_background(branch, len, terms, n);
-    }
     if !checks::terms_made(n, step) {
         return refused(Reason::NoSuchTerm);
     }
     if !checks::sorts_fit(terms, step) {
         return refused(Reason::WrongSort);
     }
-    added(step, fresh, branch, len, last, terms, chains)
+    added(step, asked, branch, len, last, terms, chains)
 }

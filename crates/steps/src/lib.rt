@@ -5,6 +5,6 @@ mod inferring;
 mod reading;
 
 pub use asking::Asked;
-pub use asking::ask_fresh;
+pub use asking::ask;
 pub use inferring::Inference;
 pub use inferring::infer;

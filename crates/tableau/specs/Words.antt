@@ -75,9 +75,9 @@ ruleNames =
     ("rdm" ↣ Rule.Rdm) ∷
     ("cls" ↣ Rule.Cls) ∷
     ("emp" ↣ Rule.Emp) ∷
+    ("bck" ↣ Rule.Bck) ∷
     ("cla" ↣ Rule.Cla) ∷
     ("fin" ↣ Rule.Fin) ∷
-    ("bck" ↣ Rule.Bck) ∷
     []
 
 -- What a line asks for, by its letter and word: a term, an assumption, a literal of a clause, a step.

@@ -80,9 +80,9 @@ pub enum Rule {
     Rdm,
     Cls,
     Emp,
+    Bck,
     Cla,
     Fin,
-    Bck,
 }
 
 // Why a file is refused, in the order of the refusal numbers 1 to 21.

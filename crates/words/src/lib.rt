@@ -150,9 +150,9 @@ const RULES: [Rule; RULE_COUNT] = [
     Rule::Rdm,
     Rule::Cls,
     Rule::Emp,
+    Rule::Bck,
     Rule::Cla,
     Rule::Fin,
-    Rule::Bck,
 ];
 
 // "Which fields each rule uses is one fixed table of [thirty-two] rows."
@@ -186,9 +186,9 @@ const RULE_MASKS: [u8; RULE_COUNT] = [
     Mask::T, // rdm
     Mask::P | Mask::Q, // cls
     Mask::P, // emp
+    0, // bck
     Mask::T, // cla
     Mask::P, // fin
-    0, // bck
 ];
 
 fn pack(a: u8, b: u8, c: u8) -> usize
@@ -253,7 +253,7 @@ pub fn rule_of(word: usize) -> RuleFound
     let masks = RULE_MASKS;
     let index = search(
         word,
-        b"eqr eql ext cpe cpi cue cui dfe dfi sge sgi cut all nul sep img wit ref sym trn sub rep ler let lea rdh rdm cls emp cla fin bck ",
+        b"eqr eql ext cpe cpi cue cui dfe dfi sge sgi cut all nul sep img wit ref sym trn sub rep ler let lea rdh rdm cls emp bck cla fin ",
     );
     if index < RULE_COUNT {
         let rule = rules[index];

@@ -1,6 +1,7 @@
 -- A side is that of `rep`; else t is a term.
-use mathlib.Core.Path.{_≡_, sym, subst}
+use mathlib.Core.Path.{_≡_, refl, sym, subst}
 use Rattle.tableau.specs.Fields.{ruleFields}
+use Rattle.tableau.specs.Rules.{rule}
 use denote.Ref.{now}
 use Rattle.rules.specs.declared.outcome.Outcome.{Outcome}
 use Rattle.syntax.specs.declared.ThirdField as declared
@@ -15,7 +16,7 @@ use Rattle.conclusions.proofs.conclude.Tie as tie
 
 -- the outcome, where field t is known
 abbrev Answers : tie.Start → declared.ThirdField → Outcome → Type 0
-Answers s k r = Infers (s .args .rule) (s .args .p) (s .args .q) (thirdIn k) (s .args .w .0) (s .args .fresh) (now (s .args .terms)) (now (s .args .chains)) r
+Answers s k r = Infers (s .args .rule) (s .args .p) (s .args .q) (thirdIn k) (s .args .w .0) (s .args .fresh) (s .args .contradicted) (now (s .args .terms)) (now (s .args .chains)) r
 
 -- what is given there
 abbrev rule-given : (s : tie.Start) (k : declared.ThirdField) → s .args .third ≡ k → Given (s .args .rule) (thirdIn k) (s .args .w .0)
@@ -31,12 +32,12 @@ by-rule-requires c κs =
 
 -- rep
 returns : tie.Need-returns
-unfolding ruleFields
+unfolding ruleFields rule
 returns c =
     let s = c .before .before .before .before in
     let e = c .before .before .third .given .1 in
     subst (λ (k : declared.ThirdField). Answers s k (c .rep .result)) (sym e)
-    (infers (is-rep (s .args .rule) (fits s _ e)) (rule-given s _ e) (λ table S. tt) (c .rep .ensures))
+    (infers (is-rep (s .args .rule) (fits s _ e)) refl (rule-given s _ e) (λ table S. tt) (c .rep .ensures))
 
 returns-2 : tie.Need-returns-2
 returns-2 c =

@@ -7,8 +7,8 @@ use borrow.Author.Needs.{needs}
 use Rattle.line_checks.proofs.step_line.take.Statement.{statement}
 use Rattle.line_checks.proofs.step_line.take.Tie as tie
 
-ask-fresh-requires : tie.Need-ask-fresh-requires
-ask-fresh-requires c κs =
+ask-requires : tie.Need-ask-requires
+ask-requires c κs =
     let s = c .before in
     let H = s .pre .0 .1 in
     ((s .pre .0 .0, H .searchable .entries, H .count), (s .pre .1 .1, s .pre .1 .0 .noted))
@@ -37,9 +37,9 @@ returns c table C H K P =
     let a = i .before in
     let s = a .before .before in
     let W = s .pre .1 .0 in
-    let T = a .ask-fresh .ensures .1 table C (H .searchable .entries) (H .mentioned) (H .count) P in
-    let m = a .ask-fresh .ensures .0 in
-    let said = sym (ap (inferredIn C) (k .inference .given .1)) ∙ i .infer .ensures .1 table C (H .searchable) (H .count) (K .sequence) (K .last) (T .fresh) in
+    let T = a .ask .ensures .1 table C (H .searchable .entries) (H .mentioned) (H .count) P in
+    let m = a .ask .ensures .0 in
+    let said = sym (ap (inferredIn C) (k .inference .given .1)) ∙ i .infer .ensures .1 table C (H .searchable) (H .count) (K .sequence) (K .last) (T .tells) in
     rw (c .result .ensures, n .after-step .ensures)
     (record {
       rows = rows-kept table C _ _ W _ (s .args .step) _ m _ (T .rows) (x .grow .result);
@@ -73,9 +73,9 @@ returns-2 c table C H K P =
     let a = i .before in
     let s = a .before .before in
     let W = s .pre .1 .0 in
-    let T = a .ask-fresh .ensures .1 table C (H .searchable .entries) (H .mentioned) (H .count) P in
-    let m = a .ask-fresh .ensures .0 in
-    let said = sym (ap (inferredIn C) (k .before .inference2 .given .1)) ∙ i .infer .ensures .1 table C (H .searchable) (H .count) (K .sequence) (K .last) (T .fresh) in
+    let T = a .ask .ensures .1 table C (H .searchable .entries) (H .mentioned) (H .count) P in
+    let m = a .ask .ensures .0 in
+    let said = sym (ap (inferredIn C) (k .before .inference2 .given .1)) ∙ i .infer .ensures .1 table C (H .searchable) (H .count) (K .sequence) (K .last) (T .tells) in
     rw (c .split .ensures, n .after-step .ensures)
     (record {
       rows = rows-split table C _ _ W _ (s .args .step) _ m _ (T .rows) _;
@@ -85,4 +85,4 @@ returns-2 c table C H K P =
 pub take-spec : {M : Type 1} → statement M
 take-spec =
     tie.close
-    (tie.spec ask-fresh-requires infer-requires after-step-requires (λ c. search needs) grow-requires (λ c κs. search needs) (λ c. search needs) span-of-requires split-requires returns returns-2)
+    (tie.spec ask-requires infer-requires after-step-requires (λ c. search needs) grow-requires (λ c κs. search needs) (λ c. search needs) span-of-requires split-requires returns returns-2)

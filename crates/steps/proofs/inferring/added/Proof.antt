@@ -103,7 +103,7 @@ returns-3 c =
     let other = no-clause (s .args .step .t) (m .match .keys2) in (
       I .room,
       λ table C H q e F. sym (rw (eleven-held C k, read-p, read-q)
-          (sym (F _ _ _ _ _) ∙ no-clause-asked table _ _ _ _ _ _ _ x (omega (arith, other, s .pre .1 .1 .third)) (s .pre .1 .2) ∙ I .answers table H)),
+          (sym (F _ _ _ _) ∙ no-clause-asked table _ _ _ _ _ _ _ x (omega (arith, other, s .pre .1 .1 .third)) ∙ I .answers table H)),
     )
 
 pub added-spec : {M : Type 1} → statement M

@@ -1,4 +1,4 @@
--- What is known of a step after check 8, and of its w.
+-- What is known of a step after check 8, and what it asks of the whole branch.
 use mathlib.Core.Path.{_≡_}
 use mathlib.Core.Bool.{Bool, true, false, _||_}
 use mathlib.Core.List.{List, [], _∷_}
@@ -10,12 +10,14 @@ use Rattle.tableau.specs.Fields.{ruleUses}
 use Rattle.tableau.specs.Terms.{Table, Literal, Clauses}
 use Rattle.tableau.specs.Rules.{Row, Kind, rows, congruence, replacement, disjunction, background, rule}
 use Rattle.tableau.specs.Steps.{freshness}
+use Rattle.tableau.specs.Saturation.{contradicted}
 use Rattle.tableau.specs.Tree.{answer}
 use Rattle.tableau.specs.Reply.{termOrName}
 use Rattle.tableau.specs.Basics.{every}
 use Rattle.syntax.specs.declared.Step.{Step}
 use Rattle.syntax.specs.Syntax.{stepFields}
 use Rattle.freshness.specs.Prefixes.{PrefixRows}
+use Rattle.conclusions.specs.Infers.{isBackground}
 use Rattle.steps.specs.declared.asking.Asked.{Asked}
 use Rattle.tree.specs.State.{branchOf}
 
@@ -38,12 +40,16 @@ freshKind background = false
 abbrev pub asksFresh : Rule → Bool
 asksFresh x = freshKind (rule x)
 
--- the answer of the test says of the step's rule what the freshness of its w would
-abbrev pub TellsFreshness : Table → Clauses → List Literal → Step → Freshness → Type 0
-TellsFreshness table C B s r = (P Q : Option Literal) (D : List Literal) (E : Bool) (t : ℕ)
-    → answer table r P Q D E t (s .w .0) (s .rule) ≡ answer table (freshness table C B (s .w .0)) P Q D E t (s .w .0) (s .rule)
+-- THE RULES THAT ASK OF THE WHOLE BRANCH: these, and `bck`
+abbrev pub asksBranch : Rule → Bool
+asksBranch x = asksFresh x || isBackground x
 
--- what a test of w says, and the rows after it
+-- the answers say of the step's rule what the freshness of its w, and whether the branch contradicts itself, would
+abbrev pub Tells : Table → Clauses → List Literal → Step → Freshness → Bool → Type 0
+Tells table C B s f E = (P Q : Option Literal) (D : List Literal) (t : ℕ)
+    → answer table f P Q D E t (s .w .0) (s .rule) ≡ answer table (freshness table C B (s .w .0)) P Q D (contradicted table B) t (s .w .0) (s .rule)
+
+-- what was asked, and the rows after it
 pub record Told (table : Table) (C : Clauses) (codes : List ℕ) (len : ℕ) (s : Step) (prefix : List ℕ) (r : Asked) : Type 0 where
-  pub fresh : TellsFreshness table C (branchOf codes len) s (r .fresh)
+  pub tells : Tells table C (branchOf codes len) s (r .fresh) (r .contradicted)
   pub rows : PrefixRows table C codes prefix (r .noted)

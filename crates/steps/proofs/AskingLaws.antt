@@ -1,6 +1,6 @@
--- When the freshness of w matters.
-use mathlib.Core.Path.{_≡_, refl}
-use mathlib.Core.Bool.{Bool, true, false, _&&_, not, cond}
+-- When the freshness of w matters, and whether the branch contradicts itself.
+use mathlib.Core.Path.{_≡_, refl, _∙_, ap}
+use mathlib.Core.Bool.{Bool, true, false, _&&_, not, cond, false≢true}
 use mathlib.Core.List.{List, [], _∷_}
 use mathlib.Core.Option.{Option, none, some}
 use Prim.Native.Nat.{ℕ}
@@ -13,13 +13,17 @@ use Rattle.tableau.specs.declared.Relation.{Relation}
 use Rattle.tableau.specs.declared.Rule.{Rule}
 use Rattle.tableau.specs.Basics.{then, guard}
 use Rattle.tableau.specs.Words.{ruleNames}
-use Rattle.tableau.specs.Terms.{Table, Literal, literal, at, sameRelation}
+use Rattle.tableau.specs.Terms.{Table, Literal, Clauses, literal, at, sameRelation}
 use Rattle.tableau.specs.Rules.{Row, Kind, rows, congruence, replacement, disjunction, background, rule}
-use Rattle.tableau.specs.Steps.{Letters, Conclusion, addsOne, congruent, given, met, orElse, concludeRows, concludeSub, concludeRep, conclude}
+use Rattle.tableau.specs.Steps.{Letters, Conclusion, addsOne, congruent, given, met, orElse, concludeRows, concludeSub, concludeRep, conclude, freshness}
+use Rattle.tableau.specs.Saturation.{contradicted}
 use Rattle.tableau.specs.Tree.{Checked, _>>=_, _>>_, requireSome, requireFresh, answer}
 use Rattle.tableau.proofs.Bools.{both-false}
 use Rattle.tableau.proofs.Places.{rules, placeOf, placesBut, other-rule}
-use Rattle.steps.specs.Freshness.{anyFresh, freshKind, asksFresh}
+use Rattle.syntax.specs.declared.Step.{Step}
+use Rattle.conclusions.specs.Infers.{wholeBranch, isBackground}
+use Rattle.conclusions.proofs.Laws.{same-whatever}
+use Rattle.steps.specs.Asking.{anyFresh, freshKind, asksFresh, asksBranch, Tells}
 
 -- FRESHNESS: a conclusion that does not ask for it
 abbrev Unasked : Option Conclusion → Type 0
@@ -79,12 +83,39 @@ same-ending none h f g = refl
 same-ending (some c) h f g = rw h
 
 -- the answer of a rule that asks for no fresh w does not depend on it
-pub unasked-answer : (table : Table) (P Q : Option Literal) (D : List Literal) (E : Bool) (t w : ℕ) (x : Rule) → asksFresh x ≡ false → (f g : Freshness)
+unasked-answer : (table : Table) (P Q : Option Literal) (D : List Literal) (E : Bool) (t w : ℕ) (x : Rule) → asksFresh x ≡ false → (f g : Freshness)
     → answer table f P Q D E t w x ≡ answer table g P Q D E t w x
 unfolding answer ending
 unasked-answer table P Q D E t w x h f g = same-ending (conclude table P Q t w D E (rule x)) (unasked table P Q t w D E (rule x) h) f g
 
--- THE RULES THAT ASK are `ext` and `wit`
-pub others-unasked : (x : Rule) → OneOf (placesBut (Rule.Ext ∷ Rule.Wit ∷ [])) (placeOf x) → asksFresh x ≡ false
+-- nor does that of `bck`
+background-unasked : (k : Kind) → wholeBranch k ≡ true → freshKind k ≡ false
+background-unasked (rows Rs) h = absurd (false≢true h)
+background-unasked congruence h = refl
+background-unasked replacement h = refl
+background-unasked disjunction h = refl
+background-unasked background h = refl
+
+-- WHAT ANSWERS TELL: any two tell a rule that does not ask the same; `bck` is told by whether the branch contradicts itself, another rule by whether w is fresh
+module _ (table : Table) (C : Clauses) (B : List Literal) (s : Step) (f : Freshness) (E : Bool) where
+  pub tells-any : asksBranch (s .rule) ≡ false → Tells table C B s f E
+  tells-any h P Q D t =
+      let b = both-false (asksFresh (s .rule)) (isBackground (s .rule)) h in
+      unasked-answer table P Q D _ t _ (s .rule) (b .0) f _ ∙ same-whatever table P Q D E _ t _ _ (s .rule) (b .1)
+
+  pub tells-contradiction : isBackground (s .rule) ≡ true → E ≡ contradicted table B → Tells table C B s f E
+  tells-contradiction b e P Q D t = unasked-answer table P Q D _ t _ (s .rule) (background-unasked (rule (s .rule)) b) f _
+      ∙ ap (λ (v : Bool). answer table (freshness table C B (s .w .0)) P Q D v t (s .w .0) (s .rule)) e
+
+  pub tells-fresh : isBackground (s .rule) ≡ false → f ≡ freshness table C B (s .w .0) → Tells table C B s f E
+  tells-fresh b e P Q D t = same-whatever table P Q D E _ t _ _ (s .rule) b
+      ∙ ap (λ (v : Freshness). answer table v P Q D (contradicted table B) t (s .w .0) (s .rule)) e
+
+-- THE RULES THAT ASK are `ext`, `wit` and `bck`
+pub others-unasked : (x : Rule) → OneOf (placesBut (Rule.Ext ∷ Rule.Wit ∷ Rule.Bck ∷ [])) (placeOf x) → asksBranch x ≡ false
 unfolding rules ruleNames rule anyFresh
-others-unasked x o = not-true _ (other-rule (λ y. not (asksFresh y)) (Rule.Ext ∷ Rule.Wit ∷ []) refl refl x o)
+others-unasked x o = not-true _ (other-rule (λ y. not (asksBranch y)) (Rule.Ext ∷ Rule.Wit ∷ Rule.Bck ∷ []) refl refl x o)
+
+pub others-not-background : (x : Rule) → OneOf (placesBut (Rule.Bck ∷ [])) (placeOf x) → isBackground x ≡ false
+unfolding rules ruleNames rule
+others-not-background x o = not-true _ (other-rule (λ y. not (isBackground y)) (Rule.Bck ∷ []) refl refl x o)

@@ -3,10 +3,10 @@ use borrow.Author.Needs.{needs}
 use Rattle.tableau.specs.Rules.{rule}
 use Rattle.tableau.specs.Words.{ruleNames}
 use Rattle.tableau.proofs.Places.{rules}
-use Rattle.steps.specs.Inference.{isBackground}
-use Rattle.steps.proofs.ClauseSteps.{others-not-background}
-use Rattle.steps.proofs.inferring.is_background.Statement.{statement}
-use Rattle.steps.proofs.inferring.is_background.Tie as tie
+use Rattle.conclusions.specs.Infers.{isBackground}
+use Rattle.steps.proofs.AskingLaws.{others-not-background}
+use Rattle.steps.proofs.asking.is_background.Statement.{statement}
+use Rattle.steps.proofs.asking.is_background.Tie as tie
 
 returns : tie.Need-returns
 unfolding rule
