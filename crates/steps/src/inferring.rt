@@ -77,17 +77,7 @@ fn added(
     let w = step.w;
     let fresh = asked.fresh;
     let contradicted = asked.contradicted;
-    Inference::ByRule(conclude(
-        rule,
-        p,
-        q,
-        third,
-        w,
-        fresh,
-        contradicted,
-        terms,
-        chains,
-    ))
+    Inference::ByRule(conclude(rule, p, q, third, w, fresh, contradicted, terms, chains))
 }
 
 // Checks 8, 9 and 11 to 14, where n terms are made, and what the rule asks of the whole branch was asked.
