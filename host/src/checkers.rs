@@ -21,16 +21,7 @@ pub fn plain_rust(file: &[u8]) -> Numbers {
 
 /// The independent checker with another `bck`.
 pub fn plain_rust_by(file: &[u8], closes: Closes) -> Numbers {
-    let reply = independent::check_by(file, closes);
-    [
-        reply.number,
-        reply.line,
-        reply.terms,
-        reply.assumptions,
-        reply.steps,
-        reply.closings,
-        reply.place,
-    ]
+    independent::check_by(file, closes).numbers()
 }
 
 /// The yardstick, through a buffer like the proved checker.

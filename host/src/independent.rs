@@ -43,6 +43,21 @@ pub struct Reply {
     pub place: u32,
 }
 
+impl Reply {
+    /// The numbers "in the reply's order", the place last.
+    pub fn numbers(&self) -> [u32; 7] {
+        [
+            self.number,
+            self.line,
+            self.terms,
+            self.assumptions,
+            self.steps,
+            self.closings,
+            self.place,
+        ]
+    }
+}
+
 /// "after a no the four counts are 0"
 fn no(refusal: LineRefusal, line: u32) -> Reply {
     Reply {
@@ -76,17 +91,8 @@ fn yes(state: &State) -> Reply {
 /// line, T lines, A lines, S lines, closings", and the place last.
 pub fn reply_line(reply: &Reply) -> String {
     let answer = if reply.yes { "yes" } else { "no" };
-    format!(
-        "{},{},{},{},{},{},{},{}\n",
-        answer,
-        reply.number,
-        reply.line,
-        reply.terms,
-        reply.assumptions,
-        reply.steps,
-        reply.closings,
-        reply.place
-    )
+    let numbers = reply.numbers().map(|number| number.to_string());
+    format!("{answer},{}\n", numbers.join(","))
 }
 
 /// "A build host gets the six numbers through an ordinary C call into a reply
@@ -100,17 +106,8 @@ pub fn call(file: &[u8], buffer: &mut [u8]) -> u32 {
         return 18;
     }
     let reply = check(file);
-    let numbers = [
-        reply.number,
-        reply.line,
-        reply.terms,
-        reply.assumptions,
-        reply.steps,
-        reply.closings,
-        reply.place,
-    ];
     let mut bytes: Vec<u8> = Vec::new();
-    for number in numbers {
+    for number in reply.numbers() {
         bytes.extend_from_slice(&number.to_le_bytes());
     }
     buffer.copy_from_slice(&bytes);

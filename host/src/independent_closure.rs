@@ -65,12 +65,16 @@ pub const CONDITIONS: [(&str, Condition); 9] = [
     ("equals on the right", equals_on_the_right),
 ];
 
+/// The conditions without their names.
+pub fn conditions() -> [Condition; CONDITIONS.len()] {
+    CONDITIONS.map(|(_, condition)| condition)
+}
+
 /// "`bck` closes exactly when some ne literal on the branch has its two sides in
 /// the eq relation, or some nl literal its two, left then right, in the le
 /// relation."
 pub fn closes(terms: &[Term], branch: &[Literal]) -> bool {
-    let conditions = CONDITIONS.map(|(_, condition)| condition);
-    contradicts(&smallest(terms, branch, &conditions), branch)
+    contradicts(&smallest(terms, branch, &conditions()), branch)
 }
 
 /// Whether the relations have the two sides of some literal that denies them.
@@ -123,6 +127,13 @@ fn index(number: u32) -> usize {
     number as usize - 1
 }
 
+/// Every two terms, and each with itself.
+fn pairs(terms: &[Term]) -> impl Iterator<Item = (usize, usize)> {
+    let all = 0..terms.len();
+    all.clone()
+        .flat_map(move |a| all.clone().map(move |b| (a, b)))
+}
+
 /// ref | t | any term | t eq t
 fn refl(terms: &[Term], relations: &mut Relations) {
     for t in 0..terms.len() {
@@ -131,24 +142,19 @@ fn refl(terms: &[Term], relations: &mut Relations) {
 }
 
 /// sym | p | a eq b | the same, sides changed
-fn sym(terms: &[Term], relations: &mut Relations) {
-    for a in 0..terms.len() {
-        for b in 0..terms.len() {
-            if relations.eq.has(a, b) {
-                relations.eq.put(b, a);
-            }
+fn sym(terms: &[Term], Relations { eq, .. }: &mut Relations) {
+    for (a, b) in pairs(terms) {
+        if eq.has(a, b) {
+            eq.put(b, a);
         }
     }
 }
 
 /// trn | p q | a eq b; b eq c | a eq c
-fn trn(terms: &[Term], relations: &mut Relations) {
-    for a in 0..terms.len() {
-        for b in 0..terms.len() {
-            if relations.eq.has(a, b) {
-                let of_b = relations.eq.row(b);
-                relations.eq.put_row(a, of_b);
-            }
+fn trn(terms: &[Term], Relations { eq, .. }: &mut Relations) {
+    for (a, b) in pairs(terms) {
+        if eq.has(a, b) {
+            eq.put_row(a, eq.row(b));
         }
     }
 }
@@ -183,48 +189,37 @@ fn ler(terms: &[Term], relations: &mut Relations) {
 }
 
 /// let | p q | a le b; b le c | a le c
-fn le_trans(terms: &[Term], relations: &mut Relations) {
-    for a in 0..terms.len() {
-        for b in 0..terms.len() {
-            if relations.le.has(a, b) {
-                let of_b = relations.le.row(b);
-                relations.le.put_row(a, of_b);
-            }
+fn le_trans(terms: &[Term], Relations { le, .. }: &mut Relations) {
+    for (a, b) in pairs(terms) {
+        if le.has(a, b) {
+            le.put_row(a, le.row(b));
         }
     }
 }
 
 /// lea | p q | a le b; b le a | a eq b
-fn lea(terms: &[Term], relations: &mut Relations) {
-    for a in 0..terms.len() {
-        for b in 0..terms.len() {
-            if relations.le.has(a, b) && relations.le.has(b, a) {
-                relations.eq.put(a, b);
-            }
+fn lea(terms: &[Term], Relations { eq, le }: &mut Relations) {
+    for (a, b) in pairs(terms) {
+        if le.has(a, b) && le.has(b, a) {
+            eq.put(a, b);
         }
     }
 }
 
 /// "putting equals for equals in le": a eq b; b le c | a le c
-fn equals_on_the_left(terms: &[Term], relations: &mut Relations) {
-    for a in 0..terms.len() {
-        for b in 0..terms.len() {
-            if relations.eq.has(a, b) {
-                let of_b = relations.le.row(b);
-                relations.le.put_row(a, of_b);
-            }
+fn equals_on_the_left(terms: &[Term], Relations { eq, le }: &mut Relations) {
+    for (a, b) in pairs(terms) {
+        if eq.has(a, b) {
+            le.put_row(a, le.row(b));
         }
     }
 }
 
 /// "putting equals for equals in le": a le b; b eq c | a le c
-fn equals_on_the_right(terms: &[Term], relations: &mut Relations) {
-    for a in 0..terms.len() {
-        for b in 0..terms.len() {
-            if relations.le.has(a, b) {
-                let of_b = relations.eq.row(b);
-                relations.le.put_row(a, of_b);
-            }
+fn equals_on_the_right(terms: &[Term], Relations { eq, le }: &mut Relations) {
+    for (a, b) in pairs(terms) {
+        if le.has(a, b) {
+            le.put_row(a, eq.row(b));
         }
     }
 }

@@ -4,7 +4,7 @@
 use host::independent::{
     sort_of_word, takes_name, Literal, LiteralWord, Sort, Term, TermWord, MOST_TERMS,
 };
-use host::independent_closure::{contradicts, literals, smallest, Condition, CONDITIONS};
+use host::independent_closure::{conditions, contradicts, literals, smallest, CONDITIONS};
 use host::random::Random;
 
 const TABLES: u64 = 4_000;
@@ -81,10 +81,6 @@ fn branch(terms: &[Term], random: &mut Random) -> Vec<Literal> {
         Literal { word, left, right }
     };
     (0..count).map(|_| literal(random)).collect()
-}
-
-fn conditions() -> [Condition; 9] {
-    CONDITIONS.map(|(_, condition)| condition)
 }
 
 /// For each term the number of its class, and whether a path leads from one

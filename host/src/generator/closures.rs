@@ -6,8 +6,8 @@
 
 use crate::random::Random;
 
-use super::draft::{denial, lit, Draft, Literal, Sort, TermId};
-use super::entailed::{any, equal, under, Entailed, Fresh, Source, WORDS};
+use super::draft::{denial, lit, Draft, Literal, Operation, Sort, TermId, OPERATIONS};
+use super::entailed::{any, equal, under, Entailed, Fresh, Source};
 use super::tableau::{self, text, Tableau};
 use super::{accepted, refusal, Sample};
 
@@ -175,11 +175,8 @@ fn link_denied(fresh: &mut Fresh, steps: usize) -> Option<(Kind, Vec<Literal>)> 
 
 /// Two terms with one word, whose arguments are all equal but one.
 fn argument_unequal(fresh: &mut Fresh, steps: usize) -> Option<(Kind, Vec<Literal>)> {
-    let arguments = |(word, sorts): &(&'static str, &'static [Sort])| {
-        let (word, sorts) = (*word, *sorts);
-        (0..sorts.len()).map(move |at| (word, sorts, at))
-    };
-    let all: Vec<_> = WORDS.iter().flat_map(arguments).collect();
+    let arguments = |&(word, sorts): &Operation| (0..sorts.len()).map(move |at| (word, sorts, at));
+    let all: Vec<_> = OPERATIONS.iter().flat_map(arguments).collect();
     let (word, sorts, unequal) = fresh.random.pick(&all);
     let part = fresh.random.below(2) * steps / sorts.len();
     let mut literals = Vec::new();

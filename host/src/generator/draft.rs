@@ -22,6 +22,24 @@ pub enum Sort {
     Class,
 }
 
+/// A word with arguments, and their sorts.
+pub type Operation = (&'static str, &'static [Sort]);
+
+pub const OPERATIONS: [Operation; 9] = [
+    ("rea", &[Sort::Heap, Sort::Reference, Sort::Field]),
+    ("cup", &[Sort::Region, Sort::Region]),
+    ("cap", &[Sort::Region, Sort::Region]),
+    ("dif", &[Sort::Region, Sort::Region]),
+    ("sin", &[Sort::Reference]),
+    ("img", &[Sort::Heap, Sort::Region, Sort::Field]),
+    (
+        "wri",
+        &[Sort::Heap, Sort::Reference, Sort::Field, Sort::Reference],
+    ),
+    ("typ", &[Sort::Reference]),
+    ("dty", &[Sort::Field]),
+];
+
 /// A term: its word, and its arguments or (for a variable) its name.
 #[derive(Debug, Clone, PartialEq, Eq, Hash)]
 pub struct Term {

@@ -5,23 +5,7 @@ use crate::random::Random;
 
 use super::aliases;
 use super::builder::Builder;
-use super::draft::{lit, sort_of_word, Draft, Literal, Place, Sort, TermId};
-
-/// Each word with arguments, and their sorts.
-pub const WORDS: [(&str, &[Sort]); 9] = [
-    ("rea", &[Sort::Heap, Sort::Reference, Sort::Field]),
-    ("cup", &[Sort::Region, Sort::Region]),
-    ("cap", &[Sort::Region, Sort::Region]),
-    ("dif", &[Sort::Region, Sort::Region]),
-    ("sin", &[Sort::Reference]),
-    ("img", &[Sort::Heap, Sort::Region, Sort::Field]),
-    (
-        "wri",
-        &[Sort::Heap, Sort::Reference, Sort::Field, Sort::Reference],
-    ),
-    ("typ", &[Sort::Reference]),
-    ("dty", &[Sort::Field]),
-];
+use super::draft::{lit, sort_of_word, Draft, Literal, Operation, Place, Sort, TermId, OPERATIONS};
 
 /// Where the terms come from that the others are made of.
 pub trait Source {
@@ -128,16 +112,16 @@ fn step_up(source: &mut impl Source, left: TermId, right: TermId) -> Entailed {
     made(left, right, How::Under)
 }
 
-/// The words with arguments of this sort.
-fn words_of(sort: Sort) -> Vec<(&'static str, &'static [Sort])> {
-    let of_sort = |word: &&(&str, &[Sort])| sort_of_word(word.0) == sort;
-    WORDS.iter().filter(of_sort).copied().collect()
+/// The operations whose terms are of this sort.
+fn operations_of(sort: Sort) -> Vec<Operation> {
+    let of_sort = |operation: &&Operation| sort_of_word(operation.0) == sort;
+    OPERATIONS.iter().filter(of_sort).copied().collect()
 }
 
 /// An equation that follows by so many steps; without circles all of its literals
 /// are needed even for the order.
 pub fn equal(source: &mut impl Source, sort: Sort, steps: usize, circles: bool) -> Entailed {
-    let words = words_of(sort);
+    let operations = operations_of(sort);
     if steps == 0 {
         let (left, right) = (source.leaf(sort), source.leaf(sort));
         return equation(source, left, right);
@@ -145,10 +129,10 @@ pub fn equal(source: &mut impl Source, sort: Sort, steps: usize, circles: bool) 
     if sort == Sort::Class && circles && steps >= 3 && source.random().chance(1, 2) {
         return circle(source, steps);
     }
-    if words.is_empty() || source.random().chance(1, 3) {
+    if operations.is_empty() || source.random().chance(1, 3) {
         return joined(source, sort, steps, circles);
     }
-    let (word, sorts) = source.random().pick(&words);
+    let (word, sorts) = source.random().pick(&operations);
     by_arguments(source, word, sorts, steps)
 }
 
@@ -217,13 +201,13 @@ const LINKED: usize = 3;
 /// A ladder: each equation makes two terms equal, one inside the other, or two
 /// others that are linked to these. Of two rungs so many are linked.
 fn ladder(source: &mut impl Source, sort: Sort, steps: usize, linked: usize) -> Entailed {
-    let words = words_of(sort);
-    if words.is_empty() || steps == 0 {
+    let operations = operations_of(sort);
+    if operations.is_empty() || steps == 0 {
         return equal(source, sort, steps, true);
     }
     let is_linked = steps >= LINKED && source.random().chance(linked, 2);
     let rung = if is_linked { LINKED } else { 1 };
-    let (word, sorts) = source.random().pick(&words);
+    let (word, sorts) = source.random().pick(&operations);
     let leads_on: Vec<usize> = (0..sorts.len())
         .filter(|at| sorts.len() == 1 || sorts[*at] != Sort::Field)
         .collect();

@@ -5,8 +5,7 @@
 use super::builder::Builder;
 use super::clauses;
 use super::derivations::obtain;
-use super::draft::{denial, lit, Literal, Place, Sort, TermId};
-use super::entailed::WORDS;
+use super::draft::{denial, lit, Literal, Place, Sort, TermId, OPERATIONS};
 use super::heap_refutations as heaps;
 use super::identities;
 use super::relation_refutations as relations;
@@ -317,7 +316,7 @@ fn trn(builder: &mut Builder, depth: usize) {
 
 /// a eq b, and two terms that differ only where one has a and the other b.
 fn sub(builder: &mut Builder, depth: usize) {
-    let (word, sorts) = builder.random.pick(&WORDS);
+    let (word, sorts) = builder.random.pick(&OPERATIONS);
     let changed = builder.random.pick(sorts);
     let (a, b) = (builder.some(changed), builder.some(changed));
     let (mut left, mut right) = (Vec::new(), Vec::new());

@@ -2,9 +2,9 @@
 
 use host::call::Numbers;
 use host::checkers::{plain_rust, plain_rust_by as by, Checker};
-use host::independent::{sort_of_word, takes_name, Closes, Literal, LiteralWord, Sort, Term};
+use host::independent::{sort_of_word, takes_name, Literal, LiteralWord, Sort, Term};
 use host::independent_closure::{
-    closes, contradicts, literals, smallest, Condition, Relations, CONDITIONS,
+    closes, conditions, contradicts, literals, smallest, Condition, Relations, CONDITIONS,
 };
 
 /// Checkers that the comparison finds.
@@ -16,8 +16,12 @@ pub const WRONG_CLOSURES: [Checker; 35] = [
     ("bck after the tree is closed", after_the_end),
     ("nl taken right then left", |file| by(file, order_reversed)),
     ("nl taken either way", |file| by(file, order_either_way)),
-    ("no nl", |file| by(file, without_word(LiteralWord::Nl))),
-    ("no ne", |file| by(file, without_word(LiteralWord::Ne))),
+    ("no nl", |file| {
+        by(file, |t, b| without_word(t, b, LiteralWord::Nl))
+    }),
+    ("no ne", |file| {
+        by(file, |t, b| without_word(t, b, LiteralWord::Ne))
+    }),
     ("le taken for eq", |file| by(file, order_for_equality)),
     ("bck uses members", |file| by(file, with_members)),
     ("the first ne or nl only", |file| by(file, first_denial)),
@@ -129,8 +133,7 @@ fn is_plain_bck(line: &[u8]) -> bool {
 
 /// The relations as they should be.
 fn right_relations(terms: &[Term], branch: &[Literal]) -> Relations {
-    let conditions = CONDITIONS.map(|(_, condition)| condition);
-    smallest(terms, branch, &conditions)
+    smallest(terms, branch, &conditions())
 }
 
 /// The sides of the literals with this word, as indices.
@@ -150,19 +153,10 @@ fn order_either_way(terms: &[Term], branch: &[Literal]) -> bool {
 }
 
 /// Literals with this word deny nothing.
-const fn without_word(word: LiteralWord) -> Closes {
-    match word {
-        LiteralWord::Ne => |terms, branch| {
-            let mut kept = branch.to_vec();
-            kept.retain(|literal| literal.word != LiteralWord::Ne);
-            closes(terms, &kept)
-        },
-        _ => |terms, branch| {
-            let mut kept = branch.to_vec();
-            kept.retain(|literal| literal.word != LiteralWord::Nl);
-            closes(terms, &kept)
-        },
-    }
+fn without_word(terms: &[Term], branch: &[Literal], word: LiteralWord) -> bool {
+    let mut kept = branch.to_vec();
+    kept.retain(|literal| literal.word != word);
+    closes(terms, &kept)
 }
 
 fn order_for_equality(terms: &[Term], branch: &[Literal]) -> bool {
@@ -195,14 +189,13 @@ fn with(terms: &[Term], branch: &[Literal], conditions: &[Condition]) -> bool {
 
 /// Closed under all conditions but one.
 fn without<const CONDITION: usize>(terms: &[Term], branch: &[Literal]) -> bool {
-    let mut conditions = CONDITIONS.map(|(_, condition)| condition).to_vec();
+    let mut conditions = conditions().to_vec();
     conditions.remove(CONDITION);
     with(terms, branch, &conditions)
 }
 
 fn without_equals(terms: &[Term], branch: &[Literal]) -> bool {
-    let conditions = CONDITIONS.map(|(_, condition)| condition);
-    with(terms, branch, &conditions[..LEFT])
+    with(terms, branch, &conditions()[..LEFT])
 }
 
 /// The literals of the branch, and others that follow from each pair of them.
@@ -243,9 +236,29 @@ fn circles_of_two(terms: &[Term], branch: &[Literal]) -> bool {
 
 /// With another condition for `sub`.
 fn with_sub(terms: &[Term], branch: &[Literal], sub: Condition) -> bool {
-    let mut conditions = CONDITIONS.map(|(_, condition)| condition);
+    let mut conditions = conditions();
     conditions[SUB] = sub;
     with(terms, branch, &conditions)
+}
+
+/// Puts two terms into eq where they are fit.
+fn equal_where(
+    terms: &[Term],
+    relations: &mut Relations,
+    fit: impl Fn(&Relations, &Term, &Term) -> bool,
+) {
+    for (t, term) in terms.iter().enumerate() {
+        for (w, other) in terms.iter().enumerate() {
+            if fit(relations, term, other) {
+                relations.eq.put(t, w);
+            }
+        }
+    }
+}
+
+/// Whether the term has arguments, which are terms.
+fn is_made(term: &Term) -> bool {
+    !takes_name(term.word) && !term.arguments.is_empty()
 }
 
 /// `sub` where the arguments of two terms with one word are fit.
@@ -254,17 +267,11 @@ fn sub_where(
     relations: &mut Relations,
     fit: impl Fn(&Relations, &[u32], &[u32]) -> bool,
 ) {
-    for (t, term) in terms.iter().enumerate() {
-        for (w, other) in terms.iter().enumerate() {
-            let is_made = !takes_name(term.word) && !term.arguments.is_empty();
-            if is_made
-                && term.word == other.word
-                && fit(relations, &term.arguments, &other.arguments)
-            {
-                relations.eq.put(t, w);
-            }
-        }
-    }
+    equal_where(terms, relations, |relations, term, other| {
+        is_made(term)
+            && term.word == other.word
+            && fit(relations, &term.arguments, &other.arguments)
+    });
 }
 
 fn are_equal(relations: &Relations, one: u32, other: u32) -> bool {
@@ -300,18 +307,14 @@ fn any_order(terms: &[Term], relations: &mut Relations) {
 /// A name is taken for the number of a term.
 fn with_names(terms: &[Term], relations: &mut Relations) {
     right_sub(terms, relations);
-    for (t, term) in terms.iter().enumerate() {
-        for (w, other) in terms.iter().enumerate() {
-            let ([a], [b]) = (&term.arguments[..], &other.arguments[..]) else {
-                continue;
-            };
-            let in_table = |name: &u32| *name as usize <= terms.len();
-            let has_name = takes_name(term.word) && term.word == other.word;
-            if has_name && in_table(a) && in_table(b) && are_equal(relations, *a, *b) {
-                relations.eq.put(t, w);
-            }
-        }
-    }
+    equal_where(terms, relations, |relations, term, other| {
+        let ([a], [b]) = (&term.arguments[..], &other.arguments[..]) else {
+            return false;
+        };
+        let in_table = |name: &u32| *name as usize <= terms.len();
+        let has_name = takes_name(term.word) && term.word == other.word;
+        has_name && in_table(a) && in_table(b) && are_equal(relations, *a, *b)
+    });
 }
 
 fn right_sub(terms: &[Term], relations: &mut Relations) {
@@ -319,18 +322,13 @@ fn right_sub(terms: &[Term], relations: &mut Relations) {
 }
 
 fn whatever_the_word(terms: &[Term], relations: &mut Relations) {
-    for (t, term) in terms.iter().enumerate() {
-        for (w, other) in terms.iter().enumerate() {
-            let are_made = !takes_name(term.word) && !takes_name(other.word);
-            let count = term.arguments.len();
-            if are_made && count > 0 && count == other.arguments.len() {
-                let mut pairs = term.arguments.iter().zip(&other.arguments);
-                if pairs.all(|(a, b)| are_equal(relations, *a, *b)) {
-                    relations.eq.put(t, w);
-                }
-            }
-        }
-    }
+    equal_where(terms, relations, |relations, term, other| {
+        let mut pairs = term.arguments.iter().zip(&other.arguments);
+        is_made(term)
+            && is_made(other)
+            && term.arguments.len() == other.arguments.len()
+            && pairs.all(|(a, b)| are_equal(relations, *a, *b))
+    });
 }
 
 /// Where two terms with one word are equal, so are their arguments.
@@ -338,8 +336,7 @@ fn arguments_too(terms: &[Term], relations: &mut Relations) {
     right_sub(terms, relations);
     for (t, term) in terms.iter().enumerate() {
         for (w, other) in terms.iter().enumerate() {
-            let is_made = !takes_name(term.word) && term.word == other.word;
-            if is_made && relations.eq.has(t, w) {
+            if is_made(term) && term.word == other.word && relations.eq.has(t, w) {
                 for (a, b) in term.arguments.iter().zip(&other.arguments) {
                     relations.eq.put(*a as usize - 1, *b as usize - 1);
                 }

@@ -1,26 +1,15 @@
 //! Tables of random terms, deep ones among them, with random assumptions.
 
 use crate::generator::aliases;
-use crate::generator::draft::{lit, Draft, Literal, Sort, TermId, MOST_IN_CLAUSE};
+use crate::generator::draft::{
+    lit, Draft, Literal, Operation, Sort, TermId, MOST_IN_CLAUSE, OPERATIONS,
+};
 use crate::generator::tableau::{without_steps, Tableau};
 use crate::random::Random;
 
 use Sort::{Class, Field, Heap, Reference, Region};
 
-pub type Operation = (&'static str, &'static [Sort]);
-
-pub const OPERATIONS: [Operation; 9] = [
-    ("rea", &[Heap, Reference, Field]),
-    ("cup", &[Region, Region]),
-    ("cap", &[Region, Region]),
-    ("dif", &[Region, Region]),
-    ("sin", &[Reference]),
-    ("img", &[Heap, Region, Field]),
-    ("wri", &[Heap, Reference, Field, Reference]),
-    ("typ", &[Reference]),
-    ("dty", &[Field]),
-];
-/// Those whose terms nest deep.
+/// The operations whose terms nest deep.
 const DEEP: [Operation; 3] = [OPERATIONS[0], OPERATIONS[5], OPERATIONS[6]];
 const SORTS: [Sort; 5] = [Reference, Region, Heap, Field, Class];
 

@@ -1,11 +1,13 @@
 //! Pairs to time the evaluators on. In all of them every assumption is true, so
 //! that an evaluator goes through all lines of both files.
 
-use crate::generator::draft::{Draft, MOST_CLAUSE_LINES, MOST_IN_CLAUSE, MOST_PLACES, MOST_TERMS};
+use crate::generator::draft::{
+    Draft, MOST_CLAUSE_LINES, MOST_IN_CLAUSE, MOST_PLACES, MOST_TERMS, OPERATIONS,
+};
 use crate::generator::tableau::without_steps;
 use crate::random::Random;
 
-use super::assumptions::{self, OPERATIONS};
+use super::assumptions;
 use super::heap_file::{fact, Fact, HeapFile, LIMITS, MOST_BYTES};
 use super::{Evaluation, GoodPair, Pair};
 

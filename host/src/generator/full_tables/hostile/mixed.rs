@@ -3,7 +3,7 @@
 use super::arrangements::{placed, Arrange};
 use super::{assume_arranged, keys, variables};
 use crate::generator::closable::Closable;
-use crate::generator::draft::{lit, Draft, Sort, TermId, MOST_IN_CLAUSE, MOST_TERMS};
+use crate::generator::draft::{lit, Draft, Sort, TermId, MOST_IN_CLAUSE, MOST_TERMS, OPERATIONS};
 use crate::generator::full_tables::key_clauses::MOST_ASSUMPTIONS;
 use crate::generator::full_tables::{fill, room};
 use crate::generator::tableau::Tableau;
@@ -72,21 +72,6 @@ const VARIABLES: [(Sort, &str, usize); 5] = [
     (Sort::Heap, "arv", 8),
     (Sort::Field, "fnv", 10),
     (Sort::Class, "clv", 40),
-];
-
-const OPERATIONS: [(&str, &[Sort]); 9] = [
-    ("rea", &[Sort::Heap, Sort::Reference, Sort::Field]),
-    ("cup", &[Sort::Region, Sort::Region]),
-    ("cap", &[Sort::Region, Sort::Region]),
-    ("dif", &[Sort::Region, Sort::Region]),
-    ("sin", &[Sort::Reference]),
-    ("img", &[Sort::Heap, Sort::Region, Sort::Field]),
-    (
-        "wri",
-        &[Sort::Heap, Sort::Reference, Sort::Field, Sort::Reference],
-    ),
-    ("typ", &[Sort::Reference]),
-    ("dty", &[Sort::Field]),
 ];
 
 /// Terms on variables of their own.
