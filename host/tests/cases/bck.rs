@@ -67,11 +67,16 @@ fn ended<L: AsRef<str>>(what: &str, terms: &[L], literals: &[String], closes: bo
     case(&format!("bck: {what}"), lines(&file), reply.leak())
 }
 
-/// Each row on these terms, all closed or all open.
-fn rows(what: &str, terms: &[&str], rows: &[&str], closes: bool) -> Vec<Case> {
-    rows.iter()
-        .map(|row| ended(&format!("{what}: {row}"), terms, &assumed(row), closes))
-        .collect()
+/// The literals of a row on these terms.
+fn row<L: AsRef<str>>(what: &str, terms: &[L], text: &str, closes: bool) -> Case {
+    ended(&format!("{what}: {text}"), terms, &assumed(text), closes)
+}
+
+/// Rows on these terms: those that `bck` closes, and those that it leaves open.
+fn closed_and_open(what: &str, terms: &[&str], closed: &[&str], open: &[&str]) -> Vec<Case> {
+    let closed = closed.iter().map(|text| row(what, terms, text, true));
+    let open = open.iter().map(|text| row(what, terms, text, false));
+    closed.chain(open).collect()
 }
 
 /// Four variables of each sort.
@@ -130,22 +135,12 @@ const WORDS: [&str; 17] = [
 fn a_term_and_itself() -> Vec<Case> {
     let mut cases = Vec::new();
     for term in 1..=WORDS.len() {
-        let denied = format!("{term} ne {term}");
-        cases.push(ended(
-            &format!("itself: {denied}"),
-            &WORDS,
-            &assumed(&denied),
-            true,
-        ));
-        let said = format!("{term} eq {term}");
-        cases.push(ended(
-            &format!("itself: {said}"),
-            &WORDS,
-            &assumed(&said),
-            false,
-        ));
+        for (word, closes) in [("ne", true), ("eq", false)] {
+            let literal = format!("{term} {word} {term}");
+            cases.push(row("itself", &WORDS, &literal, closes));
+        }
     }
-    cases.extend(rows("itself: none", &WORDS, &[""], false));
+    cases.push(row("itself: none", &WORDS, "", false));
     cases
 }
 
@@ -154,7 +149,7 @@ fn one_equation() -> Vec<Case> {
     let mut cases = Vec::new();
     for a in FIRSTS {
         let (b, c) = (a + 1, a + 2);
-        for (row, closes) in [
+        for (text, closes) in [
             (format!("{a} eq {b}, {a} ne {b}"), true),
             (format!("{a} ne {b}, {a} eq {b}"), true),
             (format!("{a} eq {b}, {b} ne {a}"), true), // sym
@@ -167,8 +162,7 @@ fn one_equation() -> Vec<Case> {
             (format!("{a} eq {b}, {b} eq {a}"), false), // nothing is denied
             (format!("{a} ne {b}, {b} ne {c}"), false),
         ] {
-            let what = format!("one equation: {row}");
-            cases.push(ended(&what, &FOUR, &assumed(&row), closes));
+            cases.push(row("one equation", &FOUR, &text, closes));
         }
     }
     cases
@@ -185,28 +179,11 @@ fn two_equations() -> Vec<Case> {
                     format!("{first}, {second}, {denied}"),
                     format!("{denied}, {second}, {first}"),
                 ];
-                for row in closed {
-                    let what = format!("two equations: {row}");
-                    cases.push(ended(&what, &FOUR, &assumed(&row), true));
-                }
+                cases.extend(closed.map(|text| row("two equations", &FOUR, &text, true)));
             }
         }
     }
-    cases.extend(rows(
-        "two equations",
-        &FOUR,
-        &[
-            "1 eq 2, 3 eq 4, 1 ne 3",         // no link
-            "1 eq 2, 3 eq 4, 1 ne 4",         // no link
-            "1 eq 2, 2 eq 3, 1 ne 4",         // another end
-            "1 eq 2, 1 eq 3, 2 ne 4",         // another end
-            "1 eq 2, 2 ne 3, 1 ne 3",         // ne is no link
-            "1 eq 2, 2 ne 3, 3 eq 4, 1 ne 4", // ne is no link
-            "1 eq 2, 5 eq 6, 1 ne 3",         // another sort
-        ],
-        false,
-    ));
-    cases.extend(rows(
+    cases.extend(closed_and_open(
         "two equations",
         &FOUR,
         &[
@@ -218,7 +195,15 @@ fn two_equations() -> Vec<Case> {
             "5 eq 6, 1 eq 2, 6 eq 7, 2 eq 3, 5 ne 7, 1 ne 4", // one of two denials
             "1 ne 4, 5 ne 8, 6 ne 7, 1 eq 2, 2 eq 3, 3 eq 1, 3 ne 2",
         ],
-        true,
+        &[
+            "1 eq 2, 3 eq 4, 1 ne 3",         // no link
+            "1 eq 2, 3 eq 4, 1 ne 4",         // no link
+            "1 eq 2, 2 eq 3, 1 ne 4",         // another end
+            "1 eq 2, 1 eq 3, 2 ne 4",         // another end
+            "1 eq 2, 2 ne 3, 1 ne 3",         // ne is no link
+            "1 eq 2, 2 ne 3, 3 eq 4, 1 ne 4", // ne is no link
+            "1 eq 2, 5 eq 6, 1 ne 3",         // another sort
+        ],
     ));
     cases
 }
@@ -236,6 +221,20 @@ fn mixed(count: usize) -> impl Iterator<Item = usize> {
     let odd = (1..count).step_by(2);
     let even = (2..count).step_by(2).collect::<Vec<_>>().into_iter().rev();
     odd.chain(even)
+}
+
+/// The links of a chain of so many terms, in three orders.
+fn chains(word: &str, count: usize) -> [(&'static str, Vec<String>); 3] {
+    [
+        ("forwards", links(word, 1..count)),
+        ("backwards", links(word, (1..count).rev())),
+        ("mixed", links(word, mixed(count))),
+    ]
+}
+
+/// The A lines with one more after them.
+fn and(assumptions: &[String], last: &str) -> Vec<String> {
+    [assumptions, &[last.into()]].concat()
 }
 
 /// Every link has its sides changed over.
@@ -256,31 +255,21 @@ fn chains_of_equations() -> Vec<Case> {
     for count in [4, 5, 10, 30, 100, 300, 600] {
         let terms = variables("rfv", count);
         let denied = format!("A,ne,1,{count},0,0");
-        let with_denial = |mut links: Vec<String>| {
-            links.push(denied.clone());
-            links
-        };
         let forwards = links("eq", 1..count);
-        let backwards = links("eq", (1..count).rev());
-        let mixed = links("eq", mixed(count));
-        let mut half: Vec<String> = forwards.clone();
-        half.truncate(count / 2);
-        half.extend(turned(&forwards[count / 2..]));
-        for (what, chain) in [
-            ("forwards", &forwards),
-            ("backwards", &backwards),
-            ("mixed", &mixed),
-            ("sides changed over", &turned(&forwards)),
-            ("half of it changed over", &half),
-        ] {
+        let (first, second) = forwards.split_at(count / 2);
+        let changed_over = [
+            ("sides changed over", turned(&forwards)),
+            ("half of it changed over", [first, &turned(second)].concat()),
+        ];
+        for (what, chain) in chains("eq", count).into_iter().chain(changed_over) {
             let what = format!("chain of {count}, {what}");
-            cases.push(ended(&what, &terms, &with_denial(chain.clone()), true));
+            cases.push(ended(&what, &terms, &and(&chain, &denied), true));
         }
         for gone in [1, count / 2, count - 1] {
             let mut broken = forwards.clone();
             broken.remove(gone - 1);
             let what = format!("chain of {count} without link {gone}");
-            cases.push(ended(&what, &terms, &with_denial(broken), false));
+            cases.push(ended(&what, &terms, &and(&broken, &denied), false));
         }
     }
     cases
@@ -345,16 +334,14 @@ fn differing_arguments() -> Vec<Case> {
                 .iter()
                 .map(|at| format!("{} eq {}", arguments[*at][0], arguments[*at][1]))
                 .collect();
-            let row = format!("{}, 21 ne 22", equations.join(", "));
-            let what = format!("{word} differing: {row}");
-            cases.push(ended(&what, &terms, &assumed(&row), true));
+            let text = format!("{}, 21 ne 22", equations.join(", "));
+            cases.push(row(&format!("{word} differing"), &terms, &text, true));
+            let what = format!("{word} with {at:?} differing");
             for gone in 0..equations.len() {
                 let mut kept = equations.clone();
                 kept.remove(gone);
                 kept.push("21 ne 22".into());
-                let row = kept.join(", ");
-                let what = format!("{word} with {at:?} differing: {row}");
-                cases.push(ended(&what, &terms, &assumed(&row), false));
+                cases.push(row(&what, &terms, &kept.join(", "), false));
             }
         }
     }
@@ -367,9 +354,8 @@ fn arguments_from_values() -> Vec<Case> {
     for (word, arguments) in WITH_ARGUMENTS {
         let terms = two_terms(word, arguments, &vec![true; arguments.len()]);
         for [one, other] in arguments {
-            let row = format!("21 eq 22, {one} ne {other}");
-            let what = format!("{word} equal: {row}");
-            cases.push(ended(&what, &terms, &assumed(&row), false));
+            let text = format!("21 eq 22, {one} ne {other}");
+            cases.push(row(&format!("{word} equal"), &terms, &text, false));
         }
     }
     cases
@@ -390,7 +376,7 @@ fn arguments_in_other_ways() -> Vec<Case> {
         "T,cup,4,5,0,0", // 9, cup(cup(r,s),cup(s,r))
         "T,cup,6,7,0,0", // 10, cup(cup(r,r),cup(s,s))
     ];
-    let mut cases = rows(
+    let mut cases = closed_and_open(
         "unions",
         &unions,
         &[
@@ -412,11 +398,6 @@ fn arguments_in_other_ways() -> Vec<Case> {
             "1 eq 4, 2 eq 4, 1 ne 2",
             "1 eq 4, 2 eq 4, 6 ne 7",
         ],
-        true,
-    );
-    cases.extend(rows(
-        "unions",
-        &unions,
         &[
             "1 eq 3, 4 ne 5",
             "1 eq 3, 6 ne 7",
@@ -430,8 +411,7 @@ fn arguments_in_other_ways() -> Vec<Case> {
             "4 eq 6, 4 ne 5",
             "4 eq 6, 1 ne 2", // cup(r,s) eq cup(r,r)
         ],
-        false,
-    ));
+    );
     // One variable serves as two arguments of wri.
     let writes = [
         "T,rfv,1,0,0,0", // 1, u
@@ -445,7 +425,7 @@ fn arguments_in_other_ways() -> Vec<Case> {
         "T,rea,5,1,4,0", // 9, rea(wri(h,u,f,u),u,f)
         "T,rea,6,2,4,0", // 10, rea(wri(h,v,f,v),v,f)
     ];
-    cases.extend(rows(
+    cases.extend(closed_and_open(
         "writes",
         &writes,
         &[
@@ -456,13 +436,7 @@ fn arguments_in_other_ways() -> Vec<Case> {
             "1 eq 2, 9 ne 10", // the heap and the reference at once
             "5 eq 6, 1 eq 2, 9 ne 10",
         ],
-        true,
-    ));
-    cases.extend(rows(
-        "writes",
-        &writes,
         &["5 ne 6", "7 ne 8", "5 eq 6, 9 ne 10", "5 eq 6, 7 ne 8"],
-        false,
     ));
     cases
 }
@@ -491,9 +465,10 @@ fn other_words() -> Vec<Case> {
         "T,cap,4,3,0,0", // 19
         "T,wri,5,1,6,2", // 20
     ];
-    rows(
+    closed_and_open(
         "other words",
         &terms,
+        &[],
         &[
             "7 ne 8",
             "7 ne 9",
@@ -516,7 +491,6 @@ fn other_words() -> Vec<Case> {
             "12 nl 13",
             "13 nl 12",
         ],
-        false,
     )
 }
 
@@ -545,9 +519,9 @@ fn names() -> Vec<Case> {
             ([3, 4], "3 eq 4, 2 ne 1", false),
             ([3, 4], "3 eq 4, 1 eq 2, 2 ne 1", true),
         ];
-        for (names, row, closes) in rows {
-            let what = format!("names, {word} {names:?}: {row}");
-            cases.push(ended(&what, &terms(names), &assumed(row), closes));
+        for (names, text, closes) in rows {
+            let what = format!("names, {word} {names:?}");
+            cases.push(row(&what, &terms(names), text, closes));
         }
     }
     // Terms 3 and 4 are of the same word as the variables whose names they are,
@@ -562,19 +536,7 @@ fn names() -> Vec<Case> {
         "T,typ,3,0,0,0", // 7
         "T,typ,4,0,0,0", // 8
     ];
-    cases.extend(self::rows(
-        "names",
-        &terms,
-        &[
-            "3 eq 4, 1 ne 2",
-            "1 eq 2, 3 ne 4",
-            "3 eq 4, 5 ne 6",
-            "1 eq 2, 7 ne 8",
-            "1 eq 2, 7 nl 8",
-        ],
-        false,
-    ));
-    cases.extend(self::rows(
+    cases.extend(closed_and_open(
         "names",
         &terms,
         &[
@@ -583,12 +545,34 @@ fn names() -> Vec<Case> {
             "3 eq 4, 7 nl 8",
             "3 eq 4, 8 nl 7",
         ],
-        true,
+        &[
+            "3 eq 4, 1 ne 2",
+            "1 eq 2, 3 ne 4",
+            "3 eq 4, 5 ne 6",
+            "1 eq 2, 7 ne 8",
+            "1 eq 2, 7 nl 8",
+        ],
     ));
     cases
 }
 
-/// rea(h, rea(h, ..u.., f), f) and the same of v, in three orders of the table,
+/// Two towers upon terms 1 and 2 of four: 5 and 6, 7 and 8, and so on.
+fn level_by_level(four: &[String], levels: usize, upon: impl Fn(usize) -> String) -> Vec<String> {
+    let mut terms = four.to_vec();
+    for level in 0..levels {
+        for side in 0..2 {
+            let inner = if level == 0 {
+                1 + side
+            } else {
+                3 + 2 * level + side
+            };
+            terms.push(upon(inner));
+        }
+    }
+    terms
+}
+
+/// rea(h, rea(h, ..u.., f), f) and the same of v, in two orders of the table,
 /// and the equation before or after the denial.
 fn towers() -> Vec<Case> {
     let mut cases = Vec::new();
@@ -599,21 +583,11 @@ fn towers() -> Vec<Case> {
             "T,rfv,2,0,0,0",
             "T,arv,1,0,0,0",
             "T,fnv,1,0,0,0",
-        ];
-        // Level by level: 5 and 6, 7 and 8, and so on.
-        let mut in_turn: Vec<String> = base.map(String::from).to_vec();
-        for level in 1..=levels {
-            for side in 0..2 {
-                let inner = if level == 1 {
-                    1 + side
-                } else {
-                    2 * level + 1 + side
-                };
-                in_turn.push(term("rea", &[3, inner, 4]));
-            }
-        }
+        ]
+        .map(String::from);
+        let in_turn = level_by_level(&base, levels, |inner| term("rea", &[3, inner, 4]));
         // All of u, then all of v: 5 and up, 5 + levels and up.
-        let mut one_by_one: Vec<String> = base.map(String::from).to_vec();
+        let mut one_by_one = base.to_vec();
         for side in 0..2 {
             for level in 0..levels {
                 let inner = if level == 0 {
@@ -629,7 +603,8 @@ fn towers() -> Vec<Case> {
             ("one by one", &one_by_one, 4 + levels, 4 + 2 * levels),
         ];
         for (order, terms, top_of_u, top_of_v) in tops {
-            for (row, closes) in [
+            let what = format!("tower of {levels}, {order}");
+            for (text, closes) in [
                 (format!("1 eq 2, {top_of_u} ne {top_of_v}"), true),
                 (format!("{top_of_u} ne {top_of_v}, 1 eq 2"), true),
                 (format!("2 eq 1, {top_of_u} ne {top_of_v}"), true),
@@ -637,31 +612,21 @@ fn towers() -> Vec<Case> {
                 (format!("{top_of_u} ne {top_of_v}"), false),
                 (format!("1 eq 2, {top_of_u} ne 2"), false), // another level
             ] {
-                let what = format!("tower of {levels}, {order}: {row}");
-                cases.push(ended(&what, terms, &assumed(&row), closes));
+                cases.push(row(&what, terms, &text, closes));
             }
         }
     }
     // All 600 terms: two towers of 298 unions upon 1 and 2, and two variables.
-    let mut terms = variables("rgv", 4);
-    for level in 0..298 {
-        for side in 0..2 {
-            let inner = if level == 0 {
-                1 + side
-            } else {
-                3 + 2 * level + side
-            };
-            terms.push(term("cup", &[inner, inner]));
-        }
-    }
-    for (row, closes) in [
+    let terms = level_by_level(&variables("rgv", 4), 298, |inner| {
+        term("cup", &[inner, inner])
+    });
+    for (text, closes) in [
         ("1 eq 2, 599 ne 600", true),
         ("1 eq 3, 4 eq 2, 3 eq 4, 600 ne 599", true),
         ("1 eq 3, 4 eq 2, 599 ne 600", false),
         ("1 eq 2, 597 ne 600", false),
     ] {
-        let what = format!("towers of 600 terms: {row}");
-        cases.push(ended(&what, &terms, &assumed(row), closes));
+        cases.push(row("towers of 600 terms", &terms, text, closes));
     }
     cases
 }
@@ -669,12 +634,10 @@ fn towers() -> Vec<Case> {
 /// g(u) stands for rea(h,u,f). Terms 4 to 13 are g(u), g(g(u)) and so on, up to
 /// ten times g: term 3 + n is g n times.
 fn rings_of_reads() -> Vec<Case> {
-    let mut terms = vec![
-        "T,arv,1,0,0,0", // 1, h
-        "T,fnv,1,0,0,0", // 2, f
-        "T,rfv,1,0,0,0", // 3, u
-    ];
-    terms.extend([
+    let terms = [
+        "T,arv,1,0,0,0",  // 1, h
+        "T,fnv,1,0,0,0",  // 2, f
+        "T,rfv,1,0,0,0",  // 3, u
         "T,rea,1,3,2,0",  // 4
         "T,rea,1,4,2,0",  // 5
         "T,rea,1,5,2,0",  // 6
@@ -685,8 +648,8 @@ fn rings_of_reads() -> Vec<Case> {
         "T,rea,1,10,2,0", // 11
         "T,rea,1,11,2,0", // 12
         "T,rea,1,12,2,0", // 13
-    ]);
-    let mut cases = rows(
+    ];
+    closed_and_open(
         "reads in a ring",
         &terms,
         &[
@@ -703,11 +666,6 @@ fn rings_of_reads() -> Vec<Case> {
             "5 eq 6, 5 ne 13",         // g g u = g g g u, and so on
             "5 eq 7, 9 eq 10, 5 ne 6", // 5 = 7 = 9 and so on, 6 = 8 = 10; 9 = 10
         ],
-        true,
-    );
-    cases.extend(rows(
-        "reads in a ring",
-        &terms,
         &[
             "3 eq 5, 3 ne 4",         // twice is not once
             "3 eq 5, 3 ne 6",         // nor three times
@@ -718,9 +676,7 @@ fn rings_of_reads() -> Vec<Case> {
             "5 eq 6, 4 ne 5",
             "13 eq 12, 11 ne 12",
         ],
-        false,
-    ));
-    cases
+    )
 }
 
 /// An equation that a congruence gives makes another congruence, several times;
@@ -764,23 +720,19 @@ fn one_upon_the_other() -> Vec<Case> {
         (23, 24),
     ] {
         let denied = format!("{left} ne {right}");
-        let mut kept = vec![
+        for (text, closes) in [
             (format!("{all}, {denied}"), true),
             (format!("{denied}, {all}"), true),
             (format!("6 eq 5, 2 eq 1, {denied}, 4 eq 3"), true),
-        ];
-        // Without one of the three.
-        kept.extend([
+            // Without one of the three.
             (format!("1 eq 2, 3 eq 4, {denied}"), false),
             (format!("1 eq 2, 5 eq 6, {denied}"), false),
             (format!("3 eq 4, 5 eq 6, {denied}"), false),
-        ]);
-        for (row, closes) in kept {
-            let what = format!("one upon the other: {row}");
-            cases.push(ended(&what, &terms, &assumed(&row), closes));
+        ] {
+            cases.push(row("one upon the other", &terms, &text, closes));
         }
     }
-    cases.extend(rows(
+    cases.extend(closed_and_open(
         "one upon the other",
         &terms,
         &[
@@ -794,11 +746,6 @@ fn one_upon_the_other() -> Vec<Case> {
             "12 eq 13, 8 eq 9, 5 eq 6, 23 ne 24",
             "8 eq 4, 9 eq 4, 1 eq 2, 5 eq 6, 10 ne 11", // by trn
         ],
-        true,
-    ));
-    cases.extend(rows(
-        "one upon the other",
-        &terms,
         &[
             "1 eq 2, 3 eq 4, 5 eq 6, 19 le 21, 22 nl 20",
             "12 eq 13, 10 ne 11",
@@ -806,7 +753,6 @@ fn one_upon_the_other() -> Vec<Case> {
             "8 eq 9, 10 ne 11",
             "19 eq 20, 10 ne 11",
         ],
-        false,
     ));
     cases
 }
@@ -833,7 +779,7 @@ const CLASSES: [&str; 13] = [
 ];
 
 fn order() -> Vec<Case> {
-    let mut cases = rows(
+    closed_and_open(
         "order",
         &CLASSES,
         &[
@@ -858,11 +804,6 @@ fn order() -> Vec<Case> {
             "1 le 2, 2 nl 1, 2 le 3, 3 le 1",
             "1 nl 4, 4 nl 1, 2 nl 3, 3 le 2, 2 le 3", // the third of three denials
         ],
-        true,
-    );
-    cases.extend(rows(
-        "order",
-        &CLASSES,
         &[
             "1 le 2, 2 nl 1", // left then right
             "2 le 1, 1 nl 2",
@@ -889,9 +830,7 @@ fn order() -> Vec<Case> {
             "9 nl 10",
             "11 nl 12",
         ],
-        false,
-    ));
-    cases
+    )
 }
 
 /// Class 1 under class count, through all between.
@@ -900,18 +839,10 @@ fn chains_of_order() -> Vec<Case> {
     for count in [4, 5, 10, 30, 100, 300] {
         let terms = variables("clv", count);
         let denied = format!("A,nl,1,{count},0,0");
-        let with = |mut links: Vec<String>, denied: &String| {
-            links.push(denied.clone());
-            links
-        };
         let forwards = links("le", 1..count);
-        for (what, chain) in [
-            ("forwards", forwards.clone()),
-            ("backwards", links("le", (1..count).rev())),
-            ("mixed", links("le", mixed(count))),
-        ] {
+        for (what, chain) in chains("le", count) {
             let what = format!("order of {count}, {what}");
-            cases.push(ended(&what, &terms, &with(chain, &denied), true));
+            cases.push(ended(&what, &terms, &and(&chain, &denied), true));
         }
         // Every second link is an equation, with its sides in any order.
         let mut equations = forwards.clone();
@@ -924,32 +855,29 @@ fn chains_of_order() -> Vec<Case> {
             }
         }
         let what = format!("order of {count}, with equations");
-        cases.push(ended(&what, &terms, &with(equations, &denied), true));
+        cases.push(ended(&what, &terms, &and(&equations, &denied), true));
         for gone in [1, count / 2, count - 1] {
             let mut broken = forwards.clone();
             broken.remove(gone - 1);
             let what = format!("order of {count} without link {gone}");
-            cases.push(ended(&what, &terms, &with(broken, &denied), false));
+            cases.push(ended(&what, &terms, &and(&broken, &denied), false));
             let mut reversed = forwards.clone();
             reversed[gone - 1] = format!("A,le,{},{gone},0,0", gone + 1);
             let what = format!("order of {count}, link {gone} changed over");
-            cases.push(ended(&what, &terms, &with(reversed, &denied), false));
+            cases.push(ended(&what, &terms, &and(&reversed, &denied), false));
         }
-        for word in ["ne", "nl"] {
-            let other = format!("A,{word},{count},1,0,0");
-            let what = format!("order of {count}, {count} {word} 1");
-            cases.push(ended(&what, &terms, &with(forwards.clone(), &other), false));
+        for (left, word, right) in [(count, "ne", 1), (count, "nl", 1), (1, "ne", count)] {
+            let other = format!("A,{word},{left},{right},0,0");
+            let what = format!("order of {count}, {left} {word} {right}");
+            cases.push(ended(&what, &terms, &and(&forwards, &other), false));
         }
-        let other = format!("A,ne,1,{count},0,0");
-        let what = format!("order of {count}, 1 ne {count}");
-        cases.push(ended(&what, &terms, &with(forwards, &other), false));
     }
     cases
 }
 
 /// A circle makes all its classes equal.
 fn circles() -> Vec<Case> {
-    let mut cases = rows(
+    closed_and_open(
         "circle",
         &CLASSES,
         &[
@@ -986,11 +914,6 @@ fn circles() -> Vec<Case> {
             "5 eq 6, 7 eq 8, 9 le 11, 12 le 10, 10 ne 11",
             "5 eq 6, 7 eq 8, 9 le 11, 12 le 10, 9 ne 12",
         ],
-        true,
-    );
-    cases.extend(rows(
-        "circle",
-        &CLASSES,
         &[
             "1 le 2, 2 le 3, 3 le 1, 1 ne 4",
             "1 le 2, 2 le 3, 1 le 3, 1 ne 3", // no circle
@@ -1007,9 +930,7 @@ fn circles() -> Vec<Case> {
             "9 le 11, 11 le 9, 10 ne 12",
             "5 eq 6, 9 le 11, 12 le 10, 10 ne 11",
         ],
-        false,
-    ));
-    cases
+    )
 }
 
 /// Circles of so many classes, with a denial of neighbours, of classes far from
@@ -1020,31 +941,22 @@ fn circles_of_all_classes() -> Vec<Case> {
         let terms = variables("clv", count);
         let back = format!("A,le,{count},1,0,0");
         let middle = count / 2;
-        for (order, mut chain) in [
-            ("forwards", links("le", 1..count)),
-            ("backwards", links("le", (1..count).rev())),
-            ("mixed", links("le", mixed(count))),
-        ] {
-            chain.push(back.clone());
+        for (order, chain) in chains("le", count) {
+            let circle = and(&chain, &back);
             for denied in [
                 format!("A,ne,1,{middle},0,0"),
                 format!("A,ne,{count},{middle},0,0"),
                 format!("A,nl,{count},2,0,0"),
             ] {
                 let what = format!("circle of {count}, {order}, {denied}");
-                let mut literals = chain.clone();
-                literals.push(denied);
-                cases.push(ended(&what, &terms, &literals, true));
+                cases.push(ended(&what, &terms, &and(&circle, &denied), true));
             }
-            chain.pop();
             for denied in [
                 format!("A,ne,1,{middle},0,0"),
                 format!("A,nl,{count},2,0,0"),
             ] {
                 let what = format!("circle of {count}, {order}, open, {denied}");
-                let mut literals = chain.clone();
-                literals.push(denied);
-                cases.push(ended(&what, &terms, &literals, false));
+                cases.push(ended(&what, &terms, &and(&chain, &denied), false));
             }
         }
     }
@@ -1053,7 +965,7 @@ fn circles_of_all_classes() -> Vec<Case> {
 
 /// Equals for equals in le: on the left, on the right, on both sides.
 fn equals_in_order() -> Vec<Case> {
-    let mut cases = rows(
+    closed_and_open(
         "equals",
         &CLASSES,
         &[
@@ -1099,11 +1011,6 @@ fn equals_in_order() -> Vec<Case> {
             // Into both sides of one literal.
             "1 eq 2, 2 le 3, 3 eq 1, 1 nl 2",
         ],
-        true,
-    );
-    cases.extend(rows(
-        "equals",
-        &CLASSES,
         &[
             "1 eq 2, 1 nl 3",
             "1 le 3, 1 eq 2, 3 nl 2",
@@ -1123,9 +1030,7 @@ fn equals_in_order() -> Vec<Case> {
             "9 eq 11, 9 nl 12",
             "1 le 2, 2 eq 3, 4 le 3, 1 nl 4",
         ],
-        false,
-    ));
-    cases
+    )
 }
 
 // ---------------------------------------------------------------------------
@@ -1145,10 +1050,19 @@ const MEMBERS: [&str; 9] = [
     "T,sin,1,0,0,0", // 9, sin(u)
 ];
 
+/// Members neither close a branch nor hinder what does.
 fn members() -> Vec<Case> {
-    let mut cases = rows(
+    closed_and_open(
         "members",
         &MEMBERS,
+        &[
+            "1 in 3, 3 ne 3, 1 ni 3",
+            "1 in 3, 1 ni 3, 1 eq 2, 1 ne 2",
+            "1 eq 2, 1 in 3, 2 ni 4, 2 ne 1",
+            "1 ne 2, 1 in 5, 2 eq 1",
+            "1 in 3, 1 eq 2, 8 ne 9",
+            "1 in 9, 8 ne 9, 2 in 8, 2 eq 1",
+        ],
         &[
             "1 in 3, 1 ni 3", // cls closes this, bck doesn't
             "1 ni 3, 1 in 3",
@@ -1163,23 +1077,7 @@ fn members() -> Vec<Case> {
             "1 ni 6, 1 in 3",
             "7 in 3",
         ],
-        false,
-    );
-    // They don't hinder either.
-    cases.extend(rows(
-        "members",
-        &MEMBERS,
-        &[
-            "1 in 3, 3 ne 3, 1 ni 3",
-            "1 in 3, 1 ni 3, 1 eq 2, 1 ne 2",
-            "1 eq 2, 1 in 3, 2 ni 4, 2 ne 1",
-            "1 ne 2, 1 in 5, 2 eq 1",
-            "1 in 3, 1 eq 2, 8 ne 9",
-            "1 in 9, 8 ne 9, 2 in 8, 2 eq 1",
-        ],
-        true,
-    ));
-    cases
+    )
 }
 
 /// True by the meaning, or by other rules, and not by these.
@@ -1213,9 +1111,10 @@ fn what_is_true_otherwise() -> Vec<Case> {
         "T,wri,15,1,6,2", // 26, the same write twice
         "T,rea,26,1,6,0", // 27
     ];
-    rows(
+    closed_and_open(
         "true otherwise",
         &terms,
+        &[],
         &[
             "9 ne 10",
             "11 ne 3",
@@ -1232,6 +1131,5 @@ fn what_is_true_otherwise() -> Vec<Case> {
             "26 ne 15",
             "27 ne 16",
         ],
-        false,
     )
 }

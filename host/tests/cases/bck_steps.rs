@@ -3,7 +3,7 @@
 
 use super::bck::{assumed, variables};
 use super::{case, lines, with_line, with_line_case, with_lines, with_more, without_line, Case};
-use super::{ALL, F, FIELD, HEAP, R, S, U, V};
+use super::{ALL, F, FIELD, HEAP, R, S, U, V, WITNESS_TERMS};
 
 pub fn cases() -> Vec<Case> {
     let groups = [
@@ -263,6 +263,8 @@ const TWO: [&str; 11] = [
 /// What stands in a closed alternative no longer counts; what stands in the
 /// current one does.
 fn an_alternative_closed() -> Vec<Case> {
+    let changed =
+        |name: &str, changes: &[(usize, &str)], reply| case(name, with_lines(&TWO, changes), reply);
     vec![
         case("bck: alternatives", lines(&TWO), "yes,0,0,4,3,3,2,0"),
         case(
@@ -276,78 +278,66 @@ fn an_alternative_closed() -> Vec<Case> {
             "no,5,12,0,0,0,0,0",
         ),
         // x eq y is not denied: u eq v and v ne u are no longer both there.
-        case(
+        changed(
             "bck: alternatives, the second not denied",
-            with_line(&TWO, 6, "A,ne,2,1,0,0"),
+            &[(6, "A,ne,2,1,0,0")],
             "no,12,11,0,0,0,0,0",
         ),
         // u eq v is not denied, though x eq y is: it waits.
-        case(
+        changed(
             "bck: alternatives, the first not denied",
-            with_line(&TWO, 5, "A,ne,3,4,0,0"),
+            &[(5, "A,ne,3,4,0,0")],
             "no,12,10,0,0,0,0,0",
         ),
-        case(
+        changed(
             "bck: alternatives, before the split",
-            with_line(&TWO, 9, BCK),
+            &[(9, BCK)],
             "no,12,9,0,0,0,0,0",
         ),
-        case(
+        changed(
             "bck: alternatives, a field in the second",
-            with_line(&TWO, 11, "S,bck,0,0,0,1"),
+            &[(11, "S,bck,0,0,0,1")],
             "no,6,11,0,0,0,0,0",
         ),
         // Denials in the alternatives, and equations on A lines.
-        case(
+        changed(
             "bck: alternatives that deny",
-            with_lines(
-                &TWO,
-                &[
-                    (5, "A,eq,2,1,0,0"),
-                    (6, "A,eq,3,4,0,0"),
-                    (7, "C,ne,1,2,1,0"),
-                    (8, "C,ne,4,3,1,0"),
-                ],
-            ),
+            &[
+                (5, "A,eq,2,1,0,0"),
+                (6, "A,eq,3,4,0,0"),
+                (7, "C,ne,1,2,1,0"),
+                (8, "C,ne,4,3,1,0"),
+            ],
             "yes,0,0,4,3,3,2,0",
         ),
-        case(
+        changed(
             "bck: alternatives that deny, the second nothing",
-            with_lines(
-                &TWO,
-                &[
-                    (5, "A,eq,2,1,0,0"),
-                    (6, "A,eq,3,4,0,0"),
-                    (7, "C,ne,1,2,1,0"),
-                    (8, "C,ne,1,3,1,0"),
-                ],
-            ),
+            &[
+                (5, "A,eq,2,1,0,0"),
+                (6, "A,eq,3,4,0,0"),
+                (7, "C,ne,1,2,1,0"),
+                (8, "C,ne,1,3,1,0"),
+            ],
             "no,12,11,0,0,0,0,0",
         ),
         // v eq x, x ne u, and u eq v or u eq x.
-        case(
+        changed(
             "bck: alternatives in a chain",
-            with_lines(
-                &TWO,
-                &[
-                    (5, "A,eq,2,3,0,0"),
-                    (6, "A,ne,3,1,0,0"),
-                    (8, "C,eq,1,3,1,0"),
-                ],
-            ),
+            &[
+                (5, "A,eq,2,3,0,0"),
+                (6, "A,ne,3,1,0,0"),
+                (8, "C,eq,1,3,1,0"),
+            ],
             "yes,0,0,4,3,3,2,0",
         ),
         // Both alternatives are needed at once: u eq v and v eq x for u ne x.
-        case(
+        changed(
             "bck: alternatives together",
-            with_lines(
-                &TWO,
-                &[
-                    (5, "A,ne,1,3,0,0"),
-                    (7, "C,eq,1,2,1,0"),
-                    (8, "C,eq,2,3,1,0"),
-                ],
-            ),
+            &[
+                (5, "A,ne,1,3,0,0"),
+                (7, "C,eq,1,2,1,0"),
+                (8, "C,eq,2,3,1,0"),
+            ],
             "no,12,10,0,0,0,0,0",
         ),
     ]
@@ -374,12 +364,12 @@ fn after_sge() -> Vec<Case> {
         // Place 2 gives it again.
         case(
             "bck: sge in both",
-            with_lines(&file, &[(9, "S,sge,2,0,0,0")]),
+            with_line(&file, 9, "S,sge,2,0,0,0"),
             "no,17,10,0,0,0,0,0",
         ),
         case(
             "bck: sge in both, closed",
-            with_more(&with_strs(&file, 9, "S,sge,2,0,0,0"), &[BCK]),
+            with_more(&file[..8], &["S,sge,2,0,0,0", BCK]),
             "yes,0,0,3,2,5,2,0",
         ),
         case(
@@ -398,13 +388,6 @@ fn after_sge() -> Vec<Case> {
             "yes,0,0,3,2,4,2,0",
         ),
     ]
-}
-
-/// The file's lines with one of them changed.
-fn with_strs<'a>(file: &[&'a str], number: usize, line: &'a str) -> Vec<&'a str> {
-    let mut changed = file.to_vec();
-    changed[number - 1] = line;
-    changed
 }
 
 /// `img` adds typ(u) nl dty(f) in its first alternative; le denies it.
@@ -452,18 +435,9 @@ fn three_alternatives() -> Vec<Case> {
 /// `wit` adds typ(w) le dty(f) and rea(h,w,f) eq u, which deny what `img` and
 /// `sep` add.
 fn witness() -> Vec<Case> {
-    let file = [
-        U,               // 1
-        V,               // 2, w
-        R,               // 3
-        HEAP,            // 4
-        FIELD,           // 5
-        "T,img,4,3,5,0", // 6, i = img(h,r,f)
-        "T,typ,2,0,0,0", // 7, typ(w)
-        "T,dty,5,0,0,0", // 8, dty(f)
-        "T,rea,4,2,5,0", // 9, rea(h,w,f)
+    let rest = [
         ALL,             // 10
-        "A,in,1,6,0,0",  // 11, 1: u in i
+        "A,in,1,6,0,0",  // 11, 1: u in i, which is img(h,r,f)
         "A,ni,1,6,0,0",  // 12, 2: u ni i
         "S,wit,1,0,0,2", // 13, 3: w in r, 4: typ(w) le dty(f), 5: rea(h,w,f) eq u
         "S,img,3,0,6,0", // 14, 6: typ(w) nl dty(f)
@@ -474,6 +448,7 @@ fn witness() -> Vec<Case> {
         "S,sep,6,2,0,0", // 19, 7: rea(h,w,f) ne u
         BCK,             // 20
     ];
+    let file = [&WITNESS_TERMS[..], &rest].concat();
     let changed = |number, line, reply| with_line_case("bck: wit", &file, (number, line), reply);
     vec![
         case("bck: wit", lines(&file), "yes,0,0,10,2,8,3,0"),
@@ -576,7 +551,7 @@ fn derived_literals() -> Vec<Case> {
         ),
         case(
             "bck: without lea",
-            with_strs_without(&file, &[8, 9]),
+            with_more(&file[..7], &[BCK]),
             "yes,0,0,3,4,1,1,0",
         ),
         case(
@@ -599,12 +574,12 @@ fn derived_literals() -> Vec<Case> {
         "S,rep,2,3,1,0",
     ] {
         let changed = with_lines(&file, &[(8, "S,ref,0,0,3,0"), (9, step)]);
-        let (name, reply) = match step {
+        let reply = match step {
             // trn needs b eq c, and then c on the left.
-            "S,trn,3,3,0,0" => (format!("bck: after {step}"), "no,12,9,0,0,0,0,0"),
-            _ => (format!("bck: after {step}"), "yes,0,0,3,4,3,1,0"),
+            "S,trn,3,3,0,0" => "no,12,9,0,0,0,0,0",
+            _ => "yes,0,0,3,4,3,1,0",
         };
-        cases.push(case(&name, changed, reply));
+        cases.push(case(&format!("bck: after {step}"), changed, reply));
     }
     // sep adds u ne v; with u eq v that closes.
     let sep = [
@@ -617,12 +592,7 @@ fn derived_literals() -> Vec<Case> {
         "S,sep,1,2,0,0", // 7, 4: u ne v
         BCK,             // 8
     ];
-    cases.push(case("bck: after sep", lines(&sep), "yes,0,0,3,3,2,1,0"));
-    cases.push(case(
-        "bck: before sep",
-        without_line(&sep, 7),
-        "no,12,7,0,0,0,0,0",
-    ));
+    cases.extend(after_and_before("sep", &sep, "yes,0,0,3,3,2,1,0"));
     // nul adds u ne nul.
     let nul = [
         U,               // 1
@@ -633,12 +603,7 @@ fn derived_literals() -> Vec<Case> {
         "S,nul,1,0,0,0", // 6, 3: u ne nul
         BCK,             // 7
     ];
-    cases.push(case("bck: after nul", lines(&nul), "yes,0,0,3,2,2,1,0"));
-    cases.push(case(
-        "bck: before nul",
-        without_line(&nul, 6),
-        "no,12,6,0,0,0,0,0",
-    ));
+    cases.extend(after_and_before("nul", &nul, "yes,0,0,3,2,2,1,0"));
     // rdh adds rea(k,u,f) eq v, rdm splits.
     let read = [
         U,                // 1
@@ -656,12 +621,7 @@ fn derived_literals() -> Vec<Case> {
         "S,rdh,0,0,6,0",  // 13, 2: rea(k,u,f) eq v
         BCK,              // 14
     ];
-    cases.push(case("bck: after rdh", lines(&read), "yes,0,0,11,1,2,1,0"));
-    cases.push(case(
-        "bck: before rdh",
-        without_line(&read, 13),
-        "no,12,13,0,0,0,0,0",
-    ));
+    cases.extend(after_and_before("rdh", &read, "yes,0,0,11,1,2,1,0"));
     let moved = [
         &read[..11],
         &[
@@ -697,23 +657,23 @@ fn derived_literals() -> Vec<Case> {
         "S,fin,1,0,0,0", // 9, 3: cup(i,r) eq r
         BCK,             // 10
     ];
-    cases.push(case("bck: after fin", lines(&fin), "yes,0,0,6,2,2,1,0"));
-    cases.push(case(
-        "bck: before fin",
-        without_line(&fin, 9),
-        "no,12,9,0,0,0,0,0",
-    ));
+    cases.extend(after_and_before("fin", &fin, "yes,0,0,6,2,2,1,0"));
     cases
 }
 
-/// The file without the numbered lines.
-fn with_strs_without(file: &[&str], gone: &[usize]) -> Vec<u8> {
-    let kept: Vec<&str> = (1..)
-        .zip(file)
-        .filter(|(number, _)| !gone.contains(number))
-        .map(|(_, line)| *line)
-        .collect();
-    lines(&kept)
+/// `bck` on the last line closes after the step by this rule on the line before,
+/// and not without it.
+fn after_and_before(rule: &str, file: &[&str], reply: &'static str) -> [Case; 2] {
+    let step = file.len() - 1;
+    let refused = format!("no,12,{step},0,0,0,0,0").leak();
+    [
+        case(&format!("bck: after {rule}"), lines(file), reply),
+        case(
+            &format!("bck: before {rule}"),
+            without_line(file, step),
+            refused,
+        ),
+    ]
 }
 
 /// A clause of three, each literal against another denial.
@@ -919,6 +879,11 @@ fn many_waiting() -> Vec<Case> {
     cases
 }
 
+/// The lines, the literals of a row and `bck`.
+fn ended(start: &[String], row: &str) -> Vec<u8> {
+    lines(&[start, &assumed(row), &[BCK.into()]].concat())
+}
+
 /// 600 terms, of which only the first and the last matter.
 fn many_terms() -> Vec<Case> {
     let mut cases = Vec::new();
@@ -932,50 +897,36 @@ fn many_terms() -> Vec<Case> {
         ("1 eq 256, 1 ne 512", "no,12,603,0,0,0,0,0"),
         ("", "no,12,601,0,0,0,0,0"),
     ] {
-        let mut file = variables("rfv", 600);
-        file.extend(assumed(row));
-        file.push(BCK.into());
-        cases.push(case(&format!("bck: 600 terms: {row}"), lines(&file), reply));
+        let file = ended(&variables("rfv", 600), row);
+        cases.push(case(&format!("bck: 600 terms: {row}"), file, reply));
     }
     // 1 to 300 are references, 301 to 600 their classes.
-    let mut file: Vec<String> = variables("rfv", 300);
-    file.extend((1..=300).map(|of| format!("T,typ,{of},0,0,0")));
-    let terms = file.clone();
-    file.extend((1..300).map(|of| format!("A,eq,{of},{},0,0", of + 1)));
-    let whole = |denied: &str| {
-        let mut lines_of = file.clone();
-        lines_of.extend(assumed(denied));
-        lines_of.push(BCK.into());
-        lines(&lines_of)
-    };
+    let mut terms: Vec<String> = variables("rfv", 300);
+    terms.extend((1..=300).map(|of| format!("T,typ,{of},0,0,0")));
+    let mut equal = terms.clone();
+    equal.extend((1..300).map(|of| format!("A,eq,{of},{},0,0", of + 1)));
     cases.push(case(
         "bck: 300 equal references, their classes",
-        whole("301 nl 600"),
+        ended(&equal, "301 nl 600"),
         "yes,0,0,600,300,1,1,0",
     ));
     cases.push(case(
         "bck: 300 equal references, their classes the other way",
-        whole("600 ne 301"),
+        ended(&equal, "600 ne 301"),
         "yes,0,0,600,300,1,1,0",
     ));
-    let mut orders: Vec<String> = terms.clone();
-    orders.extend((301..600).map(|of| format!("A,le,{of},{},0,0", of + 1)));
-    orders.push("A,eq,1,300,0,0".into());
-    let with = |denied: &str| {
-        let mut lines_of = orders.clone();
-        lines_of.extend(assumed(denied));
-        lines_of.push(BCK.into());
-        lines(&lines_of)
-    };
+    let mut circle = terms;
+    circle.extend((301..600).map(|of| format!("A,le,{of},{},0,0", of + 1)));
+    circle.push("A,eq,1,300,0,0".into());
     // typ of 1 is typ of 300, so that the chain is a circle.
     cases.push(case(
         "bck: 300 classes in a circle",
-        with("450 ne 333"),
+        ended(&circle, "450 ne 333"),
         "yes,0,0,600,301,1,1,0",
     ));
     cases.push(case(
         "bck: 300 classes in a circle, their references",
-        with("150 ne 33"),
+        ended(&circle, "150 ne 33"),
         "no,12,902,0,0,0,0,0",
     ));
     cases
@@ -992,10 +943,10 @@ fn sixty_thousand_bytes() -> Vec<Case> {
         file.extend([cut, BCK].repeat(cuts));
         file.push(BCK);
     }
-    let longer = [&file[..], &["S,cut,0,0,1,3", BCK]].concat();
+    let longer = with_more(&file, &[cut, BCK]);
     vec![
         case("bck: 2,140 times", lines(&file), "yes,0,0,3,2,4279,2140,0"),
-        case("bck: over 60,000 bytes", lines(&longer), "no,1,0,0,0,0,0,0"),
+        case("bck: over 60,000 bytes", longer, "no,1,0,0,0,0,0,0"),
     ]
 }
 

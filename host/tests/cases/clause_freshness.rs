@@ -1,7 +1,7 @@
 //! A fresh w must be absent from every clause, split or not.
 
 use super::{case, lines, runs, with_line, with_lines, with_more, Case};
-use super::{ALL, EMP, FIELD, HEAP, R, S, U, V};
+use super::{ALL, EMP, FIELD, HEAP, R, S, U, V, WITNESS_TERMS};
 
 pub fn cases() -> Vec<Case> {
     let groups = [
@@ -221,16 +221,7 @@ fn beside_splits() -> Vec<Case> {
 
 /// w is fresh for `wit`: nothing but its literals holds it.
 fn for_wit() -> Vec<Case> {
-    let file = [
-        U,               // 1
-        V,               // 2, w
-        R,               // 3
-        HEAP,            // 4
-        FIELD,           // 5
-        "T,img,4,3,5,0", // 6, img(h,r,f)
-        "T,typ,2,0,0,0", // 7, typ(w)
-        "T,dty,5,0,0,0", // 8, dty(f)
-        "T,rea,4,2,5,0", // 9, rea(h,w,f)
+    let rest = [
         EMP,             // 10
         "T,typ,1,0,0,0", // 11, typ(u)
         "A,in,1,6,0,0",  // 12, 1: u in img(h,r,f)
@@ -241,6 +232,7 @@ fn for_wit() -> Vec<Case> {
         "S,eqr,2,3,0,0", // 17, 6: w in emp
         "S,emp,6,0,0,0", // 18
     ];
+    let file = [&WITNESS_TERMS[..], &rest].concat();
     let mut cases = vec![case("fresh: wit", lines(&file), "yes,0,0,11,3,3,1,0")];
     // At no place: u in img(h,r,f) and r eq emp are without w.
     for literal in [
@@ -288,18 +280,14 @@ fn for_wit() -> Vec<Case> {
 
 /// w stands in a clause only; the step has another fault too.
 fn two_checks_broken_by_w() -> Vec<Case> {
-    let base = [
-        U,               // 1
-        V,               // 2, w
-        R,               // 3
-        HEAP,            // 4
-        FIELD,           // 5
-        "T,img,4,3,5,0", // 6, and no typ(w), dty(f), rea(h,w,f)
-        ALL,             // 7
-        "A,in,1,6,0,0",  // 1: u in img(h,r,f)
-        "A,ne,3,7,0,0",  // 2: r ne all
-        "C,in,2,3,1,0",  // 10, w in r
+    let rest = [
+        ALL,            // 7
+        "A,in,1,6,0,0", // 1: u in img(h,r,f)
+        "A,ne,3,7,0,0", // 2: r ne all
+        "C,in,2,3,1,0", // 10, w in r
     ];
+    // And no typ(w), dty(f), rea(h,w,f).
+    let base = [&WITNESS_TERMS[..6], &rest].concat();
     let rows = [
         // 13 alone; 13 and 14
         ("S,ext,2,0,0,2", "no,13,11,0,0,0,0,0"),

@@ -126,6 +126,20 @@ const NUL: &str = "T,nul,0,0,0,0";
 const EMP: &str = "T,emp,0,0,0,0";
 const ALL: &str = "T,all,0,0,0,0";
 
+/// u in img(h,r,f), and a fresh w for `wit`: the last three are the terms that it
+/// needs.
+const WITNESS_TERMS: [&str; 9] = [
+    U,               // 1
+    V,               // 2, w
+    R,               // 3
+    HEAP,            // 4
+    FIELD,           // 5
+    "T,img,4,3,5,0", // 6, img(h,r,f)
+    "T,typ,2,0,0,0", // 7, typ(w)
+    "T,dty,5,0,0,0", // 8, dty(f)
+    "T,rea,4,2,5,0", // 9, rea(h,w,f)
+];
+
 /// The document's file F.
 const F: [&str; 8] = [
     U,               // 1

@@ -5,7 +5,7 @@
 
 use super::clause_freshness::LARGER_TERMS;
 use super::{case, lines, runs, with_lines, with_more, Case};
-use super::{ALL, EMP, FIELD, HEAP, NUL, R, S, U, V};
+use super::{ALL, EMP, FIELD, HEAP, NUL, R, S, U, V, WITNESS_TERMS};
 
 pub fn cases() -> Vec<Case> {
     let groups = [
@@ -473,18 +473,14 @@ fn no_rfv() -> Vec<Case> {
 
 /// The place is 0 where a check before 13 is broken; 13 comes before 14.
 fn other_numbers() -> Vec<Case> {
-    let file = [
-        U,               // 1
-        V,               // 2, w
-        R,               // 3
-        HEAP,            // 4
-        FIELD,           // 5
-        "T,img,4,3,5,0", // 6, and no typ, dty(f), rea
+    let rest = [
         "T,rfv,3,0,0,0", // 7, z: fresh
         "A,ne,3,3,0,0",  // 1: r ne r
         "A,in,1,6,0,0",  // 2: u in img(h,r,f)
         "A,eq,2,2,0,0",  // 3: w eq w
     ];
+    // And no typ(w), dty(f), rea(h,w,f).
+    let file = [&WITNESS_TERMS[..6], &rest].concat();
     let rows = [
         ("S,ext,1,0,0,02", "no,2,11,0,0,0,0,0"),
         ("T,typ,2,0,0,0", "no,3,11,0,0,0,0,0"),
