@@ -1,5 +1,5 @@
 -- The rounds, and the answer.
-use mathlib.Core.Path.{_≡_, refl, sym, _∙_, ap, subst}
+use mathlib.Core.Path.{_≡_, sym, _∙_, ap, subst}
 use mathlib.Core.Bool.{Bool, true, false, true≢false, false≢true}
 use mathlib.Core.List.{List}
 use mathlib.Core.Logic.{inl, inr}
@@ -24,7 +24,7 @@ use Rattle.congruence.specs.Signatures.{JoinedAlike, CongruentIf}
 use Rattle.class_order.specs.Rows.{Filled}
 use Rattle.class_order.proofs.FillLaws.{class-in-table}
 use Rattle.background.specs.declared.RoundResult.{RoundResult}
-use Rattle.background.specs.Closure.{JoinedLiterals, UnderFollows, AllMutual, Antisymmetric, Saturated, denies, Denied, joined, SettledIf, Rounded}
+use Rattle.background.specs.Closure.{JoinedLiterals, UnderFollows, AllMutual, Antisymmetric, Saturated, denies, Denied, joined, SaturatedIf, Rounded}
 use Rattle.background.proofs.SaturatedLaws.{equal-follows, path-follows, under-follows, follows-there}
 
 class-small : (table : Table) (terms : List ℕ) → Entries table terms → (t : TermNo) → sortOf (at table t) ≡ Sort.Class → Small t
@@ -41,7 +41,7 @@ round-alike old mid new terms n B q r e L J = record {
   partition = J .change .partition;
   fewer = omega (arith, fewer-if q old mid (L .change .fewer), subst (λ v. Fewer v mid new) e (J .change .fewer));
   sound = λ table E len D. J .change .sound table B E (L .change .sound table B (λ l o. o) D);
-  settled-if = tt;
+  saturated-if = tt;
 }
 
 -- ONE THAT FOUND NONE: its blocks are those that the literals made
@@ -67,52 +67,52 @@ module _ (old mid new rows terms xs : List ℕ) (n m : ℕ) (q r : Bool) (L : Jo
   fewer = omega (arith, fewer-if q old mid (L .0 .change .fewer), fewer-if r mid new (A .change .fewer))
 
   pub round-mutual : r ≡ true → Rounded old new terms n B RoundResult.Joined
-  round-mutual e = record { partition = A .change .partition; fewer = subst (λ v. roots 1024 new + oneIf v ≤ roots 1024 old) e fewer; sound = sound; settled-if = tt }
+  round-mutual e = record { partition = A .change .partition; fewer = subst (λ v. roots 1024 new + oneIf v ≤ roots 1024 old) e fewer; sound = sound; saturated-if = tt }
 
   saturated : new ≡ mid → AllMutual new rows B → (table : Table) → Entries table terms → length table ≡ n → Saturated table B new rows
   saturated e M table E len = subst (λ (v : List ℕ). AllMutual v rows B → Saturated table B v rows) (sym e)
       (λ M. record { equal = L .0 .equal; congruent = L .1 table E len; filled = F table E len; antisymmetric = M }) M
 
-  pub round-settled : (s : Bool) → r ≡ false → Denied new rows B s → Rounded old new terms n B (RoundResult.Settled s)
-  round-settled s e D =
+  pub round-saturated : (s : Bool) → r ≡ false → Denied new rows B s → Rounded old new terms n B (RoundResult.Saturated s)
+  round-saturated s e D =
       let N : Antisymmetric rows mid new B false = subst (λ v. Antisymmetric rows mid new B v) e A in
       record {
         partition = A .change .partition;
         fewer = subst (λ v. roots 1024 new + oneIf v ≤ roots 1024 old) e fewer;
         sound = sound;
-        settled-if = (rows, saturated (N .change .fewer) (N .mutual-if), D);
+        saturated-if = (rows, saturated (N .change .fewer) (N .mutual-if), D);
       }
 
 -- ALL ROUNDS so far
 pub record Running (blocks terms : List ℕ) (n : ℕ) (B : List Literal) (r : RoundResult) : Type 0 where
   pub partition : IsPartition blocks
   pub sound : (table : Table) → Entries table terms → length table ≡ n → Sound table B blocks
-  pub settled-if : SettledIf r blocks terms n B
+  pub saturated-if : SaturatedIf r blocks terms n B
 
 pub run-first : (old new terms : List ℕ) (n : ℕ) (B : List Literal) (r : RoundResult) → Singletons old → Rounded old new terms n B r → Running new terms n B r
 run-first old new terms n B r S R = record {
   partition = R .partition;
   sound = λ table E len. R .sound table E len (λ x lx. subst (λ v. Follows table B Relation.Eq x v) (sym (S .alone x lx)) background.ref);
-  settled-if = R .settled-if;
+  saturated-if = R .saturated-if;
 }
 
 pub run-more : (old new terms : List ℕ) (n : ℕ) (B : List Literal) (q r : RoundResult) → Running old terms n B q → Rounded old new terms n B r → Running new terms n B r
-run-more old new terms n B q r P R = record { partition = R .partition; sound = λ table E len. R .sound table E len (P .sound table E len); settled-if = R .settled-if }
+run-more old new terms n B q r P R = record { partition = R .partition; sound = λ table E len. R .sound table E len (P .sound table E len); saturated-if = R .saturated-if }
 
 pub run-less : (old new terms : List ℕ) (n : ℕ) (B : List Literal) (q r : RoundResult) → q ≡ RoundResult.Joined → Rounded old new terms n B r
     → roots 1024 new + oneIf (joined r) < roots 1024 old + oneIf (joined q)
 run-less old new terms n B q r e R = subst (λ v. roots 1024 new + oneIf (joined r) < roots 1024 old + oneIf (joined v)) (sym e) (omega (arith, R .fewer))
 
 -- THE ANSWER
-module _ (blocks terms xs : List ℕ) (n m : ℕ) (r : Bool) (P : Running blocks terms n (branchOf xs m) (RoundResult.Settled r)) (table : Table) (E : Entries table terms) (len : length table ≡ n) where
+module _ (blocks terms xs : List ℕ) (n m : ℕ) (r : Bool) (P : Running blocks terms n (branchOf xs m) (RoundResult.Saturated r)) (table : Table) (E : Entries table terms) (len : length table ≡ n) where
   abbrev C : List Literal
   C = branchOf xs m
 
   abbrev rows : List ℕ
-  rows = P .settled-if .0
+  rows = P .saturated-if .0
 
   all-there : Saturated table C blocks rows
-  all-there = P .settled-if .1 table E len
+  all-there = P .saturated-if .1 table E len
 
   denied-contradicted : (l : Literal) → On C l → denies blocks rows l ≡ true → Contradicted table C
   unfolding denies
@@ -139,8 +139,8 @@ module _ (blocks terms xs : List ℕ) (n m : ℕ) (r : Bool) (P : Running blocks
   answer false f = elim (dec (contradicted table C)) [ inl e ↦ absurd (none-contradicted f (contradicted-only table C e)) | inr e ↦ sym e ]
 
   answered-so : r ≡ contradicted table C
-  answered-so = answer r (P .settled-if .2)
+  answered-so = answer r (P .saturated-if .2)
 
-pub answered : (blocks terms xs : List ℕ) (n m : ℕ) (q : RoundResult) (r : Bool) → q ≡ RoundResult.Settled r → Running blocks terms n (branchOf xs m) q
+pub answered : (blocks terms xs : List ℕ) (n m : ℕ) (q : RoundResult) (r : Bool) → q ≡ RoundResult.Saturated r → Running blocks terms n (branchOf xs m) q
     → (table : Table) → Entries table terms → length table ≡ n → r ≡ contradicted table (branchOf xs m)
 answered blocks terms xs n m q r e P = answered-so blocks terms xs n m r (subst (λ v. Running blocks terms n (branchOf xs m) v) e P)

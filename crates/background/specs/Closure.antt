@@ -76,14 +76,14 @@ Denied blocks rows B false = (l : Literal) → On B l → denies blocks rows l �
 -- ONE ROUND: it joined blocks, or none can be joined any more, and it says whether a literal denies what they say
 abbrev pub joined : RoundResult → Bool
 joined RoundResult.Joined = true
-joined (RoundResult.Settled r) = false
+joined (RoundResult.Saturated r) = false
 
-abbrev pub SettledIf : RoundResult → List ℕ → List ℕ → ℕ → List Literal → Type 0
-SettledIf RoundResult.Joined blocks terms n B = Unit {0}
-SettledIf (RoundResult.Settled r) blocks terms n B = (rows : List ℕ) × ((table : Table) → Entries table terms → length table ≡ n → Saturated table B blocks rows) × Denied blocks rows B r
+abbrev pub SaturatedIf : RoundResult → List ℕ → List ℕ → ℕ → List Literal → Type 0
+SaturatedIf RoundResult.Joined blocks terms n B = Unit {0}
+SaturatedIf (RoundResult.Saturated r) blocks terms n B = (rows : List ℕ) × ((table : Table) → Entries table terms → length table ≡ n → Saturated table B blocks rows) × Denied blocks rows B r
 
 pub record Rounded (old new terms : List ℕ) (n : ℕ) (B : List Literal) (r : RoundResult) : Type 0 where
   pub partition : IsPartition new
   pub fewer : roots 1024 new + oneIf (joined r) ≤ roots 1024 old
   pub sound : (table : Table) → Entries table terms → length table ≡ n → Sound table B old → Sound table B new
-  pub settled-if : SettledIf r new terms n B
+  pub saturated-if : SaturatedIf r new terms n B

@@ -23,10 +23,11 @@ ghost use Rattle.background.specs.Closure.{Rounded};
 // What a round comes to: it joined blocks, or there are none left to join, and it says whether the branch contradicts itself.
 enum RoundResult {
     Joined,
-    Settled(bool),
+    Saturated(bool),
 }
 
-// One round. `again` is set from the second one on: most branches need no second, and the search for congruent terms would cost them more than it saves.
+// One round. The eq literals are joined in each, though only the first finds sides apart, so that a round's promise asks nothing of those before. `again` is set from the second one on: most branches
+// need no second, and the search for congruent terms would cost them more than it saves. It is called at two places, so that the compiler leaves it, with its rows, out of the loop over the lines.
 fn round(
     blocks: &mut [u16; NUMBERS],
     terms: &[u64; NUMBERS],
@@ -48,7 +49,7 @@ fn round(
     if antisymmetry(blocks, &rows, branch, len) {
         RoundResult::Joined
     } else {
-        RoundResult::Settled(contradicts(&*blocks, &rows, branch, len))
+        RoundResult::Saturated(contradicts(&*blocks, &rows, branch, len))
     }
 }
 
@@ -67,7 +68,7 @@ pub fn contradicted(
     let mut blocks = singletons();
     let mut last = round(&mut blocks, terms, n, branch, len, false);
     loop {
-        if let RoundResult::Settled(answer) = last {
+        if let RoundResult::Saturated(answer) = last {
             return answer;
         }
         last = round(&mut blocks, terms, n, branch, len, true);

@@ -22,8 +22,8 @@ use Rattle.packing.specs.declared.LiteralView.{LiteralView}
 use Rattle.table.specs.Held.{Searchable}
 use Rattle.rules.specs.declared.outcome.Outcome.{Outcome}
 use Rattle.rules.specs.Answer.{Room, answerOf, Concludes, ConcludesFresh}
-use Rattle.equality_rules.specs.Closing.{closesWhere}
-use Rattle.conclusions.specs.Infers.{atPlace, ThirdGiven, TermGiven, Given, wholeBranch, isBackground, Infers}
+use Rattle.equality_rules.specs.Closing.{closesIf}
+use Rattle.conclusions.specs.Infers.{atPlace, ThirdGiven, TermGiven, Given, backgroundKind, isBackground, Infers}
 
 -- THE NUMBERS that a rule's function speaks of: 0 for a field that the rule does not use
 abbrev thirdOf : ThirdField → ℕ → ℕ
@@ -54,9 +54,9 @@ fourth-of (of s) n h = refl
 pub given-as : {x y : Rule} {t w : ℕ} → x ≡ y → Given x t w → Given y t w
 given-as {t = t} {w = w} e g = subst (λ (z : Rule). Given z t w) e g
 
--- A RULE THAT DOES NOT LOOK AT THE WHOLE BRANCH answers the same whatever that says
+-- A RULE THAT DOES NOT ASK WHETHER THE BRANCH CONTRADICTS ITSELF answers the same whichever it is
 module _ (table : Table) (P Q : Option Literal) (D : List Literal) (E F : Bool) (t w : ℕ) where
-  same-conclusion : (k : Kind) → wholeBranch k ≡ false → conclude table P Q t w D E k ≡ conclude table P Q t w D F k
+  same-conclusion : (k : Kind) → backgroundKind k ≡ false → conclude table P Q t w D E k ≡ conclude table P Q t w D F k
   unfolding conclude
   same-conclusion (rows Rs) h = refl
   same-conclusion congruence h = refl
@@ -95,16 +95,16 @@ module _ {x y : Rule} {P Q : LiteralView} {t w : ℕ} {fresh : Freshness} {E : B
   }
 
 -- `bck` closes where the branch contradicts itself
-background-answer : (table : Table) (fresh : Freshness) (P Q : Option Literal) (E : Bool) (t w : ℕ) → answer table fresh P Q [] E t w Rule.Bck ≡ answerOf (closesWhere E)
+background-answer : (table : Table) (fresh : Freshness) (P Q : Option Literal) (E : Bool) (t w : ℕ) → answer table fresh P Q [] E t w Rule.Bck ≡ answerOf (closesIf E)
 unfolding answer conclude rule
 background-answer table fresh P Q true t w = refl
 background-answer table fresh P Q false t w = refl
 
-closes-room : (E : Bool) → Room (closesWhere E)
+closes-room : (E : Bool) → Room (closesIf E)
 closes-room true = tt
 closes-room false = tt
 
-pub infers-background : {x : Rule} {P Q : LiteralView} {t w : ℕ} {fresh : Freshness} {terms chains : List ℕ} {r : Outcome} → x ≡ Rule.Bck → (E : Bool) → r ≡ closesWhere E
+pub infers-background : {x : Rule} {P Q : LiteralView} {t w : ℕ} {fresh : Freshness} {terms chains : List ℕ} {r : Outcome} → x ≡ Rule.Bck → (E : Bool) → r ≡ closesIf E
     → Infers x P Q t w fresh E terms chains r
 infers-background {P = P} {Q = Q} {t = t} {w = w} {fresh = fresh} {terms = terms} {chains = chains} {r = r} e E q = subst (λ (z : Rule). Infers z P Q t w fresh E terms chains r) (sym e) record {
   room = subst Room (sym q) (closes-room E);

@@ -38,16 +38,16 @@ pub record Given (x : Rule) (t w : ℕ) : Type 0 where
   pub third : ThirdGiven (ruleFields x .t) t
   pub fourth : TermGiven (ruleFields x .w) w
 
--- the rule that looks at the whole branch
-abbrev pub wholeBranch : Kind → Bool
-wholeBranch (rows Rs) = false
-wholeBranch congruence = false
-wholeBranch replacement = false
-wholeBranch disjunction = false
-wholeBranch background = true
+-- the rule that asks whether the branch contradicts itself
+abbrev pub backgroundKind : Kind → Bool
+backgroundKind (rows Rs) = false
+backgroundKind congruence = false
+backgroundKind replacement = false
+backgroundKind disjunction = false
+backgroundKind background = true
 
 abbrev pub isBackground : Rule → Bool
-isBackground x = wholeBranch (rule x)
+isBackground x = backgroundKind (rule x)
 
 -- the outcome is the answer of rule x, which looks at no clause, where E says whether the branch contradicts itself
 pub record Infers (x : Rule) (P Q : LiteralView) (t w : ℕ) (fresh : Freshness) (E : Bool) (terms chains : List ℕ) (r : Outcome) : Type 0 where

@@ -15,10 +15,10 @@ use Rattle.packing.specs.Packing.{literalOf}
 use Rattle.rules.specs.declared.outcome.Outcome.{Outcome}
 use Rattle.rules.specs.Answer.{Concludes, Room}
 use Rattle.rules.proofs.Laws.{by-test}
-use Rattle.equality_rules.specs.Closing.{closesIf}
+use Rattle.equality_rules.specs.Closing.{closesOnSame}
 
 -- an outcome of `closes` adds nothing
-closes-room : (a b x y : TermNo) → Room (closesIf a b x y)
+closes-room : (a b x y : TermNo) → Room (closesOnSame a b x y)
 closes-room a b x y = by-test (eqb a x) (λ l. by-test (eqb b y) (λ m. rw (l, m) tt) (λ m. rw (l, m) tt)) (λ l. rw l tt)
 
 abbrev Answers : LiteralView → LiteralView → Checked (List (List Literal)) → Type 0
@@ -26,7 +26,7 @@ Answers p q k = (table : Table) (fresh : Freshness) → answer table fresh (some
 
 -- p and q are of a relation and its denial, and their row looks at the sides alone
 pub on-sides : {A : Table → Type 0} {p q : LiteralView} (F G : TermNumber → TermNumber → LiteralView) {a b x y : TermNumber} {r : Outcome}
-    → p ≡ F a b → q ≡ G x y → r ≡ closesIf (a .0) (b .0) (x .0) (y .0)
+    → p ≡ F a b → q ≡ G x y → r ≡ closesOnSame (a .0) (b .0) (x .0) (y .0)
     → (eqb (a .0) (x .0) ≡ false → Answers (F a b) (G x y) (refused Reason.NeedNotMet))
     → (eqb (a .0) (x .0) ≡ true → eqb (b .0) (y .0) ≡ false → Answers (F a b) (G x y) (refused Reason.NeedNotMet))
     → (eqb (a .0) (x .0) ≡ true → eqb (b .0) (y .0) ≡ true → Answers (F a b) (G x y) (passed []))

@@ -6,9 +6,9 @@ use Rattle.tableau.specs.Terms.{TermNo}
 use Rattle.rules.specs.declared.outcome.Outcome.{Outcome}
 
 -- a closing, where its need is met
-abbrev pub closesWhere : Bool → Outcome
-closesWhere b = cond b Outcome.Closes (Outcome.Refused Reason.NeedNotMet)
+abbrev pub closesIf : Bool → Outcome
+closesIf b = cond b Outcome.Closes (Outcome.Refused Reason.NeedNotMet)
 
 -- two literals on two terms each, of relations that deny each other
-abbrev pub closesIf : TermNo → TermNo → TermNo → TermNo → Outcome
-closesIf a b x y = closesWhere (eqb a x && eqb b y)
+abbrev pub closesOnSame : TermNo → TermNo → TermNo → TermNo → Outcome
+closesOnSame a b x y = closesIf (eqb a x && eqb b y)

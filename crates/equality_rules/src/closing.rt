@@ -11,11 +11,11 @@ ghost use Rattle.tableau.specs.declared.Rule.{Rule};
 ghost use Rattle.tableau.specs.Terms.{Table};
 ghost use Rattle.packing.specs.Packing.{literalOf, SmallLiteral};
 ghost use Rattle.rules.specs.Answer.{IsNot, Anywhere, HeldBy, Concludes};
-ghost use Rattle.equality_rules.specs.Closing.{closesIf, closesWhere};
+ghost use Rattle.equality_rules.specs.Closing.{closesOnSame, closesIf};
 
 // The same two terms, in the same order, close.
 fn closes(a: TermNumber, b: TermNumber, x: TermNumber, y: TermNumber) -> Outcome
-    ensures { λ r. ⌜ r ≡ closesIf (a .0) (b .0) (x .0) (y .0) ⌝ }
+    ensures { λ r. ⌜ r ≡ closesOnSame (a .0) (b .0) (x .0) (y .0) ⌝ }
 {
     if a.0 != x.0 {
         return Outcome::Refused(Reason::NeedNotMet);
@@ -84,7 +84,7 @@ pub fn emp(p: LiteralView, terms: &[u64; table::NUMBERS]) -> Outcome
 
 // A branch that its equalities and order contradict closes.
 pub fn bck(contradicted: bool) -> Outcome
-    ensures { λ r. ⌜ r ≡ closesWhere contradicted ⌝ }
+    ensures { λ r. ⌜ r ≡ closesIf contradicted ⌝ }
 {
     if contradicted {
         return Outcome::Closes;

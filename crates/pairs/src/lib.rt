@@ -1,10 +1,9 @@
 // Pairs of numbers below NUMBERS that a search names, for whoever follows them: each as one number, and all in one array.
 use table::NUMBERS;
-ghost use Prim.Native.Nat.{ℕ};
 ghost use Rattle.packing.specs.Packing.{Small};
 ghost use Rattle.pairs.specs.Pairs.{AtMostPairs};
 
-// Room for a pair from each literal, and one from each block.
+// Room for what either search names: of the order, a pair from each literal and one from each block; of congruent terms, fewer than there are terms.
 pub const PAIRS: usize = 2048;
 
 // One pair x, y more after the first n, if there is room. Says how many there are.

@@ -1,4 +1,4 @@
--- When the freshness of w matters, and whether the branch contradicts itself.
+-- When it matters whether w is fresh, and when whether the branch contradicts itself.
 use mathlib.Core.Path.{_≡_, refl, _∙_, ap}
 use mathlib.Core.Bool.{Bool, true, false, _&&_, not, cond, false≢true}
 use mathlib.Core.List.{List, [], _∷_}
@@ -21,7 +21,7 @@ use Rattle.tableau.specs.Tree.{Checked, _>>=_, _>>_, requireSome, requireFresh,
 use Rattle.tableau.proofs.Bools.{both-false}
 use Rattle.tableau.proofs.Places.{rules, placeOf, placesBut, other-rule}
 use Rattle.syntax.specs.declared.Step.{Step}
-use Rattle.conclusions.specs.Infers.{wholeBranch, isBackground}
+use Rattle.conclusions.specs.Infers.{backgroundKind, isBackground}
 use Rattle.conclusions.proofs.Laws.{same-whatever}
 use Rattle.steps.specs.Asking.{anyFresh, freshKind, asksFresh, asksBranch, Tells}
 
@@ -89,7 +89,7 @@ unfolding answer ending
 unasked-answer table P Q D E t w x h f g = same-ending (conclude table P Q t w D E (rule x)) (unasked table P Q t w D E (rule x) h) f g
 
 -- nor does that of `bck`
-background-unasked : (k : Kind) → wholeBranch k ≡ true → freshKind k ≡ false
+background-unasked : (k : Kind) → backgroundKind k ≡ true → freshKind k ≡ false
 background-unasked (rows Rs) h = absurd (false≢true h)
 background-unasked congruence h = refl
 background-unasked replacement h = refl

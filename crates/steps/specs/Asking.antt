@@ -44,12 +44,12 @@ asksFresh x = freshKind (rule x)
 abbrev pub asksBranch : Rule → Bool
 asksBranch x = asksFresh x || isBackground x
 
--- the answers say of the step's rule what the freshness of its w, and whether the branch contradicts itself, would
+-- with these answers the step's rule answers as it does with the freshness of its w and with whether the branch contradicts itself
 abbrev pub Tells : Table → Clauses → List Literal → Step → Freshness → Bool → Type 0
 Tells table C B s f E = (P Q : Option Literal) (D : List Literal) (t : ℕ)
     → answer table f P Q D E t (s .w .0) (s .rule) ≡ answer table (freshness table C B (s .w .0)) P Q D (contradicted table B) t (s .w .0) (s .rule)
 
--- what was asked, and the rows after it
+-- what the answers tell, and the rows after them
 pub record Told (table : Table) (C : Clauses) (codes : List ℕ) (len : ℕ) (s : Step) (prefix : List ℕ) (r : Asked) : Type 0 where
   pub tells : Tells table C (branchOf codes len) s (r .fresh) (r .contradicted)
   pub rows : PrefixRows table C codes prefix (r .noted)

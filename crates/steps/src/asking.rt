@@ -21,7 +21,8 @@ pub struct Asked {
     pub noted: usize,
 }
 
-fn asks(rule: Rule) -> bool
+// One test for the rules that ask for nothing, which are most; which of the two is asked is told apart behind it.
+fn asks_branch(rule: Rule) -> bool
     ensures { λ r. ⌜ r ≡ asksBranch rule ⌝ }
 {
     match rule {
@@ -61,7 +62,7 @@ pub fn ask(
 {
     let rule = step.rule;
     let w = step.w;
-    if !asks(rule) {
+    if !asks_branch(rule) {
         return Asked {
             fresh: Freshness::Fresh,
             contradicted: false,

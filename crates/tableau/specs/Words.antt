@@ -43,7 +43,7 @@ relations =
     ("nl" ↣ Relation.Nl) ∷
     []
 
--- "S lines hold a rule."
+-- "S lines hold a rule." Those that close stand side by side.
 unfoldable pub ruleNames : List (Named Rule)
 ruleNames =
     ("eqr" ↣ Rule.Eqr) ∷

@@ -49,7 +49,7 @@ pub enum Relation {
     Nl,
 }
 
-// The words of S lines: the rules.
+// The words of S lines: the rules. Those that close stand side by side, so that one comparison tells them.
 pub enum Rule {
     Eqr,
     Eql,

@@ -879,8 +879,8 @@ fn many_waiting() -> Vec<Case> {
     cases
 }
 
-/// The lines, the literals of a row and `bck`.
-fn ended(start: &[String], row: &str) -> Vec<u8> {
+/// These lines, the literals of a row, and `bck`.
+fn closed_by_bck(start: &[String], row: &str) -> Vec<u8> {
     lines(&[start, &assumed(row), &[BCK.into()]].concat())
 }
 
@@ -897,7 +897,7 @@ fn many_terms() -> Vec<Case> {
         ("1 eq 256, 1 ne 512", "no,12,603,0,0,0,0,0"),
         ("", "no,12,601,0,0,0,0,0"),
     ] {
-        let file = ended(&variables("rfv", 600), row);
+        let file = closed_by_bck(&variables("rfv", 600), row);
         cases.push(case(&format!("bck: 600 terms: {row}"), file, reply));
     }
     // 1 to 300 are references, 301 to 600 their classes.
@@ -907,12 +907,12 @@ fn many_terms() -> Vec<Case> {
     equal.extend((1..300).map(|of| format!("A,eq,{of},{},0,0", of + 1)));
     cases.push(case(
         "bck: 300 equal references, their classes",
-        ended(&equal, "301 nl 600"),
+        closed_by_bck(&equal, "301 nl 600"),
         "yes,0,0,600,300,1,1,0",
     ));
     cases.push(case(
         "bck: 300 equal references, their classes the other way",
-        ended(&equal, "600 ne 301"),
+        closed_by_bck(&equal, "600 ne 301"),
         "yes,0,0,600,300,1,1,0",
     ));
     let mut circle = terms;
@@ -921,12 +921,12 @@ fn many_terms() -> Vec<Case> {
     // typ of 1 is typ of 300, so that the chain is a circle.
     cases.push(case(
         "bck: 300 classes in a circle",
-        ended(&circle, "450 ne 333"),
+        closed_by_bck(&circle, "450 ne 333"),
         "yes,0,0,600,301,1,1,0",
     ));
     cases.push(case(
         "bck: 300 classes in a circle, their references",
-        ended(&circle, "150 ne 33"),
+        closed_by_bck(&circle, "150 ne 33"),
         "no,12,902,0,0,0,0,0",
     ));
     cases

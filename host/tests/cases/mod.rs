@@ -126,8 +126,8 @@ const NUL: &str = "T,nul,0,0,0,0";
 const EMP: &str = "T,emp,0,0,0,0";
 const ALL: &str = "T,all,0,0,0,0";
 
-/// u in img(h,r,f), and a fresh w for `wit`: the last three are the terms that it
-/// needs.
+/// The terms of u in img(h,r,f), and of what `wit` adds with a fresh w: the last
+/// three serve only for that.
 const WITNESS_TERMS: [&str; 9] = [
     U,               // 1
     V,               // 2, w

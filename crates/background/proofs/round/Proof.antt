@@ -1,7 +1,7 @@
 use mathlib.Core.Path.{refl}
 use borrow.Author.Needs.{needs}
 use Rattle.class_order.proofs.WordLaws.{no-bits}
-use Rattle.background.proofs.RoundLaws.{round-alike, none-alike, round-mutual, round-settled}
+use Rattle.background.proofs.RoundLaws.{round-alike, none-alike, round-mutual, round-saturated}
 use Rattle.background.proofs.round.Statement.{statement}
 use Rattle.background.proofs.round.Tie as tie
 
@@ -34,7 +34,7 @@ returns-3 c =
     let j = e .before in
     let l = j .before .before in
     let s = l .before .before .args in
-    round-settled _ _ _ _ _ (s .branch .now) _ (s .len) _ _ (none-alike _ _ _ _ _ _ _ _ (e .if1 .left) (l .join-literals .ensures) (j .join-congruent .ensures)) (f .fill-rows .ensures)
+    round-saturated _ _ _ _ _ (s .branch .now) _ (s .len) _ _ (none-alike _ _ _ _ _ _ _ _ (e .if1 .left) (l .join-literals .ensures) (j .join-congruent .ensures)) (f .fill-rows .ensures)
     (a .antisymmetry .ensures) _ (i .if2 .left) (c .contradicts .ensures)
 
 pub round-spec : {M : Type 1} → statement M

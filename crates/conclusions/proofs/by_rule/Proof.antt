@@ -136,7 +136,7 @@ fin : (c : tie.After-fin) → Answers (c .before .before .before) (c .fin .resul
 unfolding ruleFields rule
 fin c = infers {y = Rule.Fin} (cc) refl (c .before .before .before .pre .1 .2) (λ table S. S) (c .fin .ensures)
 
--- the rule that looks at the whole branch
+-- the rule that asks whether the branch contradicts itself
 bck : (c : tie.After-bck) → Answers (c .before .before .before) (c .bck .result)
 bck c = let s = c .before .before .before in infers-background (cc) (s .args .contradicted) (c .bck .ensures)
 

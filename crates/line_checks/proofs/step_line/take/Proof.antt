@@ -1,5 +1,5 @@
--- The test of w, what the step adds, what that makes of the tree.
-use mathlib.Core.Path.{_≡_, sym, subst, _∙_, ap}
+-- What the step asks of the whole branch, what it adds, what that makes of the tree.
+use mathlib.Core.Path.{sym, subst, _∙_, ap}
 use Prim.Native.Nat.{_≤_}
 use Rattle.steps.specs.Inference.{RoomFor, inferredIn}
 use Rattle.line_checks.proofs.StepLines.{rows-kept, rows-split, step-taken, clause-taken}

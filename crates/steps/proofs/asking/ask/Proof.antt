@@ -11,7 +11,7 @@ returns : tie.Need-returns
 returns c =
     let s = c .before .before .before in (
       s .pre .1 .1,
-      λ table C E M q P. record { tells = tells-any table C _ (s .args .step) _ _ (sym (c .before .asks .ensures) ∙ not-true _ (c .if1 .taken)); rows = P },
+      λ table C E M q P. record { tells = tells-any table C _ (s .args .step) _ _ (sym (c .before .asks-branch .ensures) ∙ not-true _ (c .if1 .taken)); rows = P },
     )
 
 returns-2 : tie.Need-returns-2

@@ -6,8 +6,8 @@ use Rattle.tableau.proofs.Places.{rules}
 use Rattle.steps.specs.Asking.{anyFresh, asksBranch}
 use Rattle.steps.proofs.AskingLaws.{others-unasked}
 use borrow.Author.Needs.{needs}
-use Rattle.steps.proofs.asking.asks.Statement.{statement}
-use Rattle.steps.proofs.asking.asks.Tie as tie
+use Rattle.steps.proofs.asking.asks_branch.Statement.{statement}
+use Rattle.steps.proofs.asking.asks_branch.Tie as tie
 
 returns : tie.Need-returns
 unfolding rule anyFresh
@@ -25,5 +25,5 @@ returns-4 : tie.Need-returns-4
 unfolding rules ruleNames
 returns-4 c = sym (others-unasked (c .before .args .rule) (c .match .keys4))
 
-pub asks-spec : {M : Type 1} → statement M
-asks-spec = tie.close (tie.spec (λ c. search needs) (λ c. search needs) (λ c. search needs) returns returns-2 returns-3 returns-4)
+pub asks-branch-spec : {M : Type 1} → statement M
+asks-branch-spec = tie.close (tie.spec (λ c. search needs) (λ c. search needs) (λ c. search needs) returns returns-2 returns-3 returns-4)
