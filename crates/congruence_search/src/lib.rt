@@ -322,19 +322,6 @@ fn merge(cells: &mut [u16; CELLS], s: Search, x: usize, y: usize) -> Search
     absorb(cells, s, y, x)
 }
 
-// One pair more, if there is room.
-fn note(pairs: &mut [u32; PAIRS], s: Search, x: usize, y: usize) -> Search
-    requires { ⌜ Within s × Small x × Small y ⌝ }
-    ensures { λ r. ⌜ Within r ⌝ }
-{
-    Search {
-        front: s.front,
-        waiting: s.waiting,
-        entries: s.entries,
-        pairs: pairs::note(pairs, s.pairs, x, y),
-    }
-}
-
 // The term t, taken out of the queue, beside the one that was entered with its signature, if there is one.
 fn meet(
     cells: &mut [u16; CELLS],
@@ -354,7 +341,12 @@ fn meet(
     if get(&*cells, BLOCK, w) == get(&*cells, BLOCK, t) {
         return s;
     }
-    let u = note(pairs, s, t, w);
+    let u = Search {
+        front: s.front,
+        waiting: s.waiting,
+        entries: s.entries,
+        pairs: pairs::note(pairs, s.pairs, t, w),
+    };
     merge(cells, u, t, w)
 }
 

@@ -5,6 +5,8 @@ use Rattle.tableau.specs.declared.Reason.{Reason}
 use Rattle.tableau.specs.declared.Rule.{Rule}
 use Rattle.tableau.specs.Fields.{ruleFields}
 use Rattle.tableau.specs.Rules.{rule}
+use Rattle.tableau.specs.Terms.{Table}
+use Rattle.table.specs.Held.{Entries}
 use Rattle.rules.specs.declared.outcome.Outcome.{Outcome}
 use Rattle.conclusions.specs.Infers.{Given, Infers}
 use Rattle.conclusions.proofs.Laws.{given-as, infers, infers-fresh, infers-background, not-rep, not-cla}
@@ -15,6 +17,10 @@ use Rattle.conclusions.proofs.by_rule.Tie as tie
 -- what the rule is given, where the rule is known
 abbrev rule-given : (s : tie.Start) (x : Rule) → s .args .rule ≡ x → Given x (s .args .t .0) (s .args .w .0)
 rule-given s x e = given-as e (s .pre .1 .2)
+
+-- the table that the packed terms hold
+entries : (s : tie.Start) → (table : Table) × Entries table (now (s .args .terms))
+entries s = (s .pre .0 .0, s .pre .0 .1 .entries)
 
 -- the outcome of an arm
 abbrev Answers : tie.Start → Outcome → Type 0
@@ -152,19 +158,19 @@ cla c = let s = c .before .before in absurd (not-cla {x = s .args .rule} (s .pre
 -- what the functions that take t or w require
 ext-requires : tie.Need-ext-requires
 unfolding ruleFields
-ext-requires c κs = let s = c .before .before in ((s .pre .0 .0, s .pre .0 .1 .entries), (s .pre .1 .0, rule-given s Rule.Ext (cc) .fourth))
+ext-requires c κs = let s = c .before .before in (entries s, (s .pre .1 .0, rule-given s Rule.Ext (cc) .fourth))
 
 cpi-requires : tie.Need-cpi-requires
 unfolding ruleFields
-cpi-requires c κs = let s = c .before .before in ((s .pre .0 .0, s .pre .0 .1 .entries), (s .pre .1 .0, s .pre .1 .1, rule-given s Rule.Cpi (cc) .third))
+cpi-requires c κs = let s = c .before .before in (entries s, (s .pre .1 .0, s .pre .1 .1, rule-given s Rule.Cpi (cc) .third))
 
 cui-requires : tie.Need-cui-requires
 unfolding ruleFields
-cui-requires c κs = let s = c .before .before in ((s .pre .0 .0, s .pre .0 .1 .entries), (s .pre .1 .0, rule-given s Rule.Cui (cc) .third))
+cui-requires c κs = let s = c .before .before in (entries s, (s .pre .1 .0, rule-given s Rule.Cui (cc) .third))
 
 dfi-requires : tie.Need-dfi-requires
 unfolding ruleFields
-dfi-requires c κs = let s = c .before .before in ((s .pre .0 .0, s .pre .0 .1 .entries), (s .pre .1 .0, s .pre .1 .1, rule-given s Rule.Dfi (cc) .third))
+dfi-requires c κs = let s = c .before .before in (entries s, (s .pre .1 .0, s .pre .1 .1, rule-given s Rule.Dfi (cc) .third))
 
 sgi-requires : tie.Need-sgi-requires
 unfolding ruleFields
@@ -188,7 +194,7 @@ reflexive-requires c κs = let s = c .before .before in rule-given s Rule.Ref (c
 
 sub-requires : tie.Need-sub-requires
 unfolding ruleFields
-sub-requires c κs = let s = c .before .before in ((s .pre .0 .0, s .pre .0 .1 .entries), (rule-given s Rule.Sub (cc) .third, rule-given s Rule.Sub (cc) .fourth))
+sub-requires c κs = let s = c .before .before in (entries s, (rule-given s Rule.Sub (cc) .third, rule-given s Rule.Sub (cc) .fourth))
 
 ler-requires : tie.Need-ler-requires
 unfolding ruleFields
@@ -196,7 +202,7 @@ ler-requires c κs = let s = c .before .before in rule-given s Rule.Ler (cc) .th
 
 rdh-requires : tie.Need-rdh-requires
 unfolding ruleFields
-rdh-requires c κs = let s = c .before .before in ((s .pre .0 .0, s .pre .0 .1 .entries), rule-given s Rule.Rdh (cc) .third)
+rdh-requires c κs = let s = c .before .before in (entries s, rule-given s Rule.Rdh (cc) .third)
 
 rdm-requires : tie.Need-rdm-requires
 unfolding ruleFields
@@ -208,25 +214,25 @@ by-rule-spec =
     tie.close
     (tie.spec
     (λ c. search needs)
-    (λ c κs. let s = c .before .before in ((s .pre .0 .0, s .pre .0 .1 .entries), (s .pre .1 .0, s .pre .1 .1)))
+    (λ c κs. let s = c .before .before in (entries s, (s .pre .1 .0, s .pre .1 .1)))
     (λ c. search needs)
-    (λ c κs. let s = c .before .before in ((s .pre .0 .0, s .pre .0 .1 .entries), (s .pre .1 .0, s .pre .1 .1)))
+    (λ c κs. let s = c .before .before in (entries s, (s .pre .1 .0, s .pre .1 .1)))
     (λ c. search needs)
     ext-requires
     (λ c. search needs)
-    (λ c κs. let s = c .before .before in ((s .pre .0 .0, s .pre .0 .1 .entries), s .pre .1 .0))
+    (λ c κs. let s = c .before .before in (entries s, s .pre .1 .0))
     (λ c. search needs)
     cpi-requires
     (λ c. search needs)
-    (λ c κs. let s = c .before .before in ((s .pre .0 .0, s .pre .0 .1 .entries), s .pre .1 .0))
+    (λ c κs. let s = c .before .before in (entries s, s .pre .1 .0))
     (λ c. search needs)
     cui-requires
     (λ c. search needs)
-    (λ c κs. let s = c .before .before in ((s .pre .0 .0, s .pre .0 .1 .entries), s .pre .1 .0))
+    (λ c κs. let s = c .before .before in (entries s, s .pre .1 .0))
     (λ c. search needs)
     dfi-requires
     (λ c. search needs)
-    (λ c κs. let s = c .before .before in ((s .pre .0 .0, s .pre .0 .1 .entries), s .pre .1 .0))
+    (λ c κs. let s = c .before .before in (entries s, s .pre .1 .0))
     (λ c. search needs)
     sgi-requires
     (λ c. search needs)
@@ -263,7 +269,7 @@ by-rule-spec =
     (λ c. search needs)
     (λ c κs. search needs)
     (λ c. search needs)
-    (λ c κs. let s = c .before .before in ((s .pre .0 .0, s .pre .0 .1 .entries), s .pre .1 .0))
+    (λ c κs. let s = c .before .before in (entries s, s .pre .1 .0))
     (λ c. search needs)
     (λ c. search needs)
     (λ c κs. let s = c .before .before in (s .pre .0, s .pre .1 .0))
