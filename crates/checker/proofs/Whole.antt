@@ -31,15 +31,15 @@ pub too_long : (file : List ℕ) → max_bytes < length file → refuse Reason.T
 unfolding verdict_within
 too_long file h = rw (lt-leb (length file) max_bytes h)
 
-short_enough : (file : List ℕ) → length file ≤ max_bytes → verdict_on (check_from true file 0 0 (passed start)) ≡ verdict file
+short_enough : (file : List ℕ) → length file ≤ max_bytes → verdict_on (check_from file 0 0 (passed start)) ≡ verdict file
 unfolding verdict_within
 short_enough file h = rw (le-leb (length file) max_bytes h)
 
 -- THE LINES: one is refused, or all pass
-pub lines_stop : (file : List ℕ) → length file ≤ max_bytes → (r : Reason) (i : ℕ) → check_from true file 0 0 (passed start) ≡ stopped r i → refuse r i ≡ verdict file
+pub lines_stop : (file : List ℕ) → length file ≤ max_bytes → (r : Reason) (i : ℕ) → check_from file 0 0 (passed start) ≡ stopped r i → refuse r i ≡ verdict file
 lines_stop file h r i e = sym (ap verdict_on e) ∙ short_enough file h
 
-pub lines_end : (file : List ℕ) → length file ≤ max_bytes → {A : Arrays} {words : List ℕ} {t : Tree} {g : Progress} → Finished true file A words t g → verdict_at_end g ≡ verdict file
+pub lines_end : (file : List ℕ) → length file ≤ max_bytes → {A : Arrays} {words : List ℕ} {t : Tree} {g : Progress} → Finished file A words t g → verdict_at_end g ≡ verdict file
 lines_end file h {t = t} {g = g} F = go g.closed ∙ sym (ap verdict_on F.runs) ∙ short_enough file h
   where
     go : (b : Bool) → verdict_if b g ≡ at_end (state_at F.table F.clauses (tree_of unpack_literal t) g) (status_of b (tree_of unpack_literal t)) g.lines

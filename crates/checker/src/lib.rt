@@ -27,7 +27,6 @@ fn check(file: &[u8]) -> Verdict
     let mut clauses: [u32; clauses::WORDS] = [0; clauses::WORDS];
     let run = Run {
         tree: Tree::empty(),
-        steps: true,
     };
     let ran = run.run(
         file,
@@ -61,7 +60,7 @@ pub extern "C" fn tabcheck(file: &[u8], reply: &mut [u8]) -> u32
     number as u32
 }
 
-// The reply line of a file. The bytes behind `len` are free, since nobody writes them.
+// The reply line of a file.
 pub fn reply_line(file: &[u8]) -> Text
     ensures len_in_bounds { result.len ≤ length result.bytes }
     ensures result_value { text_of result ≡ specification.reply_line (specification.reply file.now) }

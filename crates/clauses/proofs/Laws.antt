@@ -14,8 +14,7 @@ use Rattle.tableau.specs.Terms.{ClauseNo, Literal, Disjunct, Clauses, clause_of,
 use Rattle.tableau.specs.Tree.{is_clause}
 use Rattle.tableau.specs.Reply.{max_disjuncts, max_clause_lines, last_or_next, takes_disjunct}
 use Rattle.tableau.proofs.Bools.{dec, eqb_same}
-use Rattle.tableau.specs.Invariants.{InSequence}
-use Rattle.tableau.proofs.ClauseLaws.{no_clauses, Fitting, fitting, last_after, clause_after, in_sequence_after}
+use Rattle.tableau.proofs.ClauseLaws.{InSequence, no_clauses, Fitting, fitting, last_after, clause_after, in_sequence_after}
 use Rattle.packing.specs.Packing.{unpack_literal, code_limit}
 use Rattle.clauses.proofs.Arrays.{all_set, get_d_zeros}
 use Rattle.clauses.specs.Held.{words_length, end_at, codes_at, ClausesHeld, SpanOf}

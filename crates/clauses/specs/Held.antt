@@ -2,7 +2,7 @@
 use Rattle.std.specs.Prelude.{◌≡◌, List, [], ◌∷◌, map, ℕ, zero, suc, ◌+◌, ◌<◌, ◌≤◌, length, get_or}
 use Rattle.tableau.specs.Terms.{ClauseNo, Clauses, clause_of, last_clause, lines_to}
 use Rattle.tableau.specs.Reply.{max_disjuncts, max_clause_lines}
-use Rattle.tableau.specs.Invariants.{InSequence}
+use Rattle.tableau.proofs.ClauseLaws.{InSequence}
 use Rattle.packing.specs.Packing.{unpack_literal, code_limit}
 use Rattle.clauses.specs.declared.Span.{Span}
 

@@ -369,8 +369,7 @@ fn step(
     meet(cells, pairs, terms, u, t)
 }
 
-// Writes the pairs, and says how many there are. Which they are, and in which order, is free: whoever follows them tests each. Any number in the
-// array is a pair of two small numbers (`pairs::first`, `second`).
+// Writes the pairs, and says how many there are.
 pub fn plan(
     blocks: &[u16; NUMBERS],
     terms: &[u64; NUMBERS],

@@ -16,7 +16,7 @@ use Rattle.tableau.specs.Reply.{State}
 use Rattle.tableau.specs.Claims.{line_disjunct, terms_in, literals_in, clauses_in}
 use Rattle.tableau.proofs.Bools.{clash, dec}
 use Rattle.tableau.proofs.Checks.{LinePassed, Run, done, next}
-use Rattle.tableau.specs.Invariants.{InSequence}
+use Rattle.tableau.proofs.ClauseLaws.{InSequence}
 use Rattle.evaluation.specs.Evaluation.{is_true, any_passes, first_false_clause}
 use Rattle.evaluation.specs.Claims.{Says, all_true, false_clause_at}
 use Rattle.evaluation.proofs.Decision.{any_iff}

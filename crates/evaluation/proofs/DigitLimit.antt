@@ -6,13 +6,13 @@ use Prim.Native.Nat.{ℕ, ◌≤◌}
 use native.Mathlib.Omega.{arith}
 use lib.Dec.{leb}
 use lib.ListN.{length}
-use Rattle.tableau.specs.File.{max_digits, split, LF, max_bytes, begins_step, before_steps}
+use Rattle.tableau.specs.File.{max_digits, split, LF, max_bytes}
 use Rattle.tableau.specs.Tree.{passed}
 use Rattle.tableau.specs.Reply.{State, start, RunEnd, stopped, ended, run_line_within, run_lines}
 use Rattle.tableau.specs.Claims.{AllOf, LineWithin, FileWithin}
 use Rattle.tableau.proofs.DigitLimit.{shape_agrees, runs_agree, check_agrees}
 use Rattle.evaluation.specs.Facts.{heap_letters, run_fact_read, run_fact_within, run_fact}
-use Rattle.evaluation.specs.Evaluation.{after_facts, read_heap, after_lines, read_checker, evaluation}
+use Rattle.evaluation.specs.Evaluation.{begins_step, before_steps, after_facts, read_heap, after_lines, read_checker, evaluation}
 use Rattle.evaluation.specs.Claims.{KeepsEvaluations}
 
 -- lines before the first step are lines of the file, or an empty piece

@@ -9,27 +9,27 @@ use lib.Dec.{leb}
 use lib.ListN.{length, length-append}
 use Rattle.tableau.specs.declared.Letter.{Letter}
 use Rattle.tableau.specs.declared.Reason.{Reason}
-use Rattle.tableau.specs.File.{letters, rank, in_order, max_digits, shape, split, LF, max_bytes, begins_step, before_steps}
+use Rattle.tableau.specs.File.{letters, rank, in_order, max_digits, shape, split, LF, max_bytes}
 use Rattle.tableau.specs.Terms.{TermNo, Term, Literal, Disjunct, clause_of, at}
 use Rattle.tableau.specs.Meaning.{FiniteHeap, Values, True, AllTrue, EveryClauseTrue}
 use Rattle.tableau.specs.Tree.{passed, is_closed}
 use Rattle.tableau.specs.Reply.{State, start, run_line, RunEnd, stopped, ended, run_lines}
 use Rattle.tableau.specs.Claims.{line_term, line_literal, line_disjunct, lines_of, terms_in, literals_in, clauses_in, NoHeap, Demand3}
-use Rattle.tableau.specs.Invariants.{WellFormed, InSequence}
 use Rattle.tableau.proofs.Bools.{clash, eqb_same}
-use Rattle.tableau.proofs.Begins.{begins_step_lem}
 use Rattle.tableau.proofs.Checks.{line_passed, LinePassed, Run, done, next, lines_passed, yes_accepted}
 use Rattle.tableau.proofs.Counts.{reason_not_0}
+use Rattle.tableau.proofs.WellFormed.{WellFormed}
 use Rattle.tableau.proofs.TreeSound.{all_append}
 use Rattle.tableau.proofs.TableGrowth.{empty_well_formed}
 use Rattle.tableau.proofs.Soundness.{line_well_formed, step_letter, from_step, demand3}
-use Rattle.tableau.proofs.ClauseLaws.{clause_append, no_clauses, run_in_sequence, run_clauses}
+use Rattle.tableau.proofs.ClauseLaws.{clause_append, InSequence, no_clauses, run_in_sequence, run_clauses}
 use Rattle.evaluation.specs.Facts.{Facts, is_nil, run_fact}
 use Rattle.evaluation.specs.Heaps.{is_order, heap_of, values_of, AsSaid}
-use Rattle.evaluation.specs.Evaluation.{is_true, first_false, or_clause, Evaluation, refusal, no_refusal}
+use Rattle.evaluation.specs.Evaluation.{is_true, first_false, or_clause, begins_step, before_steps, Evaluation, refusal, no_refusal}
 use Rattle.evaluation.specs.Evaluation.{false_line, on_heap, after_facts, read_heap, after_lines, read_checker, evaluation}
 use Rattle.evaluation.specs.Claims.{lines_read, facts_of, Says, all_true, false_at, false_clause_at, Means, EqualsMeaning, NeverAllTrue}
 use Rattle.evaluation.proofs.Decision.{true_iff}
+use Rattle.evaluation.proofs.Begins.{begins_step_lem}
 use Rattle.evaluation.proofs.FilesRead.{until_step, lines_read_lem, NoSteps, no_steps, OneAdded, term, assumption, disjunct, one_added, run_assumed, no_terms, no_literals_lem}
 use Rattle.evaluation.proofs.FilesRead.{FactPassed, fact_passed, facts_read}
 use Rattle.evaluation.proofs.ClauseLines.{says_false_clause}

@@ -6,19 +6,20 @@ use mathlib.Core.Option.{some}
 use Prim.Native.Nat.{ℕ}
 use Rattle.tableau.specs.declared.Letter.{Letter}
 use Rattle.tableau.specs.Basics.{lookup, every}
-use Rattle.tableau.specs.File.{Line, letters, rank, in_order, shape, begins_step, before_steps}
+use Rattle.tableau.specs.File.{Line, letters, rank, in_order, shape}
 use Rattle.tableau.specs.Words.{Command, make, assume, disjoin, infer}
 use Rattle.tableau.specs.Terms.{Term, Literal, literal, Disjunct, written}
 use Rattle.tableau.specs.Tree.{passed, is_open}
 use Rattle.tableau.specs.Reply.{State}
 use Rattle.tableau.specs.Claims.{line_term, line_literal, line_disjunct, all_but_last, terms_in, literals_in}
 use Rattle.tableau.proofs.Bools.{clash}
-use Rattle.tableau.proofs.Begins.{begins_step_lem}
 use Rattle.tableau.proofs.Checks.{passed_injective, require_passed, require_some_passed, letter_of, command_letter, LinePassed, Run, done, next}
 use Rattle.tableau.proofs.Soundness.{line_term_lem, line_literal_lem, line_disjunct_lem, line_table, unsplit, line_branch}
 use Rattle.evaluation.specs.declared.FactWord.{FactWord}
 use Rattle.evaluation.specs.Facts.{heap_letters, fact_words, fact_fields, Facts, size_first, zero_unless_used, may_follow, run_fact_read, run_fact}
+use Rattle.evaluation.specs.Evaluation.{begins_step, before_steps}
 use Rattle.evaluation.specs.Claims.{facts_in}
+use Rattle.evaluation.proofs.Begins.{begins_step_lem}
 
 -- THE CHECKER FILE: of its lines those before the first that begins `S,`
 abbrev pub until_step : List (List ℕ) → List (List ℕ)

@@ -17,7 +17,7 @@ use Rattle.evaluation.specs.declared.FactWord.{FactWord}
 use Rattle.evaluation.specs.Facts.{fact_index, fact_fields, Fact, Facts, sizes, subject_of, speaks_of}
 use Rattle.evaluation.specs.Facts.{find, said, fields_or0, given, is_nil, in_range, allowed, may_follow}
 use Rattle.evaluation.specs.Heaps.{is_under, is_order, is_allocated, heap_of, values_of, AsSaid}
-use Rattle.evaluation.specs.Invariants.{Passable, size, more}
+use Rattle.evaluation.proofs.Passable.{Passable, size, more}
 use Rattle.evaluation.proofs.Decision.{beq_eq}
 use Rattle.evaluation.proofs.FilesRead.{FactPassed}
 use Rattle.evaluation.proofs.FactLines.{is_size, is_size_lem}

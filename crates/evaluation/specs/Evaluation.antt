@@ -1,9 +1,10 @@
 -- Truth as a test, the reply from the bytes of both files, and the forms in which it is given.
-use Rattle.std.specs.Prelude.{◌≡◌, refl, Bool, true, false, not, cond, ◌||◌, List, [], ◌∷◌, ◌++◌, ℕ, zero, suc, ◌+◌, eqb, leb, length}
+use Rattle.std.specs.Prelude.{◌≡◌, refl, Bool, true, false, not, cond, ◌||◌, List, [], ◌∷◌, ◌++◌, ℕ, zero, suc, ◌+◌, eqb, leb, length, take}
 use Rattle.std.specs.Bool.{beq}
 use Rattle.tableau.specs.declared.Relation.{Relation}
 use Rattle.tableau.specs.declared.Reason.{Reason}
-use Rattle.tableau.specs.File.{max_digits, split, LF, max_bytes, before_steps}
+use Rattle.tableau.specs.Basics.{bytes, same_bytes}
+use Rattle.tableau.specs.File.{max_digits, split, LF, max_bytes}
 use Rattle.tableau.specs.Terms.{TermNo, ClauseNo, Term, Literal, literal, Clauses, clause_of, last_clause, lines_to, at, same_sort}
 use Rattle.tableau.specs.Meaning.{◌and◌, same, FiniteHeap, Region, Store, Value, reference, region, heap, field, class, kind, as_ref, as_region, as_store, as_field, as_class, Values, value, is_in, is_le}
 use Rattle.tableau.specs.Tree.{passed, Status, is_open, is_closed}
@@ -64,6 +65,15 @@ first_false_clause test i C k (suc n) = cond (any_passes test (clause_of C k)) (
 abbrev pub or_clause : ℕ → ℕ → ℕ
 or_clause zero i = i
 or_clause (suc j) i = suc j
+
+-- "Reading of the checker file stops before the first line that begins `S,`."
+abbrev pub begins_step : List ℕ → Bool
+begins_step l = same_bytes (bytes "S,") (take 2 l)
+
+-- of the pieces of a file; the last piece, behind the last LF, is then empty
+unfoldable pub before_steps : List (List ℕ) → List (List ℕ)
+before_steps [] = []
+before_steps (l ∷ ls) = cond (begins_step l) ([] ∷ []) (l ∷ before_steps ls)
 
 -- THE REPLY: "refusal number, file (1 checker, 2 heap, 0 without a refusal) and line"
 pub record Evaluation : Type 0 where

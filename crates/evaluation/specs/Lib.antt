@@ -2,8 +2,8 @@
 pub mod Orders
 pub mod Facts
 pub mod Heaps
-pub mod Invariants
 pub mod Evaluation
+pub mod Parts
 pub mod Claims
 pub mod Sayable
 pub mod Cases

@@ -4,7 +4,7 @@ use mathlib.Core.Bool.{true, false, true≢false}
 use mathlib.Core.List.{List, [], ◌∷◌, ◌++◌, map-append}
 use Prim.Native.Nat.{ℕ}
 use Rattle.tableau.specs.declared.Letter.{Letter}
-use Rattle.tableau.specs.File.{rank, in_order, begins_step}
+use Rattle.tableau.specs.File.{rank, in_order}
 use Rattle.tableau.specs.Basics.{four}
 use Rattle.tableau.specs.Words.{Command, make, assume, disjoin, infer}
 use Rattle.tableau.specs.Terms.{Table, Literal, literal, Disjunct, Clauses, disjuncts, at}
@@ -13,8 +13,9 @@ use Rattle.tableau.specs.Reply.{State}
 use Rattle.tableau.proofs.Bools.{clash}
 use Rattle.tableau.proofs.Checks.{letter_of, command_letter, Did, LinePassed, Run, done, next}
 use Rattle.tableau.proofs.ClauseLaws.{disjunct_as_assumption}
-use Rattle.tableau.specs.Invariants.{WellFormed}
+use Rattle.tableau.proofs.WellFormed.{WellFormed}
 use Rattle.tableau.proofs.Soundness.{unsplit, line_well_formed}
+use Rattle.evaluation.specs.Evaluation.{begins_step}
 use Rattle.evaluation.proofs.FilesRead.{NoSteps, no_step}
 use Rattle.term_values.specs.Literals.{IsAssumption}
 use Rattle.evaluator.specs.Assumptions.{AllAssumptions}

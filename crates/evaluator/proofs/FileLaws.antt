@@ -4,10 +4,10 @@ use mathlib.Core.Bool.{Bool, true, false, true≢false}
 use mathlib.Core.List.{List, []}
 use Prim.Native.Nat.{ℕ, ◌<◌, ◌≤◌}
 use lib.Dec.{leb}
-use lib.ListN.{length}
+use lib.ListN.{length, take}
 use borrow.Author.Tests.{le-leb, lt-leb}
 use Rattle.tableau.specs.declared.Reason.{Reason}
-use Rattle.tableau.specs.File.{LF, split, max_digits, max_bytes, before_steps}
+use Rattle.tableau.specs.File.{LF, split, max_digits, max_bytes}
 use Rattle.tableau.specs.Terms.{Literal}
 use Rattle.tableau.specs.Tree.{passed, Status, is_open}
 use Rattle.tableau.specs.Tree as specification
@@ -16,9 +16,11 @@ use Rattle.tableau.specs.Claims.{lines_of}
 use Rattle.tableau.proofs.Checks.{LinePassed, line_passed, Run, lines_passed}
 use Rattle.tableau.proofs.Soundness.{unsplit}
 use Rattle.tableau.proofs.TableGrowth.{empty_well_formed}
-use Rattle.evaluation.specs.Evaluation.{assumptions_of, refusal, read_heap, after_lines, evaluation}
+use Rattle.evaluation.specs.Evaluation.{before_steps, assumptions_of, refusal, read_heap, after_lines, evaluation}
 use Rattle.evaluation.specs.Claims.{lines_read}
+use Rattle.evaluation.specs.Parts.{steps_at}
 use Rattle.evaluation.proofs.FilesRead.{lines_read_lem, NoSteps, no_steps}
+use Rattle.evaluation.proofs.StepPrefix.{first_part}
 use Rattle.packing.specs.Packing.{unpack_literal}
 use Rattle.terms.specs.Arrays.{Arrays}
 use Rattle.tree.specs.declared.Tree.{Tree}
@@ -36,15 +38,19 @@ module _ (file heap : List ℕ) where
   unfolding evaluation
   file_too_long h = rw (lt-leb (length file) max_bytes h)
 
-  module _ (h : length file ≤ max_bytes) where
-    file_runs : {e : RunEnd State} → check_from false file 0 0 (passed start) ≡ e → evaluation file heap ≡ after_lines max_digits e heap
-    unfolding evaluation
-    file_runs {e} r = rw (le-leb (length file) max_bytes h) (ap (λ (x : RunEnd State). after_lines max_digits x heap) r)
+  module _ (h : length file ≤ max_bytes) (k : ℕ) (q : k ≡ steps_at file) where
+    -- the lines of the part that is read
+    part_lines : split LF (take k file) ≡ before_steps (split LF file)
+    part_lines = ap (λ (n : ℕ). split LF (take n file)) q ∙ first_part file
 
-    pub file_stops : (r : Reason) (i : ℕ) → check_from false file 0 0 (passed start) ≡ stopped r i → evaluation file heap ≡ refusal r 1 i
+    file_runs : {e : RunEnd State} → check_from (take k file) 0 0 (passed start) ≡ e → evaluation file heap ≡ after_lines max_digits e heap
+    unfolding evaluation
+    file_runs {e} r = rw (le-leb (length file) max_bytes h, ← part_lines) (ap (λ (x : RunEnd State). after_lines max_digits x heap) r)
+
+    pub file_stops : (r : Reason) (i : ℕ) → check_from (take k file) 0 0 (passed start) ≡ stopped r i → evaluation file heap ≡ refusal r 1 i
     file_stops r i e = file_runs e
 
-    module _ {A : Arrays} {words : List ℕ} {t : Tree} {g : Progress} (F : Finished false file A words t g) where
+    module _ {A : Arrays} {words : List ℕ} {t : Tree} {g : Progress} (F : Finished (take k file) A words t g) where
       abbrev state : State
       state = state_at F.table F.clauses (tree_of unpack_literal t) g
 
@@ -54,7 +60,7 @@ module _ (file heap : List ℕ) where
       assumed : Assumed state
       unfolding AllAssumptions
       assumed =
-          let r : Run LinePassed start (lines_read file) state = lines_passed LinePassed run_line (λ σ σ'. line_passed σ) (before_steps (split LF file)) 0 start F.runs in
+          let r : Run LinePassed start (lines_read file) state = rw (← part_lines) (lines_passed LinePassed run_line (λ σ σ'. line_passed σ) (split LF (take k file)) 0 start F.runs) in
           let n : NoSteps (lines_read file) = rw (lines_read_lem (split LF file)) (no_steps (lines_of file)) in
           run_assumed r n (record { literals = []; status = refl; checked = tt; disjuncts_checked = tt; first = λ o. (refl, refl); well_formed = empty_well_formed })
 

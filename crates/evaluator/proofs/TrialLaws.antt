@@ -20,7 +20,7 @@ use Rattle.evaluation.specs.Facts.{Facts, sizes, is_nil, run_fact}
 use Rattle.evaluation.specs.Heaps.{is_order, heap_of, values_of}
 use Rattle.evaluation.specs.Evaluation.{is_true, first_false, first_false_clause, or_clause, assumptions_of, refusal, no_refusal, false_line, on_heap, after_facts, read_heap}
 use Rattle.tableau.proofs.Checks.{lines_passed}
-use Rattle.evaluation.specs.Invariants.{Passable}
+use Rattle.evaluation.proofs.Passable.{Passable}
 use Rattle.evaluation.proofs.FilesRead.{FactPassed, fact_passed}
 use Rattle.evaluation.proofs.HeapSaid.{run_passable}
 use Rattle.running.specs.Running.{run_from}

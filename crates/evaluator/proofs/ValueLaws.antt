@@ -10,7 +10,7 @@ use lib.ListN.{length, take, set, length-set}
 use Rattle.tableau.specs.declared.Sort.{Sort}
 use Rattle.tableau.specs.declared.Name.{Name}
 use Rattle.tableau.specs.Terms.{TermNo, Table, Term, variable, apply, at, max_terms}
-use Rattle.tableau.specs.Invariants.{WellFormed}
+use Rattle.tableau.proofs.WellFormed.{WellFormed}
 use Rattle.packing.specs.declared.TermView.{TermView}
 use Rattle.packing.specs.Packing.{Packable, name_limit}
 use Rattle.packing.specs.contracts.TermView as term-view

@@ -2,7 +2,7 @@
 use Rattle.std.specs.Prelude.{◌≡◌, List, ℕ, length}
 use Rattle.tableau.specs.Terms.{disjuncts, at}
 use Rattle.tableau.specs.Reply.{State}
-use Rattle.tableau.specs.Invariants.{WellFormed}
+use Rattle.tableau.proofs.WellFormed.{WellFormed}
 use Rattle.evaluation.specs.Evaluation.{assumptions_of}
 use Rattle.clauses.specs.Held.{ClausesHeld}
 use Rattle.table.specs.Held.{Entries}

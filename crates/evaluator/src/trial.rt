@@ -5,7 +5,7 @@ ghost use Rattle.tableau.specs.Reply.{State};
 ghost use Rattle.evaluation.specs.Facts.{Facts, sizes as sizesGiven};
 ghost use Rattle.evaluation.specs.Heaps.{is_order};
 ghost use Rattle.evaluation.specs.Evaluation.{on_heap, read_heap};
-ghost use Rattle.evaluation.specs.Invariants.{Passable};
+ghost use Rattle.evaluation.proofs.Passable.{Passable};
 ghost use Rattle.facts.specs.Keys.{sizes_of, FactsHeld};
 ghost use Rattle.evaluation_reply.specs.Evaluation.{evaluation_record};
 ghost use Rattle.evaluator.specs.Trial.{StateHeld};

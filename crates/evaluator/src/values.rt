@@ -1,7 +1,7 @@
 // The values of all terms in a heap that was read.
 ghost use Rattle.std.specs.Prelude.{◌≡◌, ◌+◌, ◌≤◌, length};
 ghost use Rattle.tableau.specs.Terms.{Table, at, max_terms};
-ghost use Rattle.tableau.specs.Invariants.{WellFormed};
+ghost use Rattle.tableau.proofs.WellFormed.{WellFormed};
 ghost use Rattle.table.specs.Held.{Entries};
 ghost use Rattle.facts.specs.Keys.{LinesLent};
 ghost use Rattle.term_values.specs.Values.{rows_length};

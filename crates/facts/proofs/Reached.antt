@@ -109,12 +109,12 @@ module _ {file keys values : List ℕ} {s : Sizes} {n at : ℕ} (R : Reached fil
   finished h = record { facts = R.facts; held = R.held; sized = R.sized; runs = R.runs ∙ at_end_lem run_fact file at h n R.facts }
 
   module _ (f : LineFields) (e : line_at file at ≡ LineRead.Line f) where
-    pub refused_line : (r : Reason) (i : ℕ) → FactDone R.facts f (n + 1) (FactResult.Refused r i) → run_from run_fact file 0 0 (passed []) ≡ stopped r i
-    refused_line r i d =
-        rw (d.1, add-one n)
-        (R.runs ∙ (line_here fact_fields_lem file at f e).runs n R.facts ∙ ap (run_from run_fact file f.next.at (suc n)) d.0 ∙ refused_here run_fact file f.next.at (suc n) r)
+    pub refused_line : (r : Reason) → FactDone R.facts f (FactResult.Refused r) → run_from run_fact file 0 0 (passed []) ≡ stopped r (n + 1)
+    refused_line r d =
+        rw (add-one n)
+        (R.runs ∙ (line_here fact_fields_lem file at f e).runs n R.facts ∙ ap (run_from run_fact file f.next.at (suc n)) d ∙ refused_here run_fact file f.next.at (suc n) r)
 
-    pub more : (x : NewFact) → FactDone R.facts f (n + 1) (FactResult.Passed x) → Reached file (set keys n x.key) (set values n x.value) (sizes_after (eqb n 0) f s) (n + 1) f.next.at
+    pub more : (x : NewFact) → FactDone R.facts f (FactResult.Passed x) → Reached file (set keys n x.key) (set values n x.value) (sizes_after (eqb n 0) f s) (n + 1) f.next.at
     more x d =
         let l = line_here fact_fields_lem file at f e in
         let H = R.held in

@@ -50,7 +50,7 @@ pub record ValuesFit (r : Four FactField) (n : Four ℕ) : Type 0 where
   pub c : value_part r.c n.c < 64
   pub d : value_part r.d n.d < 64
 
--- LINE i CHECKED, its word known: it is refused, or it passes with the key and the value that it adds
+-- A LINE CHECKED, its word known: it is refused, or it passes with the key and the value that it adds
 pub record WordAdded (facts : Facts) (f : LineFields) (w : FactWord) (x : NewFact) : Type 0 where
   pub unused_zero : every zero_unless_used (fact_fields w) (numbers_of f) ≡ true
   pub ranges : every (in_range (sizes facts)) (fact_fields w) (numbers_of f) ≡ true
@@ -58,9 +58,9 @@ pub record WordAdded (facts : Facts) (f : LineFields) (w : FactWord) (x : NewFac
   pub is_value : x.value ≡ value_of w (numbers_of f)
   pub runs : run_word facts f w ≡ passed (facts ++ (record { word = w; fields = numbers_of f } ∷ []))
 
-abbrev pub WordDone : Facts → LineFields → FactWord → ℕ → FactResult → Type 0
-WordDone facts f w i (FactResult.Passed x) = WordAdded facts f w x
-WordDone facts f w i (FactResult.Refused r j) = (run_word facts f w ≡ refused r) × (j ≡ i)
+abbrev pub WordDone : Facts → LineFields → FactWord → FactResult → Type 0
+WordDone facts f w (FactResult.Passed x) = WordAdded facts f w x
+WordDone facts f w (FactResult.Refused r) = run_word facts f w ≡ refused r
 
 -- the same of any word; the first line is `siz`
 pub record Added (facts : Facts) (f : LineFields) (x : NewFact) : Type 0 where
@@ -69,9 +69,9 @@ pub record Added (facts : Facts) (f : LineFields) (x : NewFact) : Type 0 where
   pub added : WordAdded facts f word x
   pub runs : run_fact_fields facts f ≡ run_word facts f word
 
-abbrev pub FactDone : Facts → LineFields → ℕ → FactResult → Type 0
-FactDone facts f i (FactResult.Passed x) = Added facts f x
-FactDone facts f i (FactResult.Refused r j) = (run_fact_fields facts f ≡ refused r) × (j ≡ i)
+abbrev pub FactDone : Facts → LineFields → FactResult → Type 0
+FactDone facts f (FactResult.Passed x) = Added facts f x
+FactDone facts f (FactResult.Refused r) = run_fact_fields facts f ≡ refused r
 
 -- the sizes after a line, those of the first
 abbrev pub sizes_after : Bool → LineFields → Sizes → Sizes

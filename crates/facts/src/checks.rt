@@ -1,6 +1,6 @@
 // The checks of a D line that is read, in the order of their numbers.
 ghost use Rattle.std.specs.Bool.{beq};
-ghost use Rattle.std.specs.Prelude.{List, ◌≡◌, ℕ, ◌+◌, eqb};
+ghost use Rattle.std.specs.Prelude.{List, ◌≡◌, ℕ, eqb};
 ghost use Rattle.evaluation.specs.Facts.{fact_fields, Facts, sizes as sizesGiven, allowed as isAllowed};
 ghost use Rattle.lines.specs.Lines.{numbers_of};
 ghost use Rattle.running.specs.Running.{SmallNumbers};
@@ -16,7 +16,6 @@ use crate::{FACTS, Sizes};
 use evaluation::FactWord;
 use lines::LineFields;
 use tableau::Reason;
-use words::search;
 
 // What a line adds that passes.
 #[derive(Drop)]
@@ -25,12 +24,14 @@ pub struct NewFact {
     pub value: u8,
 }
 
-// What a line comes to; a refusal has the line's number.
 #[derive(Drop)]
 pub enum FactResult {
     Passed(NewFact),
-    Refused(Reason, usize),
+    Refused(Reason),
 }
+
+// `siz`, packed.
+const SIZ: usize = 8022387;
 
 // The index of `alc` in the table of words.
 const ALC_INDEX: usize = 1;
@@ -39,11 +40,10 @@ const ALC_INDEX: usize = 1;
 fn size_first(count: usize, word: usize) -> bool
     ensures { result ≡ beq (eqb count 0) (eqb word siz_word) }
 {
-    let is_size = search(word, b"siz ") == 0;
     if count == 0 {
-        return is_size;
+        return word == SIZ;
     }
-    !is_size
+    word != SIZ
 }
 
 fn key_of(word: FactWord, row: FactRow, f: LineFields) -> u64
@@ -103,22 +103,21 @@ fn check_word(
     requires by_index { (facts : Facts) × (values : List ℕ) × FactsHeld facts keys.now values count }
     requires small_numbers { SmallNumbers (numbers_of f) × SizesFit (sizes_of sizes) }
     ensures { (facts : Facts) (values : List ℕ) → FactsHeld facts keys.now values count → sizesGiven facts ≡ sizes_of sizes
-        → WordDone facts f word (count + 1) result }
+        → WordDone facts f word result }
 {
-    let line = count + 1;
     let row = row_of(word);
     if !unused_zero(row, f) {
-        return FactResult::Refused(Reason::UnusedField, line);
+        return FactResult::Refused(Reason::UnusedField);
     }
     if !all_in_range(sizes, row, f) {
-        return FactResult::Refused(Reason::BadFact, line);
+        return FactResult::Refused(Reason::BadFact);
     }
     let key = key_of(word, row, f);
     if has(keys, count, key) {
-        return FactResult::Refused(Reason::BadFact, line);
+        return FactResult::Refused(Reason::BadFact);
     }
     if !allowed(word, f, keys, count) {
-        return FactResult::Refused(Reason::BadFact, line);
+        return FactResult::Refused(Reason::BadFact);
     }
     let value = value_of(word, row, f);
     FactResult::Passed(NewFact { key, value })
@@ -129,19 +128,18 @@ pub fn check_fact(f: LineFields, keys: &[u64; FACTS], count: usize, sizes: Sizes
     requires by_index { (facts : Facts) × (values : List ℕ) × FactsHeld facts keys.now values count }
     requires small_numbers { SmallNumbers (numbers_of f) × SizesFit (sizes_of sizes) }
     ensures { (facts : Facts) (values : List ℕ) → FactsHeld facts keys.now values count → sizesGiven facts ≡ sizes_of sizes
-        → FactDone facts f (count + 1) result }
+        → FactDone facts f result }
 {
-    let line = count + 1;
     let letter = f.letter;
     if letter != b'D' {
-        return FactResult::Refused(Reason::BadShape, line);
+        return FactResult::Refused(Reason::BadShape);
     }
     let packed = f.word;
     if !size_first(count, packed) {
-        return FactResult::Refused(Reason::LetterOrder, line);
+        return FactResult::Refused(Reason::LetterOrder);
     }
     let FactFound::Known(word) = word_of(packed) else {
-        return FactResult::Refused(Reason::UnknownWord, line);
+        return FactResult::Refused(Reason::UnknownWord);
     };
     check_word(word, f, keys, count, sizes)
 }

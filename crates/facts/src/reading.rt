@@ -54,8 +54,8 @@ pub fn read_facts(file: &[u8], keys: &mut [u64; FACTS], values: &mut [u8; FACTS]
             return FactsEnd::Stopped(Reason::BadShape, count + 1);
         };
         match check_fact(f, keys, count, sizes) {
-            FactResult::Refused(reason, line) => {
-                return FactsEnd::Stopped(reason, line);
+            FactResult::Refused(reason) => {
+                return FactsEnd::Stopped(reason, count + 1);
             }
             FactResult::Passed(fact) => {
                 keys[count] = fact.key;

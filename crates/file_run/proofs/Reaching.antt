@@ -1,17 +1,16 @@
--- The run over a file: its start, a bad line, a line refused, a line more, the steps, the end.
+-- The run over a file: its start, a bad line, a line refused, a line more, the end.
 use mathlib.Core.Path.{◌≡◌, refl, sym, ◌∙◌, ap, subst}
-use mathlib.Core.Bool.{Bool, true, false}
 use mathlib.Core.List.{List, []}
 use Prim.Native.Nat.{ℕ, suc, ◌+◌, ◌<◌, ◌≤◌}
 use native.Mathlib.Omega.{arith}
 use native.Mathlib.Numerals.{add-one}
-use lib.ListN.{length, take, drop}
+use lib.ListN.{length, take}
 use lib.Seq.{length-take-le, take-take, take-append-le}
 use Rattle.tableau.specs.declared.Reason.{Reason}
 use Rattle.tableau.specs.File.{max_bytes}
 use Rattle.tableau.specs.Tree as specification
 use Rattle.tableau.specs.Tree.{passed, root}
-use Rattle.tableau.specs.Reply.{State, stopped, ended}
+use Rattle.tableau.specs.Reply.{run_line, stopped}
 use Rattle.lines.specs.declared.LineFields.{LineFields}
 use Rattle.lines.specs.declared.LineRead.{LineRead}
 use Rattle.lines.specs.Lines.{line_at}
@@ -32,9 +31,8 @@ use Rattle.growth.specs.declared.Progress.{Progress}
 use Rattle.growth.specs.declared.LineResult.{LineResult}
 use Rattle.growth.specs.Progress.{state_at, at_start}
 use Rattle.line_checks.specs.Checks.{Ready, Done, HeldAfter, LineDone}
-use Rattle.running.specs.Running.{stops_at, check_from}
-use Rattle.running.proofs.Lines.{check_fields, line_here}
-use Rattle.running.proofs.StepsUnread.{line_read_lem, refused_read, bad_read, steps_here, end_read}
+use Rattle.running.specs.Running.{check_from}
+use Rattle.running.proofs.Lines.{check_fields, line_here, bad_line, refused_here, at_end_lem}
 use Rattle.file_run.specs.declared.RunEnd.{RunEnd}
 use Rattle.file_run.specs.Reached.{Reached, Finished, RunsTo}
 
@@ -44,9 +42,9 @@ front_kept {b} {more} {b'} {cut} {n} a l m h =
     let k : cut ≤ n = omega (arith, a.count) in
     sym (take-take m n b' (omega arith)) ∙ ap (take m) a.codes ∙ take-append-le m (take cut b) more (omega (arith, length-take-le cut b l, h)) ∙ take-take m cut b h
 
-pub reached_start : {steps : Bool} {file : List ℕ} {A : Arrays} {words prefix : List ℕ} {t : Tree} → Held [] A 0 → PrefixRows [] [] t.branch prefix 0 → ClausesHeld [] words 0 → Within t
-    → tree_of unpack_literal t ≡ root → length file ≤ max_bytes → Reached steps file A words prefix t at_start 0
-reached_start {steps} {file} H P K w q s = record {
+pub reached_start : {file : List ℕ} {A : Arrays} {words prefix : List ℕ} {t : Tree} → Held [] A 0 → PrefixRows [] [] t.branch prefix 0 → ClausesHeld [] words 0 → Within t
+    → tree_of unpack_literal t ≡ root → length file ≤ max_bytes → Reached file A words prefix t at_start 0
+reached_start {file} H P K w q s = record {
   table = [];
   clauses = [];
   held = H;
@@ -66,10 +64,10 @@ reached_start {steps} {file} H P K w q s = record {
   lines = omega arith;
   inside = omega arith;
   short = s;
-  runs = ap (λ (τ : specification.Tree). check_from steps file 0 0 (passed (state_at [] [] τ at_start))) (sym q);
+  runs = ap (λ (τ : specification.Tree). check_from file 0 0 (passed (state_at [] [] τ at_start))) (sym q);
 }
 
-module _ {steps : Bool} {file : List ℕ} {A : Arrays} {words prefix : List ℕ} {t : Tree} {g : Progress} {at : ℕ} (R : Reached steps file A words prefix t g at) where
+module _ {file : List ℕ} {A : Arrays} {words prefix : List ℕ} {t : Tree} {g : Progress} {at : ℕ} (R : Reached file A words prefix t g at) where
   pub ready : at < length file → Ready g (extent_of t)
   ready h = record {
     limits = record { len = R.within.branch.room; count = R.within.waiting.room };
@@ -79,14 +77,13 @@ module _ {steps : Bool} {file : List ℕ} {A : Arrays} {words prefix : List ℕ}
   }
 
   -- the run as it is handed back
-  pub reached_bad : (t' : Tree) {e : RunEnd} → e ≡ RunEnd.Stopped Reason.BadShape (g.lines + 1) → at < length file → stops_at steps (drop at file) ≡ false
-      → line_at file at ≡ LineRead.BadShape → RunsTo steps file A words t' e
-  reached_bad t' q h s e = subst (RunsTo steps file A words t') (sym q) (rw (add-one g.lines) (R.runs ∙ bad_read steps file at h e s g.lines _))
+  pub reached_bad : (t' : Tree) {e : RunEnd} → e ≡ RunEnd.Stopped Reason.BadShape (g.lines + 1) → at < length file → line_at file at ≡ LineRead.BadShape → RunsTo file A words t' e
+  reached_bad t' q h e = subst (RunsTo file A words t') (sym q) (rw (add-one g.lines) (R.runs ∙ bad_line check_fields file at h e g.lines _))
 
-  finished : {t' : Tree} {e : RunEnd} → e ≡ RunEnd.Ended g → t' ≡ t → ((i : ℕ) (σ : State) → check_from steps file at i (passed σ) ≡ ended σ i) → RunsTo steps file A words t' e
-  finished {t'} q p ends =
-      subst (RunsTo steps file A words t') (sym q)
-      (subst (λ (u : Tree). Finished steps file A words u g) (sym p)
+  pub reached_end : {t' : Tree} {e : RunEnd} → e ≡ RunEnd.Ended g → t' ≡ t → length file ≤ at → RunsTo file A words t' e
+  reached_end {t'} q p h =
+      subst (RunsTo file A words t') (sym q)
+      (subst (λ (u : Tree). Finished file A words u g) (sym p)
       (record {
         table = R.table;
         clauses = R.clauses;
@@ -95,27 +92,21 @@ module _ {steps : Bool} {file : List ℕ} {A : Arrays} {words prefix : List ℕ}
         within = R.within;
         counted = R.counted;
         lines = omega (arith, R.lines, R.inside, R.short);
-        runs = R.runs ∙ ends g.lines _;
+        runs = R.runs ∙ at_end_lem run_line file at h g.lines _;
       }))
 
-  pub reached_steps : {t' : Tree} {e : RunEnd} → e ≡ RunEnd.Ended g → t' ≡ t → stops_at steps (drop at file) ≡ true → RunsTo steps file A words t' e
-  reached_steps q p h = finished q p (steps_here steps file at h)
-
-  pub reached_end : {t' : Tree} {e : RunEnd} → e ≡ RunEnd.Ended g → t' ≡ t → length file ≤ at → RunsTo steps file A words t' e
-  reached_end q p h = finished q p (end_read steps file at h)
-
   -- a line with fields f, checked with the tree's extent: its result is y
-  module _ (f : LineFields) (e : line_at file at ≡ LineRead.Line f) (goes : stops_at steps (drop at file) ≡ false) {x : Extent} (q : extent_of t ≡ x) {A' : Arrays} {words' prefix' : List ℕ} {y : LineResult}
+  module _ (f : LineFields) (e : line_at file at ≡ LineRead.Line f) {x : Extent} (q : extent_of t ≡ x) {A' : Arrays} {words' prefix' : List ℕ} {y : LineResult}
       (D : LineDone R.table R.clauses t.branch g x f A' words' prefix' y) where
     done : {r : LineResult} → y ≡ r → Done R.table D.after R.clauses D.clauses words' g x f t r
     done z = subst (Done R.table D.after R.clauses D.clauses words' g x f t) z (D.done t R.within q refl)
 
-    pub reached_refused : (t' : Tree) {r : Reason} {i : ℕ} {end : RunEnd} → end ≡ RunEnd.Stopped r i → y ≡ LineResult.Refused r i → RunsTo steps file A' words' t' end
+    pub reached_refused : (t' : Tree) {r : Reason} {i : ℕ} {end : RunEnd} → end ≡ RunEnd.Stopped r i → y ≡ LineResult.Refused r i → RunsTo file A' words' t' end
     reached_refused t' {r} p z =
         let d = done z in
-        subst (RunsTo steps file A' words' t') (sym p)
-        (R.runs ∙ line_read_lem steps file at f e goes g.lines _ ∙ ap (check_from steps file f.next.at (suc g.lines)) d.runs
-        ∙ refused_read steps file f.next.at (suc g.lines) r
+        subst (RunsTo file A' words' t') (sym p)
+        (R.runs ∙ (line_here check_fields file at f e).runs g.lines _ ∙ ap (check_from file f.next.at (suc g.lines)) d.runs
+        ∙ refused_here run_line file f.next.at (suc g.lines) r
         ∙ ap (stopped r) (sym (d.follows ∙ add-one g.lines)))
 
     module _ {g' : Progress} {c : Change} (z : y ≡ LineResult.Passed g' c) where
@@ -136,7 +127,7 @@ module _ {steps : Bool} {file : List ℕ} {A : Arrays} {words prefix : List ℕ}
         places = R.within.waiting.places;
       }
 
-      pub reached_more : {t' : Tree} → Stored t c t' → Reached steps file A' words' prefix' t' g' f.next.at
+      pub reached_more : {t' : Tree} → Stored t c t' → Reached file A' words' prefix' t' g' f.next.at
       reached_more {t'} S =
           let d = done z in
           let n = d.follows in
@@ -155,8 +146,8 @@ module _ {steps : Bool} {file : List ℕ} {A : Arrays} {words prefix : List ℕ}
             lines = omega (arith, n.lines, R.lines, l.longer);
             inside = l.inside;
             short = R.short;
-            runs = R.runs ∙ line_read_lem steps file at f e goes g.lines _ ∙ ap (check_from steps file f.next.at (suc g.lines)) d.runs
-                ∙ (λ j. check_from steps file f.next.at (i j) (passed (state_at D.after D.clauses (sym (stored_tree S unpack_literal) j) g')));
+            runs = R.runs ∙ l.runs g.lines _ ∙ ap (check_from file f.next.at (suc g.lines)) d.runs
+                ∙ (λ j. check_from file f.next.at (i j) (passed (state_at D.after D.clauses (sym (stored_tree S unpack_literal) j) g')));
           }
 
     module _ {g' : Progress} {s : Span} (z : y ≡ LineResult.Splits g' s) where
@@ -167,7 +158,7 @@ module _ {steps : Bool} {file : List ℕ} {A : Arrays} {words prefix : List ℕ}
       pub split_held : ClausesHeld D.clauses words' g'.clauses
       split_held = (subst (HeldAfter D.after D.clauses t.branch A' words' prefix') z D.held).clauses
 
-      pub reached_split : {t' : Tree} → SplitStored words' t s t' → Reached steps file A' words' prefix' t' g' f.next.at
+      pub reached_split : {t' : Tree} → SplitStored words' t s t' → Reached file A' words' prefix' t' g' f.next.at
       reached_split {t'} S =
           let d = done z in
           let n = d.follows in
@@ -187,6 +178,6 @@ module _ {steps : Bool} {file : List ℕ} {A : Arrays} {words prefix : List ℕ}
             lines = omega (arith, n.lines, R.lines, l.longer);
             inside = l.inside;
             short = R.short;
-            runs = R.runs ∙ line_read_lem steps file at f e goes g.lines _ ∙ ap (check_from steps file f.next.at (suc g.lines)) d.runs
-                ∙ (λ j. check_from steps file f.next.at (i j) (passed (state_at D.after D.clauses (sym (split_tree S unpack_literal) j) g')));
+            runs = R.runs ∙ l.runs g.lines _ ∙ ap (check_from file f.next.at (suc g.lines)) d.runs
+                ∙ (λ j. check_from file f.next.at (i j) (passed (state_at D.after D.clauses (sym (split_tree S unpack_literal) j) g')));
           }

@@ -1,5 +1,5 @@
--- How far the run over a file, with its steps or without, has come.
-use Rattle.std.specs.Prelude.{◌≡◌, Bool, List, ℕ, ◌≤◌, length}
+-- How far the run over a file has come.
+use Rattle.std.specs.Prelude.{◌≡◌, List, ℕ, ◌≤◌, length}
 use Rattle.tableau.specs.File.{max_bytes}
 use Rattle.tableau.specs.Terms.{Table, Clauses}
 use Rattle.tableau.specs.Tree.{passed}
@@ -16,7 +16,7 @@ use Rattle.running.specs.Running.{check_from}
 use Rattle.file_run.specs.declared.RunEnd.{RunEnd}
 
 -- Every line before the position passed, and arrays, tree and counts are what these lines make of them.
-pub record Reached (steps : Bool) (file : List ℕ) (A : Arrays) (words prefix : List ℕ) (t : Tree) (g : Progress) (at : ℕ) : Type 0 where
+pub record Reached (file : List ℕ) (A : Arrays) (words prefix : List ℕ) (t : Tree) (g : Progress) (at : ℕ) : Type 0 where
   pub table : Table
   pub clauses : Clauses
   pub held : Held table A g.counts.terms
@@ -28,10 +28,10 @@ pub record Reached (steps : Bool) (file : List ℕ) (A : Arrays) (words prefix :
   pub lines : g.lines ≤ at
   pub inside : at ≤ length file
   pub short : length file ≤ max_bytes
-  pub runs : check_from steps file 0 0 (passed start) ≡ check_from steps file at g.lines (passed (state_at table clauses (tree_of unpack_literal t) g))
+  pub runs : check_from file 0 0 (passed start) ≡ check_from file at g.lines (passed (state_at table clauses (tree_of unpack_literal t) g))
 
--- ALL LINES PASSED that are read: what stands in the arrays and in the tree is the specification's state after them.
-pub record Finished (steps : Bool) (file : List ℕ) (A : Arrays) (words : List ℕ) (t : Tree) (g : Progress) : Type 0 where
+-- ALL LINES PASSED: what stands in the arrays and in the tree is the specification's state after them.
+pub record Finished (file : List ℕ) (A : Arrays) (words : List ℕ) (t : Tree) (g : Progress) : Type 0 where
   pub table : Table
   pub clauses : Clauses
   pub held : Held table A g.counts.terms
@@ -39,9 +39,9 @@ pub record Finished (steps : Bool) (file : List ℕ) (A : Arrays) (words : List 
   pub within : Within t
   pub counted : Counted g
   pub lines : g.lines ≤ max_bytes
-  pub runs : check_from steps file 0 0 (passed start) ≡ ended (state_at table clauses (tree_of unpack_literal t) g) g.lines
+  pub runs : check_from file 0 0 (passed start) ≡ ended (state_at table clauses (tree_of unpack_literal t) g) g.lines
 
 -- WHERE A RUN LEADS
-abbrev pub RunsTo : Bool → List ℕ → Arrays → List ℕ → Tree → RunEnd → Type 0
-RunsTo steps file A words t (RunEnd.Stopped r i) = check_from steps file 0 0 (passed start) ≡ stopped r i
-RunsTo steps file A words t (RunEnd.Ended g) = Finished steps file A words t g
+abbrev pub RunsTo : List ℕ → Arrays → List ℕ → Tree → RunEnd → Type 0
+RunsTo file A words t (RunEnd.Stopped r i) = check_from file 0 0 (passed start) ≡ stopped r i
+RunsTo file A words t (RunEnd.Ended g) = Finished file A words t g

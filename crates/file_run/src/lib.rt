@@ -1,5 +1,5 @@
-// The lines of a file, or those before its steps, in one loop: each is read once, whatever its letter.
-ghost use Rattle.std.specs.Prelude.{◌≡◌, [], ◌+◌, ◌<◌, ◌≤◌, length, drop};
+// The lines of a file, in one loop: each is read once, whatever its letter.
+ghost use Rattle.std.specs.Prelude.{◌≡◌, [], ◌+◌, ◌<◌, ◌≤◌, length};
 ghost use Rattle.tableau.specs.declared.Reason.{Reason};
 ghost use Rattle.tableau.specs.File.{max_bytes};
 ghost use Rattle.tableau.specs.Tree.{root};
@@ -8,7 +8,6 @@ ghost use Rattle.clauses.specs.Held.{ClausesHeld};
 ghost use Rattle.terms.specs.Arrays.{arrays, Held};
 ghost use Rattle.freshness.specs.Prefixes.{PrefixRows};
 ghost use Rattle.tree.specs.State.{tree_of, Within};
-ghost use Rattle.running.specs.Running.{stops_at};
 ghost use Rattle.file_run.specs.declared.RunEnd.{RunEnd};
 ghost use Rattle.file_run.specs.Reached.{RunsTo};
 
@@ -18,11 +17,10 @@ use lines::{Cursor, LineRead, lines_end, read_line};
 use tableau::Reason;
 use tree::{Alternative, Extent, Tree};
 
-// A run over a file, with its tree, and whether steps are read: if not, it stops before the first line that begins `S,`.
+// A run over a file, with its tree.
 #[derive(Drop)]
 pub struct Run {
     pub tree: Tree,
-    pub steps: bool,
 }
 
 // Where the lines lead: to the first that is refused, with its number, or past all of them.
@@ -37,24 +35,6 @@ pub enum RunEnd {
 pub struct Ran {
     pub tree: Tree,
     pub end: RunEnd,
-}
-
-// Whether it stops before the line that begins at a position.
-fn stops(file: &[u8], at: usize, steps: bool) -> bool
-    requires { at < length file.now }
-    ensures { result ≡ stops_at «steps» (drop at file.now) }
-{
-    if steps {
-        return false;
-    }
-    if file[at] != b'S' {
-        return false;
-    }
-    let next = at + 1;
-    if file.len() <= next {
-        return false;
-    }
-    file[next] == b','
 }
 
 impl Run {
@@ -73,9 +53,8 @@ impl Run {
         self.ends(RunEnd::Stopped(Reason::BadShape, lines + 1))
     }
 
-    // From an empty tree, with arrays that hold no term, no row and no clause. Where a line is refused, what the tree and the arrays hold is
-    // free: the reason and the line are the whole answer, and nobody looks at them. The loop stands inside the method: called for each step, it
-    // would copy the tree.
+    // From an empty tree, with arrays that hold no term, no row and no clause. The loop stands inside the method: called for each step, it would
+    // copy the tree.
     pub fn run(
         mut self,
         file: &[u8],
@@ -87,16 +66,12 @@ impl Run {
     ) -> Ran
         requires held { Held [] (arrays terms.old chains.old rows.old) 0 × PrefixRows [] [] self.tree.branch prefix.old 0 × ClausesHeld [] clauses.old 0 }
         requires within { Within self.tree × (tree_of unpack_literal self.tree ≡ root) × (length file.now ≤ max_bytes) }
-        ensures { RunsTo self.steps file.now (arrays terms.new chains.new rows.new) clauses.new result.tree result.end }
+        ensures { RunsTo file.now (arrays terms.new chains.new rows.new) clauses.new result.tree result.end }
     {
-        let steps = self.steps;
         let mut progress = Progress::start();
         let end = lines_end(file);
         let mut at = 0;
         while at < end {
-            if stops(file, at, steps) {
-                return self.ends(RunEnd::Ended(progress));
-            }
             let LineRead::Line(f) = read_line(file, Cursor { at }) else {
                 return self.ends_at_bad_shape(progress.lines);
             };
@@ -142,9 +117,7 @@ impl Run {
             at = f.next.at;
         }
         if at < file.len() {
-            if !stops(file, at, steps) {
-                return self.ends_at_bad_shape(progress.lines);
-            }
+            return self.ends_at_bad_shape(progress.lines);
         }
         self.ends(RunEnd::Ended(progress))
     }

@@ -7,7 +7,7 @@ use Rattle.evaluation.specs.declared.FactWord.{FactWord}
 use Rattle.evaluation.specs.Orders.{is_transitive, is_antisymmetric}
 use Rattle.evaluation.specs.Facts.{fact_index, fact_fields, Facts, sizes, subject_of, said, given, in_range}
 use Rattle.evaluation.specs.Heaps.{count, SaidClass, is_under, is_order, heap_of, values_of, AsSaid}
-use Rattle.evaluation.specs.Invariants.{Passable}
+use Rattle.evaluation.proofs.Passable.{Passable}
 use Rattle.evaluation.proofs.HeapSaid.{sizes_in, said_by, as_said}
 use Rattle.mentions.specs.Mentions.{bit_at}
 use Rattle.facts.specs.Keys.{value_of, key_of, has_key, value_at, Fits, FactsHeld}

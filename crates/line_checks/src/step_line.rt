@@ -76,13 +76,13 @@ pub fn check(
 {
     let line = progress.lines + 1;
     let word = f.word;
-    let RuleFound::Known(rule) = words::rule_of(word) else {
+    let RuleFound::Known(row) = words::rule_of(word) else {
         return LineResult::Refused(Reason::UnknownWord, line);
     };
     if progress.closed {
         return LineResult::Refused(Reason::TreeClosed, line);
     }
-    let StepTaken::Step(step) = parsing::step_of(rule, f) else {
+    let StepTaken::Step(step) = parsing::step_of(row, f) else {
         return LineResult::Refused(Reason::UnusedField, line);
     };
     take(

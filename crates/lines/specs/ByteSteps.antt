@@ -144,14 +144,10 @@ abbrev pub lettered : {L : Type 0} → List (Named L) → FieldsRead → Checked
 lettered known f = require_some (then (lookup known (f.letter ∷ [])) λ l. some (with_letter f l)) Reason.BadShape
 
 -- "Show that the steps over a line's bytes, in order and each once, end with exactly its fields, or with number 2 where it isn't shaped as document 01 says.", in a file
--- with these letters
-unfoldable pub OnePassIn : {L : Type 0} → List (Named L) → Type 0
-OnePassIn known = (l : List ℕ)
-    → (ends (foldl (step six_field_form) empty (l ++ (LF ∷ []))) >>= lettered known) ≡ require_some (then (shape known l) λ k. some (fields_of k)) Reason.BadShape
-
--- in a file with any letters that are capitals
+-- with any letters
 unfoldable pub OnePass : Type 1
-OnePass = (L : Type 0) (known : List (Named L)) → all_capitals known ≡ true → OnePassIn known
+OnePass = (L : Type 0) (known : List (Named L)) → all_capitals known ≡ true → (l : List ℕ)
+    → (ends (foldl (step six_field_form) empty (l ++ (LF ∷ []))) >>= lettered known) ≡ require_some (then (shape known l) λ k. some (fields_of k)) Reason.BadShape
 
 -- and from these fields the line's own can be told, though the word is packed
 unfoldable pub FieldsInjective : Type 1

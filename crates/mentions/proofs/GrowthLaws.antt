@@ -17,7 +17,7 @@ use Rattle.tableau.specs.Terms.{TermNo, Table, variable, apply, at, mentions}
 use Rattle.tableau.specs.Terms as specification
 use Rattle.tableau.specs.Reply.{zero_if_unused, term_or_name}
 use Rattle.tableau.proofs.Bools.{both_true, every_true}
-use Rattle.tableau.specs.Invariants.{WellFormed}
+use Rattle.tableau.proofs.WellFormed.{WellFormed}
 use Rattle.tableau.proofs.TableGrowth.{at_zero}
 use Rattle.syntax.specs.declared.Arguments.{Arguments}
 use Rattle.syntax.specs.declared.Term.{Term}

@@ -10,7 +10,7 @@ use Rattle.tableau.specs.declared.Operator.{Operator}
 use Rattle.tableau.specs.Basics.{Four, four}
 use Rattle.tableau.specs.Fields.{arguments, if_argument}
 use Rattle.tableau.specs.Terms.{TermNo, Name, Term, variable, apply, no_term, layer, to_depth, fold, mentions}
-use Rattle.tableau.specs.Invariants.{OkTerm, WellFormed}
+use Rattle.tableau.proofs.WellFormed.{OkTerm, WellFormed}
 use Rattle.tableau.proofs.Fold.{argument_same, fold_eq}
 
 -- two tables that agree up to n give what they give up to n

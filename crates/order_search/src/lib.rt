@@ -311,7 +311,7 @@ fn search_literal(
     s
 }
 
-// Writes the pairs, and says how many there are. Which they are, and in which order, is free, as in `congruence_search`.
+// Writes the pairs, and says how many there are.
 pub fn plan(
     blocks: &[u16; NUMBERS],
     branch: &[u32; Tree::PLACES],

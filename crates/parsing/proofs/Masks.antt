@@ -1,18 +1,14 @@
 -- Laws of the masks of used fields.
 use mathlib.Core.Bool.{true, false, ◌||◌}
-use mathlib.Core.List.{List, [], ◌∷◌, map}
-use mathlib.Core.Option.{some}
-use mathlib.Core.Path.{◌≡◌, refl, ap}
-use Prim.Native.Nat.{ℕ, zero, suc, ◌<◌}
-use native.Mathlib.Omega.{arith}
+use mathlib.Core.Path.{◌≡◌, refl}
+use Prim.Native.Nat.{ℕ}
 use lib.Dec.{eqb}
-use lib.ListN.{length, get_or, get_elem?}
 use borrow.Author.Tests.{eqb-true}
 use Rattle.tableau.specs.declared.Relation.{Relation}
-use Rattle.tableau.specs.Basics.{then, Four, every, Named}
+use Rattle.tableau.specs.Basics.{Four, every}
 use Rattle.tableau.specs.Fields.{Use, unused, place, name, side, clause, term, of, sides, clause_fields}
 use Rattle.tableau.specs.Reply.{zero_if_unused}
-use Rattle.tableau.proofs.Bools.{every_true, none≢some, some_inj}
+use Rattle.tableau.proofs.Bools.{every_true}
 use Rattle.syntax.specs.Syntax.{mask_of}
 use Rattle.syntax.proofs.Masks.{is_used, has, bits_of}
 
@@ -53,10 +49,3 @@ literal_masks Relation.Eq = (refl, refl)
 literal_masks Relation.Ne = (refl, refl)
 literal_masks Relation.Le = (refl, refl)
 literal_masks Relation.Nl = (refl, refl)
-
--- a table's numbers, one for each entry, by the place of an entry
-pub at_entry : {A : Type 0} (number : A → ℕ) (t : List (Named A)) (i : ℕ) (x : A) → then (get_elem? t i) (λ n. some n.is) ≡ some x
-    → (i < length t) × (get_or (map (λ n. number n.is) t) i 0 ≡ number x)
-at_entry number [] i x e = none≢some e
-at_entry number (n ∷ ns) zero x e = (omega arith, ap number (some_inj e))
-at_entry number (n ∷ ns) (suc i) x e = let h = at_entry number ns i x e in (omega (arith, h.0), h.1)

@@ -1,13 +1,10 @@
 -- What a line is taken apart into, by its word: check 6, and the same word and fields again.
 use Rattle.std.specs.Prelude.{true, false, ◌≡◌, ℕ}
-use Rattle.std.proofs.Math.Option.{Option, some}
-use Rattle.std.proofs.Math.ListN.{get_elem?}
 use Rattle.tableau.specs.declared.Letter.{Letter}
 use Rattle.tableau.specs.declared.Word.{Word}
 use Rattle.tableau.specs.declared.Relation.{Relation}
 use Rattle.tableau.specs.declared.Rule.{Rule}
-use Rattle.tableau.specs.Basics.{then, Four, every}
-use Rattle.tableau.specs.Words.{rule_names}
+use Rattle.tableau.specs.Basics.{Four, every}
 use Rattle.tableau.specs.Fields.{Use, word_fields, sides, clause_fields, rule_uses}
 use Rattle.tableau.specs.Reply.{zero_if_unused}
 use Rattle.tableau.specs.Terms.{literal}
@@ -30,10 +27,6 @@ literal_fields Letter.S R = sides R
 abbrev pub LiteralTakenAs : Four Use → Relation → Four ℕ → LiteralTaken → Type 0
 LiteralTakenAs u R k (LiteralTaken.Literal l) = (every zero_if_unused u k ≡ true) × (literal_in l ≡ literal R k.a k.b)
 LiteralTakenAs u R k LiteralTaken.UnusedField = every zero_if_unused u k ≡ false
-
--- the rule at a place of the table of rules
-abbrev pub rule_at : ℕ → Option Rule
-rule_at i = then (get_elem? rule_names i) λ n. some n.is
 
 abbrev pub StepTakenAs : Rule → Four ℕ → StepTaken → Type 0
 StepTakenAs x k (StepTaken.Step s) = (s.rule ≡ x) × (step_fields s ≡ k) × WellTaken s

@@ -1,20 +1,19 @@
 // A line taken apart by its word, once check 6 has passed: "A field that the word doesn't use holds `0`."
 ghost use Rattle.std.specs.Prelude.{◌||◌, not, ◌≡◌, eqb};
-ghost use Rattle.std.proofs.Math.Option.{some};
 ghost use Rattle.std.specs.Int.Bits.{bit_and};
 ghost use Rattle.tableau.specs.Basics.{Four, every};
-ghost use Rattle.tableau.specs.Fields.{Use, rule_fields, rule_uses};
+ghost use Rattle.tableau.specs.Fields.{Use, rule_fields};
 ghost use Rattle.tableau.specs.declared.Relation.{Relation as Relations};
 ghost use Rattle.tableau.specs.Reply.{zero_if_unused};
 ghost use Rattle.syntax.specs.Syntax.{mask_of, third_in, ThirdFits};
 ghost use Rattle.lines.specs.Lines.{numbers_of};
-ghost use Rattle.words.specs.Words.{WordFits};
-ghost use Rattle.parsing.specs.Taken.{literal_fields, rule_at, TermTakenAs, LiteralTakenAs, StepTakenAs};
+ghost use Rattle.words.specs.Words.{WordFits, RuleFits};
+ghost use Rattle.parsing.specs.Taken.{literal_fields, TermTakenAs, LiteralTakenAs, StepTakenAs};
 
 use lines::LineFields;
 use syntax::{Arguments, Literal, Mask, Step, Term, ThirdField};
 use tableau::{ClauseNumber, Letter, Name, Place, Relation, Rule, Side, TermNumber, Word};
-use words::{RULE_COUNT, WordRow};
+use words::{RuleRow, WordRow};
 
 #[derive(Drop)]
 pub enum TermTaken {
@@ -118,95 +117,13 @@ fn third_of(rule: Rule, t: usize) -> ThirdField
     }
 }
 
-// "Which fields each rule uses is one fixed table of [thirty-two] rows."
-const RULE_MASKS: [u8; RULE_COUNT] = [
-    Mask::P | Mask::Q, // eqr
-    Mask::P | Mask::Q, // eql
-    Mask::P | Mask::W, // ext
-    Mask::P, // cpe
-    Mask::P | Mask::Q | Mask::T, // cpi
-    Mask::P, // cue
-    Mask::P | Mask::T, // cui
-    Mask::P, // dfe
-    Mask::P | Mask::Q | Mask::T, // dfi
-    Mask::P, // sge
-    Mask::T, // sgi
-    Mask::T | Mask::W, // cut
-    Mask::P, // all
-    Mask::P, // nul
-    Mask::P | Mask::Q, // sep
-    Mask::P | Mask::T, // img
-    Mask::P | Mask::W, // wit
-    Mask::T, // ref
-    Mask::P, // sym
-    Mask::P | Mask::Q, // trn
-    Mask::P | Mask::T | Mask::W, // sub
-    Mask::P | Mask::Q | Mask::T, // rep
-    Mask::T, // ler
-    Mask::P | Mask::Q, // let
-    Mask::P | Mask::Q, // lea
-    Mask::T, // rdh
-    Mask::T, // rdm
-    Mask::P | Mask::Q, // cls
-    Mask::P, // emp
-    0, // bck
-    Mask::T, // cla
-    Mask::P, // fin
-];
-
-// The place of a rule in the table of rules.
-fn index_of(rule: Rule) -> usize
-    ensures { rule_at result ≡ some rule }
-{
-    match rule {
-        Rule::Eqr => 0,
-        Rule::Eql => 1,
-        Rule::Ext => 2,
-        Rule::Cpe => 3,
-        Rule::Cpi => 4,
-        Rule::Cue => 5,
-        Rule::Cui => 6,
-        Rule::Dfe => 7,
-        Rule::Dfi => 8,
-        Rule::Sge => 9,
-        Rule::Sgi => 10,
-        Rule::Cut => 11,
-        Rule::All => 12,
-        Rule::Nul => 13,
-        Rule::Sep => 14,
-        Rule::Img => 15,
-        Rule::Wit => 16,
-        Rule::Ref => 17,
-        Rule::Sym => 18,
-        Rule::Trn => 19,
-        Rule::Sub => 20,
-        Rule::Rep => 21,
-        Rule::Ler => 22,
-        Rule::Let => 23,
-        Rule::Lea => 24,
-        Rule::Rdh => 25,
-        Rule::Rdm => 26,
-        Rule::Cls => 27,
-        Rule::Emp => 28,
-        Rule::Bck => 29,
-        Rule::Cla => 30,
-        Rule::Fin => 31,
-    }
-}
-
-fn rule_mask(rule: Rule) -> Mask
-    ensures { result.0 ≡ mask_of (rule_uses rule) }
-{
-    let masks = RULE_MASKS;
-    let index = index_of(rule);
-    Mask(masks[index])
-}
-
 // An S line.
-pub fn step_of(rule: Rule, f: LineFields) -> StepTaken
-    ensures { StepTakenAs rule (numbers_of f) result }
+pub fn step_of(row: RuleRow, f: LineFields) -> StepTaken
+    requires { RuleFits row }
+    ensures { StepTakenAs row.rule (numbers_of f) result }
 {
-    let used = rule_mask(rule);
+    let rule = row.rule;
+    let used = row.used;
     if !unused_zero(used, f) {
         return StepTaken::UnusedField;
     }

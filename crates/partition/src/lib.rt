@@ -38,8 +38,7 @@ fn merge(blocks: &mut [u16; NUMBERS], from: u16, to: u16)
     }
 }
 
-// Joins the blocks of a and b, and says whether they were apart. Which number stands for the joined block is free,
-// since it is only asked whether two numbers have the same.
+// Joins the blocks of a and b, and says whether they were apart. Which number stands for the joined block is left open.
 pub fn join(blocks: &mut [u16; NUMBERS], a: usize, b: usize) -> bool
     requires { IsPartition blocks.old × Small a × Small b }
     ensures { Joined blocks.old blocks.new a b result }

@@ -1,5 +1,5 @@
 // What the programs share: an input read to its end, a reply line written, a message on standard error.
-ghost use Rattle.std.specs.Prelude.{◌≡◌, ◌≤◌, ◌<◌, length};
+ghost use Rattle.std.specs.Prelude.{◌≤◌, ◌<◌, length};
 ghost use Rattle.tableau.specs.File.{max_bytes};
 ghost use Rattle.program_io.specs.Input.{Fits};
 
@@ -16,11 +16,10 @@ pub enum Input {
     Failed,
 }
 
-// Reads until the input ends or space is full, however few bytes each read brings. How many bytes come, which, and whether a read fails is
-// free: no contract can say what the system hands over. What space holds behind that many is free too, and nobody looks at it.
+// Reads until the input ends or space is full, however few bytes each read brings.
 pub fn read_all(fd: i32, space: &mut [u8]) -> Input
     requires { max_bytes < length space.old }
-    ensures { Fits result (length space.new) × (length space.new ≡ length space.old) }
+    ensures { Fits result (length space.new) }
 {
     let mut done = 0;
     while done < space.len() {
@@ -44,11 +43,10 @@ pub fn write_message(program: &[u8], message: &[u8]) {
 }
 
 // Reads standard input, or says that it can't be read. After a failed read there is no reply: the bytes before it are not the whole input, and a yes to them
-// would be read as a yes to all of it. A program can't set its exit status, so an empty standard output has to say it. The answer is free as
-// that of `read_all` is.
+// would be read as a yes to all of it. A program can't set its exit status, so an empty standard output has to say it.
 pub fn read_standard_input(program: &[u8], space: &mut [u8]) -> Input
     requires { max_bytes < length space.old }
-    ensures { Fits result (length space.new) × (length space.new ≡ length space.old) }
+    ensures { Fits result (length space.new) }
 {
     let input = read_all(STDIN_FILENO, space);
     if let Input::Failed = input {

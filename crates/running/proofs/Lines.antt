@@ -168,13 +168,13 @@ unfolding run_lines
 run_piece run σ i [] m ls = refl
 run_piece run σ i (b ∷ l) m ls = refl
 
-pub lines_refused : {S : Type 0} (run : S → List ℕ → Checked S) (ls : List (List ℕ)) (i : ℕ) (r : Reason) → run_lines run ls i (refused r) ≡ stopped r i
-unfolding run_lines
-lines_refused run [] i r = refl
-lines_refused run (l ∷ ls) i r = refl
-
 pub refused_here : {S : Type 0} (run : S → List ℕ → Checked S) (file : List ℕ) (at i : ℕ) (r : Reason) → run_from run file at i (refused r) ≡ stopped r i
-refused_here run file at = lines_refused run (split LF (drop at file))
+unfolding run_lines
+refused_here run file at i r = go (split LF (drop at file))
+  where
+    go : (ls : List (List ℕ)) → run_lines run ls i (refused r) ≡ stopped r i
+    go [] = refl
+    go (l ∷ ls) = refl
 
 bad≢line : {f : LineFields} → LineRead.BadShape ≡ LineRead.Line f → ⊥
 bad≢line {f} e = let z : true ≡ false = cc in true≢false z
@@ -207,16 +207,6 @@ line_pieces file at f e = go (line_there LineRead.BadShape (λ n l. line_read n 
             subst (LinePieces file at) (line_injective h)
             (record { piece = x.piece; follower = x.follower; others = x.others; line = L; cut = x.cut; rest = x.rest; shaped = s; fields = refl; inside = x.inside })
 
--- the run goes on behind it, whatever part of the pieces is read, if that goes on behind its piece
-pub run_on : {S : Type 0} {run : S → List ℕ → Checked S} {fields : S → LineFields → Checked S} → ByFields run fields
-    → {file : List ℕ} {at : ℕ} {f : LineFields} (p : LinePieces file at f) (part : List (List ℕ) → List (List ℕ)) (i : ℕ) (σ : S)
-    → run_lines run (part (p.piece ∷ p.follower ∷ p.others)) i (passed σ) ≡ run_lines run (part (p.follower ∷ p.others)) (suc i) (run σ p.piece)
-    → run_lines run (part (split LF (drop at file))) i (passed σ) ≡ run_lines run (part (split LF (drop f.next.at file))) (suc i) (fields σ f)
-run_on {S} {run} {fields} B {file} {at} {f} p part i σ goes =
-    ap (λ ks. run_lines run (part ks) i (passed σ)) p.cut ∙ goes
-    ∙ ap (run_lines run (part (p.follower ∷ p.others)) (suc i)) (B.shaped σ p.piece p.line (at + length p.piece + 1) p.shaped ∙ ap (fields σ) (sym p.fields))
-    ∙ ap (λ ks. run_lines run (part ks) (suc i) (fields σ f)) (sym p.rest)
-
 pub line_here : {S : Type 0} {run : S → List ℕ → Checked S} {fields : S → LineFields → Checked S} → ByFields run fields
     → (file : List ℕ) (at : ℕ) (f : LineFields) → line_at file at ≡ LineRead.Line f → LineHere run fields file at f
 line_here {S} {run} {fields} B file at f e =
@@ -226,7 +216,9 @@ line_here {S} {run} {fields} B file at f e =
       longer = omega (arith, (shaped (split comma p.piece) p.line p.shaped).long, split_bytes comma p.piece);
       inside = omega (arith, p.inside);
       small = rw p.fields (shaped (split comma p.piece) p.line p.shaped).small;
-      runs = λ i σ. run_on B p (λ ks. ks) i σ (run_piece run σ i p.piece p.follower p.others);
+      runs = λ i σ. ap (λ ks. run_lines run ks i (passed σ)) p.cut ∙ run_piece run σ i p.piece p.follower p.others
+          ∙ ap (run_lines run (p.follower ∷ p.others) (suc i)) (B.shaped σ p.piece p.line (at + length p.piece + 1) p.shaped ∙ ap (fields σ) (sym p.fields))
+          ∙ ap (λ ks. run_lines run ks (suc i) (fields σ f)) (sym p.rest);
     }
 
 -- A BAD LINE: bytes behind the last LF, or a line that has no shape.

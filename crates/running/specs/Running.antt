@@ -1,10 +1,10 @@
 -- The specification's run over the lines of a file, told by positions in the file and by the fields that a line was read as.
-use Rattle.std.specs.Prelude.{◌≡◌, Bool, cond, not, ◌&&◌, List, [], ◌∷◌, ℕ, suc, ◌+◌, ◌^◌, ◌<◌, ◌≤◌, length, drop}
+use Rattle.std.specs.Prelude.{◌≡◌, List, [], ◌∷◌, ℕ, suc, ◌+◌, ◌^◌, ◌<◌, ◌≤◌, length, drop}
 use Rattle.std.proofs.Math.Option.{Option, none, some}
 use Rattle.tableau.specs.declared.Letter.{Letter}
 use Rattle.tableau.specs.declared.Reason.{Reason}
 use Rattle.tableau.specs.Basics.{Four, lookup}
-use Rattle.tableau.specs.File.{LF, split, letters, max_digits, Line, begins_step, before_steps}
+use Rattle.tableau.specs.File.{LF, split, letters, max_digits, Line}
 use Rattle.tableau.specs.Words.{words, relations, rule_names, Command, make, assume, disjoin, infer, some_of}
 use Rattle.tableau.specs.Tree.{Checked, refused, passed, ◌>>=◌, require_some}
 use Rattle.tableau.specs.Reply.{State, run_command, run_line, RunEnd, run_lines}
@@ -16,15 +16,9 @@ use Rattle.words.specs.Words.{lookup_packed}
 abbrev pub run_from : {S : Type 0} → (S → List ℕ → Checked S) → List ℕ → ℕ → ℕ → Checked S → RunEnd S
 run_from run file at i m = run_lines run (split LF (drop at file)) i m
 
--- of a checker file either all pieces are read, or those before the steps; whether reading stops before a text
-abbrev pub pieces_read : Bool → List (List ℕ) → List (List ℕ)
-pieces_read steps ls = cond steps ls (before_steps ls)
-
-abbrev pub stops_at : Bool → List ℕ → Bool
-stops_at steps text = not steps && begins_step text
-
-abbrev pub check_from : Bool → List ℕ → ℕ → ℕ → Checked State → RunEnd State
-check_from steps file at i m = run_lines run_line (pieces_read steps (split LF (drop at file))) i m
+-- the same of a checker file
+abbrev pub check_from : List ℕ → ℕ → ℕ → Checked State → RunEnd State
+check_from = run_from run_line
 
 -- what a line asks for, by its letter and packed word
 unfoldable pub packed_command : Letter → ℕ → Option Command

@@ -19,7 +19,7 @@ use Rattle.tableau.specs.Rules.{Kind, rows, congruence, replacement, disjunction
 use Rattle.tableau.specs.Steps.{conclude}
 use Rattle.tableau.specs.Tree.{passed, is_clause, is_there, answer, alternatives}
 use Rattle.tableau.proofs.Bools.{clash}
-use Rattle.tableau.specs.Invariants.{InSequence}
+use Rattle.tableau.proofs.ClauseLaws.{InSequence}
 use Rattle.tableau.proofs.Places.{rules, every_rule}
 use Rattle.syntax.specs.declared.Step.{Step}
 use Rattle.syntax.specs.declared.ThirdField as declared

@@ -3,7 +3,7 @@ ghost use Rattle.std.specs.Prelude.{◌≡◌, length};
 ghost use Rattle.tableau.specs.Terms.{Table, Clauses, last_clause};
 ghost use Rattle.tableau.specs.Reply.{step_line};
 ghost use Rattle.tableau.specs.Tree.{alternatives};
-ghost use Rattle.tableau.specs.Invariants.{InSequence};
+ghost use Rattle.tableau.proofs.ClauseLaws.{InSequence};
 ghost use Rattle.syntax.specs.Syntax.{step_fields, WellTaken};
 ghost use Rattle.table.specs.Held.{Searchable};
 ghost use Rattle.tree.specs.State.{IsBranch, branch_of};

@@ -8,7 +8,7 @@ use Rattle.tableau.specs.Meaning.{FiniteHeap, Value, Values, value, is_le, Holds
 use Rattle.tableau.specs.Background as background
 use Rattle.tableau.specs.Background.{On, Follows, Contradicted, by_ne, by_nl}
 use Rattle.tableau.proofs.Bools.{clash}
-use Rattle.tableau.specs.Invariants.{WellFormed}
+use Rattle.tableau.proofs.WellFormed.{WellFormed}
 use Rattle.tableau.proofs.Values.{le_refl, le_trans, le_anti}
 use Rattle.tableau.proofs.Match.{same_application, kind_value, IfAny, literal_true}
 

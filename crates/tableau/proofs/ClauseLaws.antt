@@ -15,7 +15,6 @@ use Rattle.tableau.specs.Fields.{sides, clause_fields}
 use Rattle.tableau.specs.Terms.{ClauseNo, Table, Disjunct, Clauses, clause_of, last_clause}
 use Rattle.tableau.specs.Reply.{State, literal_line, max_disjuncts, max_clause_lines, last_or_next, takes_disjunct}
 use Rattle.tableau.specs.Claims.{clauses_in, count_clauses}
-use Rattle.tableau.specs.Invariants.{InSequence}
 use Rattle.tableau.proofs.Bools.{both_true, one_true, dec}
 use Rattle.tableau.proofs.Checks.{Did, LinePassed, Run, done, next}
 use Rattle.tableau.proofs.Soundness.{line_clauses}
@@ -76,7 +75,14 @@ count_last_after C d h n = rw (count_after 0 C d, last_from_lem C, last_after C 
     go (inl e) = rw (e, n) (omega (arith, eqb-true d.clause (last_clause C) e))
     go (inr e) = let q = eqb-true d.clause (suc (last_clause C)) e in rw (ne_eqb d.clause (last_clause C) (λ z. omega arith), n) (omega arith)
 
--- CLAUSES IN SEQUENCE
+-- WHAT IS SO OF ALL CLAUSES
+pub record InSequence (C : Clauses) : Type 0 where
+  pub counted : count_clauses 0 C ≡ last_clause C
+  pub each : (k : ClauseNo) → 1 ≤ k → k ≤ last_clause C → 0 < length (clause_of C k)
+  pub none : (k : ClauseNo) → 0 < length (clause_of C k) → (1 ≤ k) × (k ≤ last_clause C)
+  pub short : (k : ClauseNo) → length (clause_of C k) ≤ max_disjuncts
+  pub few : length C ≤ max_clause_lines
+
 pub no_clauses : InSequence []
 unfolding clause_of last_clause count_clauses
 no_clauses = record { counted = refl; each = λ k a b. absurd (omega arith); none = λ k n. absurd (omega arith); short = λ k. omega arith; few = omega arith }

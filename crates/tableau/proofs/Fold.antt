@@ -7,7 +7,7 @@ use Rattle.tableau.specs.declared.Operator.{Operator}
 use Rattle.tableau.specs.Basics.{Four, four}
 use Rattle.tableau.specs.Fields.{Argument, unused, of, arguments, if_argument}
 use Rattle.tableau.specs.Terms.{TermNo, Name, Term, variable, apply, layer, to_depth, fold}
-use Rattle.tableau.specs.Invariants.{OkArgument, OkTerm, WellFormed}
+use Rattle.tableau.proofs.WellFormed.{OkArgument, OkTerm, WellFormed}
 
 -- two functions that agree below t agree at the arguments of term t
 pub argument_same : {A : Type 0} {f f' : TermNo → A} (z : A) (table : TermNo → Term) (t : TermNo) (k : Argument) (n : ℕ) → OkArgument table t k n

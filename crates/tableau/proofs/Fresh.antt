@@ -17,7 +17,7 @@ use Rattle.tableau.specs.Rules.{Pattern, letter, operator, –, LiteralPattern, 
 use Rattle.tableau.specs.Steps.{Letters, fits_letter, fits, fits_literal, term_of, met}
 use Rattle.tableau.proofs.FirstPlace.{mentioned_none, mentioned_more, not_mentioned}
 use Rattle.tableau.proofs.Bools.{both_false, dec, clash, eqb_same, none≢some, some_inj, then_inv, guard_inv}
-use Rattle.tableau.specs.Invariants.{WellFormed}
+use Rattle.tableau.proofs.WellFormed.{WellFormed}
 use Rattle.tableau.proofs.Fold.{fold_eq}
 use Rattle.tableau.proofs.Match.{fields_inv, value_variable}
 

@@ -2,6 +2,7 @@ pub mod Evaluate
 pub mod Computed
 pub mod Bools
 pub mod Places
+pub mod WellFormed
 pub mod Fold
 pub mod Numbers
 pub mod Counting
@@ -25,7 +26,6 @@ pub mod Refusals
 pub mod Counts
 pub mod UsedPlaces
 pub mod Pieces
-pub mod Begins
 pub mod Decimals
 pub mod BranchRoom
 pub mod ReplyNumbers

@@ -18,7 +18,7 @@ use Rattle.tableau.specs.Meaning.{FiniteHeap, Value, reference, operation, Value
 use Rattle.tableau.specs.Rules.{Pattern, letter, operator, –, LiteralPattern, pattern, Need, p∶, q∶, is, is_region}
 use Rattle.tableau.specs.Steps.{Letters, fits_letter, arguments_of, fits, fits_literal, term_of, met}
 use Rattle.tableau.proofs.Bools.{dec, eqb_same, none≢some, some_inj, then_inv, guard_inv}
-use Rattle.tableau.specs.Invariants.{OkArgument, OkTerm, WellFormed}
+use Rattle.tableau.proofs.WellFormed.{OkArgument, OkTerm, WellFormed}
 use Rattle.tableau.proofs.Fold.{fold_eq}
 use Rattle.tableau.proofs.RowMeaning.{⟦◌⟧, Asked, IfArgument, Sorted, IfHolds, IfMet}
 

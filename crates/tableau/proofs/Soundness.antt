@@ -23,7 +23,7 @@ use Rattle.tableau.specs.Reply.{State, term_or_name, of_sort, reply}
 use Rattle.tableau.specs.Claims.{command_term, command_literal, command_disjunct, line_term, line_literal, line_disjunct, terms_in, literals_in, clauses_in, NoHeap, Demand3}
 use Rattle.tableau.proofs.Bools.{dec, clash, both_true, every_true}
 use Rattle.tableau.proofs.Checks.{some_of_some, letter_of, command_letter, Did, LinePassed, Run, done, next, yes_accepted}
-use Rattle.tableau.specs.Invariants.{OkArgument, OkTerm, WellFormed}
+use Rattle.tableau.proofs.WellFormed.{OkArgument, OkTerm, WellFormed}
 use Rattle.tableau.proofs.Match.{same_sort_lem}
 use Rattle.tableau.proofs.TreeSound.{StatusRefuted, step_refuted}
 use Rattle.tableau.proofs.TableGrowth.{empty_well_formed, grown_well_formed_lem}

@@ -23,7 +23,7 @@ use Rattle.tableau.specs.Steps.{Letters, met, made, made_literals, made_alternat
 use Rattle.tableau.specs.Saturation.{contradicted}
 use Rattle.tableau.specs.Tree.{passed, literal_at, is_there, require_fresh}
 use Rattle.tableau.proofs.Bools.{every_true, both_true, both_false, one_true, dec, none≢some, some_inj, then_inv, guard_inv}
-use Rattle.tableau.specs.Invariants.{WellFormed}
+use Rattle.tableau.proofs.WellFormed.{WellFormed}
 use Rattle.tableau.proofs.RowMeaning.{⟦◌⟧, Asked, CannotHold, SomeHolds, RowSound, RowsSound, KindSound}
 use Rattle.tableau.proofs.Match.{same_operator_lem, same_relation_lem, same_sort_lem, value_apply, same_application, Under, Extends, IfAny, literal_true, met_extends, met_value}
 use Rattle.tableau.proofs.Checks.{refused≢passed}

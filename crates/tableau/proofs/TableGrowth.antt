@@ -14,7 +14,7 @@ use Rattle.tableau.specs.declared.Sort.{Sort}
 use Rattle.tableau.specs.Fields.{Argument, unused, of, arguments}
 use Rattle.tableau.specs.Terms.{TermNo, Name, Table, Term, variable, apply, at, no_term, number_from, number_of, result, sort_of, sort_index, operator_index, same_term}
 use Rattle.tableau.proofs.Bools.{dec, clash, eqb_same, none≢some, both_i}
-use Rattle.tableau.specs.Invariants.{OkArgument, OkTerm, WellFormed}
+use Rattle.tableau.proofs.WellFormed.{OkArgument, OkTerm, WellFormed}
 
 -- a term that passes a test which `nul` fails stands in the table: other numbers are read as `nul`
 pub inside : (f : Term → Bool) → f no_term ≡ false → (table : Table) (t : TermNo) → f (at table t) ≡ true → (0 < t) × (t ≤ length table)

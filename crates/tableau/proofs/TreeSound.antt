@@ -20,7 +20,7 @@ use Rattle.tableau.specs.Tree.{passed, Waiting, Tree, Status, is_open, is_closed
 use Rattle.tableau.specs.Reply.{of_sort}
 use Rattle.tableau.proofs.Bools.{every_true}
 use Rattle.tableau.proofs.Checks.{next_passed, require_passed, require_some_passed, require_some_is, passed_injective}
-use Rattle.tableau.specs.Invariants.{WellFormed}
+use Rattle.tableau.proofs.WellFormed.{WellFormed}
 use Rattle.tableau.proofs.Match.{same_sort_lem, kind_value}
 use Rattle.tableau.proofs.RowMeaning.{Asked}
 use Rattle.tableau.proofs.StepSound.{Refuted, rule_sound}

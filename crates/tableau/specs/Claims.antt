@@ -76,8 +76,8 @@ assumed_of file = literals_in (lines_of file)
 abbrev pub clauses_of : List ℕ → Clauses
 clauses_of file = clauses_in (lines_of file)
 
--- No finite heap and no values of the variables make all that the file assumes true; this "speaks of empty heaps too" and "of all A lines and at least one literal of
--- every clause".
+-- "no finite heap and no values of the variables make all assumed literals true", and "speaks of empty heaps too" and "of all A lines and at least one literal of
+-- every clause"
 unfoldable pub NoHeap : List ℕ → Type 0
 NoHeap file = (H : FiniteHeap) (ρ : Values H) → AllTrue ρ (at (terms_of file)) (assumed_of file) → EveryClauseTrue ρ (at (terms_of file)) (clauses_of file) → ⊥
 
@@ -92,12 +92,12 @@ pub record Model (file : List ℕ) : Type 0 where
 abbrev pub Checker : Type 0
 Checker = List ℕ → Reply
 
--- Demand 2: yes exactly where the file is a closed tableau under document 01's rules and limits; otherwise the first bad line and the
--- first check it breaks. It is what `reply` gives.
+-- Demand 2: "Yes exactly when the file is a closed tableau under document 01's rules and limits; otherwise the first bad line and the
+-- first check it breaks. Counts after a yes are the file's."
 unfoldable pub Demand2 : Checker → Type 0
 Demand2 checker = (file : List ℕ) → checker file ≡ reply file
 
--- Demand 3, "one claim about a whole file and the reply it gets": after a yes no finite heap and no values make all true that the file assumes
+-- Demand 3: "If it says yes, no finite heap and no values of the variables make all assumed literals true."
 unfoldable pub Demand3 : Checker → Type 0
 Demand3 checker = (file : List ℕ) → (checker file).is_yes ≡ true → NoHeap file
 
@@ -144,7 +144,7 @@ abbrev pub CountsOf : List ℕ → Reply → Bool → Type 0
 CountsOf file r true = FileCounts file r
 CountsOf file r false = NoCounts r
 
--- the counts after a yes are the file's own, and a refusal has zero for each
+-- "Counts after a yes are the file's"; "a refusal reports zero for every count"
 unfoldable pub RightCounts : Checker → Type 0
 RightCounts checker = (file : List ℕ) → CountsOf file (checker file) (checker file).is_yes
 

@@ -1,8 +1,8 @@
 -- 'The file': from bytes to lines of six fields.
-use Rattle.std.specs.Prelude.{Bool, true, false, ◌&&◌, ◌||◌, not, cond, List, [], ◌∷◌, ℕ, ◌+◌, ◌*◌, ◌-◌, eqb, leb, length, take}
+use Rattle.std.specs.Prelude.{Bool, true, false, ◌&&◌, ◌||◌, not, List, [], ◌∷◌, ℕ, ◌+◌, ◌*◌, ◌-◌, eqb, leb, length}
 use Rattle.std.proofs.Math.Option.{Option, none, some}
 use Rattle.tableau.specs.declared.Letter.{Letter}
-use Rattle.tableau.specs.Basics.{then, guard, Four, four, bytes, same_bytes, Named, ◌↣◌, lookup}
+use Rattle.tableau.specs.Basics.{then, guard, Four, four, Named, ◌↣◌, lookup}
 
 -- "At most 60,000 bytes."
 abbrev pub max_bytes : ℕ
@@ -95,12 +95,3 @@ shape_within limit known l = six_fields limit (lookup known) (split comma l)
 
 abbrev pub shape : {L : Type 0} → List (Named L) → List ℕ → Option (Line L)
 shape = shape_within max_digits
-
--- THE PART BEFORE THE STEPS, for the evaluator of heaps (document 02): "Reading of the checker file stops before the first line that begins `S,`."
-abbrev pub begins_step : List ℕ → Bool
-begins_step l = same_bytes (bytes "S,") (take 2 l)
-
--- of the pieces of a file; the last piece, behind the last LF, is then empty
-unfoldable pub before_steps : List (List ℕ) → List (List ℕ)
-before_steps [] = []
-before_steps (l ∷ ls) = cond (begins_step l) ([] ∷ []) (l ∷ before_steps ls)

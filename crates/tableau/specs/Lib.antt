@@ -12,7 +12,6 @@ pub mod Saturation
 pub mod Tree
 pub mod Reply
 pub mod Claims
-pub mod Invariants
 pub mod Cases
 pub mod Failings
 pub mod StartUp

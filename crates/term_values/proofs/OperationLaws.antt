@@ -17,7 +17,7 @@ use Rattle.tableau.specs.Basics.{Four}
 use Rattle.tableau.specs.Fields.{Argument, unused, of, arguments, if_argument}
 use Rattle.tableau.specs.Terms.{TermNo, Table, Term, variable, apply, at, max_terms}
 use Rattle.tableau.specs.Meaning.{same, image, FiniteHeap, Ref, Field, Value, reference, as_ref, as_region, as_store, as_field, within, operation, Values, value}
-use Rattle.tableau.specs.Invariants.{OkArgument, OkTerm, WellFormed}
+use Rattle.tableau.proofs.WellFormed.{OkArgument, OkTerm, WellFormed}
 use Rattle.tableau.proofs.Match.{value_apply, kind_value, argument_values}
 use Rattle.packing.specs.declared.TermView.{TermView}
 use Rattle.packing.specs.Packing.{view_apply, view_of, number, term_limit}

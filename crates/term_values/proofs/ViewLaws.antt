@@ -11,7 +11,7 @@ use Rattle.tableau.specs.declared.Operator.{Operator}
 use Rattle.tableau.specs.Basics.{Four}
 use Rattle.tableau.specs.Fields.{arguments}
 use Rattle.tableau.specs.Terms.{TermNo, Table, Term, variable, apply, at}
-use Rattle.tableau.specs.Invariants.{OkTerm, WellFormed}
+use Rattle.tableau.proofs.WellFormed.{OkTerm, WellFormed}
 use Rattle.packing.specs.declared.TermView.{TermView}
 use Rattle.packing.specs.Packing.{view_apply, view_of}
 use Rattle.packing.proofs.ViewLaws.{not_among}

@@ -7,7 +7,7 @@ use Rattle.tableau.specs.Meaning.{FiniteHeap, Values}
 use Rattle.tableau.specs.Tree.{passed}
 use Rattle.tableau.specs.Fields.{sides}
 use Rattle.tableau.specs.Reply.{literal_line}
-use Rattle.tableau.specs.Invariants.{WellFormed}
+use Rattle.tableau.proofs.WellFormed.{WellFormed}
 use Rattle.mentions.specs.Mentions.{bit_at}
 use Rattle.regions.specs.declared.HeapTables.{HeapTables}
 use Rattle.regions.specs.Shown.{HoldHeap, same_shown}

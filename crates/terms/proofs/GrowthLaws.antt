@@ -11,7 +11,7 @@ use Rattle.tableau.specs.Fields.{word_fields}
 use Rattle.tableau.specs.Terms.{Table, at, number_of, max_terms}
 use Rattle.tableau.specs.Terms as specification
 use Rattle.tableau.specs.Reply.{of_sort}
-use Rattle.tableau.specs.Invariants.{OkTerm}
+use Rattle.tableau.proofs.WellFormed.{OkTerm}
 use Rattle.tableau.proofs.TableGrowth.{empty_well_formed, grown_well_formed_lem}
 use Rattle.tableau.proofs.Soundness.{term_ok}
 use Rattle.syntax.specs.declared.Term.{Term}

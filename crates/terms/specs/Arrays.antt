@@ -1,7 +1,7 @@
 -- All that the arrays hold of a table.
 use Rattle.std.specs.Prelude.{◌≡◌, List, ℕ, length}
 use Rattle.tableau.specs.Terms.{Table, at}
-use Rattle.tableau.specs.Invariants.{WellFormed}
+use Rattle.tableau.proofs.WellFormed.{WellFormed}
 use Rattle.table.specs.Held.{Searchable}
 use Rattle.mentions.specs.Mentions.{MentionRows}
 

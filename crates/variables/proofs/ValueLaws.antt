@@ -16,11 +16,11 @@ use Rattle.tableau.specs.Terms.{Name, TermNo, Table, variable, at, max_terms}
 use Rattle.tableau.specs.Meaning.{FiniteHeap, Value, Values, value_of, value}
 use Rattle.tableau.proofs.Bools.{every_true}
 use Rattle.tableau.proofs.Match.{value_variable}
-use Rattle.tableau.specs.Invariants.{WellFormed}
+use Rattle.tableau.proofs.WellFormed.{WellFormed}
 use Rattle.evaluation.specs.declared.FactWord.{FactWord}
 use Rattle.evaluation.specs.Facts.{fact_index, fact_fields, Facts, sizes, subject_of, find, said, fields_or0, given, in_range}
 use Rattle.evaluation.specs.Heaps.{is_order, heap_of, values_of, AsSaid}
-use Rattle.evaluation.specs.Invariants.{Passable}
+use Rattle.evaluation.proofs.Passable.{Passable}
 use Rattle.evaluation.proofs.HeapSaid.{found, said_by, as_said}
 use Rattle.facts.specs.Keys.{pack_key, key_of, has_key, value_at, FactsHeld}
 use Rattle.facts.specs.Keys.{value_of as line_value}

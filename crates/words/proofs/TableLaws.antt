@@ -79,17 +79,12 @@ module _ {A B : Type 0} (row : A → B) (P : Option A → B → Type 0) (holds :
       → P (lookup_packed t w) (get_or (rows_of row t) i d)
   found t w i e h = rw e (at_index t w (rw e at h))
 
--- So the entry there is the one that is looked up.
-pub found_entry : {A : Type 0} (d : A) (t : List (Named A)) (w i : ℕ) → i ≡ index_of w (packed_texts t) → i < length (rows_of (λ x. x) t)
-    → lookup_packed t w ≡ some (get_or (rows_of (λ x. x) t) i d)
-found_entry = found (λ x. x) (λ o x. o ≡ some x) (λ x. refl)
-
--- And so it is with two tables in one order: what the entries stand for, and a number of each.
+-- So it is with two tables in one order: what the entries stand for, and a number of each.
 pub found_rows : {A : Type 0} (number : A → ℕ) (d : A) (t : List (Named A)) (w i : ℕ) → i ≡ index_of w (packed_texts t) → i < length (rows_of (λ x. x) t)
     → i < length (rows_of number t)
     → (lookup_packed t w ≡ some (get_or (rows_of (λ x. x) t) i d)) × (get_or (rows_of number t) i 0 ≡ number (get_or (rows_of (λ x. x) t) i d))
 found_rows {A = A} number d t w i e h h' =
-    let here = found_entry d t w i e h in
+    let here = found (λ x. x) (λ o x. o ≡ some x) (λ x. refl) d t w i e h in
     (here, found number (λ o n. (x : A) → o ≡ some x → n ≡ number x) (λ x y q. ap number (some-injective x y q)) 0 t w i e h' _ here)
 
 -- Past the rows there is no such entry.

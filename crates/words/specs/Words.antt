@@ -4,9 +4,10 @@ use Rattle.std.proofs.Math.Option.{Option, none, some}
 use Rattle.tableau.specs.Basics.{bytes, Named, lookup}
 use Rattle.tableau.specs.File.{letters}
 use Rattle.tableau.specs.Words.{words, relations, rule_names}
-use Rattle.tableau.specs.Fields.{word_fields}
+use Rattle.tableau.specs.Fields.{word_fields, rule_uses}
 use Rattle.syntax.specs.Syntax.{mask_of}
 use Rattle.words.specs.declared.WordRow.{WordRow}
+use Rattle.words.specs.declared.RuleRow.{RuleRow}
 use Rattle.words.specs.declared.LetterFound.{LetterFound}
 use Rattle.words.specs.declared.WordFound.{WordFound}
 use Rattle.words.specs.declared.RelationFound.{RelationFound}
@@ -22,6 +23,9 @@ lookup_packed (n ∷ ns) w = cond (eqb w (pack_word (bytes n.text))) (some n.is)
 abbrev pub WordFits : WordRow → Type 0
 WordFits row = row.used.0 ≡ mask_of (word_fields row.word)
 
+abbrev pub RuleFits : RuleRow → Type 0
+RuleFits row = row.used.0 ≡ mask_of (rule_uses row.rule)
+
 -- what is found of a letter's byte, and of a packed word, is what the table has of it
 abbrev pub LetterKnown : ℕ → LetterFound → Type 0
 LetterKnown b (LetterFound.Known l) = lookup letters (b ∷ []) ≡ some l
@@ -36,7 +40,7 @@ RelationKnown w (RelationFound.Known R) = lookup_packed relations w ≡ some R
 RelationKnown w RelationFound.Unknown = lookup_packed relations w ≡ none
 
 abbrev pub RuleKnown : ℕ → RuleFound → Type 0
-RuleKnown w (RuleFound.Known x) = lookup_packed rule_names w ≡ some x
+RuleKnown w (RuleFound.Known row) = (lookup_packed rule_names w ≡ some row.rule) × RuleFits row
 RuleKnown w RuleFound.Unknown = lookup_packed rule_names w ≡ none
 
 -- The words of a byte string, packed: three bytes each, and a space.

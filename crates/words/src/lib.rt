@@ -1,5 +1,5 @@
-// The letters of a checker file, and the words of T, A, C and S lines: what each stands for, and the fields that a word of a T line uses. A letter's words stand in one fixed
-// byte string, in the order of its table.
+// The letters of a checker file, and the words of T, A, C and S lines: what each stands for, and the fields that it uses. A letter's words stand in one fixed byte string, in
+// the order of its table.
 ghost use Rattle.std.specs.Prelude.{[], ◌∷◌, ◌≡◌};
 ghost use Rattle.lines.specs.Lines.{pack_word};
 ghost use Rattle.words.specs.Words.{words_of, index_of, LetterKnown, WordKnown, RelationKnown, RuleKnown};
@@ -11,6 +11,12 @@ use tableau::{Letter, Operator, Relation, Rule, Sort, Word};
 #[derive(Drop)]
 pub struct WordRow {
     pub word: Word,
+    pub used: Mask,
+}
+
+#[derive(Drop)]
+pub struct RuleRow {
+    pub rule: Rule,
     pub used: Mask,
 }
 
@@ -34,7 +40,7 @@ pub enum RelationFound {
 
 #[derive(Drop)]
 pub enum RuleFound {
-    Known(Rule),
+    Known(RuleRow),
     Unknown,
 }
 
@@ -113,7 +119,7 @@ const RELATIONS: [Relation; RELATION_COUNT] = [
     Relation::Nl,
 ];
 
-pub const RULE_COUNT: usize = 32;
+const RULE_COUNT: usize = 32;
 
 const RULES: [Rule; RULE_COUNT] = [
     Rule::Eqr,
@@ -148,6 +154,42 @@ const RULES: [Rule; RULE_COUNT] = [
     Rule::Bck,
     Rule::Cla,
     Rule::Fin,
+];
+
+// "Which fields each rule uses is one fixed table of [thirty-two] rows."
+const RULE_MASKS: [u8; RULE_COUNT] = [
+    Mask::P | Mask::Q, // eqr
+    Mask::P | Mask::Q, // eql
+    Mask::P | Mask::W, // ext
+    Mask::P, // cpe
+    Mask::P | Mask::Q | Mask::T, // cpi
+    Mask::P, // cue
+    Mask::P | Mask::T, // cui
+    Mask::P, // dfe
+    Mask::P | Mask::Q | Mask::T, // dfi
+    Mask::P, // sge
+    Mask::T, // sgi
+    Mask::T | Mask::W, // cut
+    Mask::P, // all
+    Mask::P, // nul
+    Mask::P | Mask::Q, // sep
+    Mask::P | Mask::T, // img
+    Mask::P | Mask::W, // wit
+    Mask::T, // ref
+    Mask::P, // sym
+    Mask::P | Mask::Q, // trn
+    Mask::P | Mask::T | Mask::W, // sub
+    Mask::P | Mask::Q | Mask::T, // rep
+    Mask::T, // ler
+    Mask::P | Mask::Q, // let
+    Mask::P | Mask::Q, // lea
+    Mask::T, // rdh
+    Mask::T, // rdm
+    Mask::P | Mask::Q, // cls
+    Mask::P, // emp
+    0, // bck
+    Mask::T, // cla
+    Mask::P, // fin
 ];
 
 fn pack(a: u8, b: u8, c: u8) -> usize
@@ -209,12 +251,17 @@ pub fn rule_of(word: usize) -> RuleFound
     ensures { RuleKnown word result }
 {
     let rules = RULES;
+    let masks = RULE_MASKS;
     let index = search(
         word,
         b"eqr eql ext cpe cpi cue cui dfe dfi sge sgi cut all nul sep img wit ref sym trn sub rep ler let lea rdh rdm cls emp bck cla fin ",
     );
     if index < RULE_COUNT {
-        return RuleFound::Known(rules[index]);
+        let rule = rules[index];
+        return RuleFound::Known(RuleRow {
+            rule: rule,
+            used: Mask(masks[index]),
+        });
     }
     RuleFound::Unknown
 }

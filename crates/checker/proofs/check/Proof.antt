@@ -22,17 +22,17 @@ run_requires c κs =
 
 -- a line is refused
 returns_2 : tie.Need-returns-2
-returns_2 c = lines_stop _ (omega arith) _ _ (subst (RunsTo _ _ _ _ _) c.before.end.given.1 c.before.before.before.run.ensures)
+returns_2 c = lines_stop _ (omega arith) _ _ (subst (RunsTo _ _ _ _) c.before.end.given.1 c.before.before.before.run.ensures)
 
 -- all pass
 end_requires : tie.Need-end-requires
-end_requires c κs = let F = subst (RunsTo _ _ _ _ _) c.before.end2.given.1 c.before.before.before.run.ensures in (F.counted, F.lines)
+end_requires c κs = let F = subst (RunsTo _ _ _ _) c.before.end2.given.1 c.before.before.before.run.ensures in (F.counted, F.lines)
 
 returns_3 : tie.Need-returns-3
 returns_3 c =
     let k = c.before in
     let short = k.before.before.before.before.before.before.before.before.before.before.if1.false in
-    c.end3.ensures ∙ lines_end _ (omega (arith, short)) (subst (RunsTo _ _ _ _ _) k.before.end2.given.1 k.before.before.before.run.ensures)
+    c.end3.ensures ∙ lines_end _ (omega (arith, short)) (subst (RunsTo _ _ _ _) k.before.end2.given.1 k.before.before.before.run.ensures)
 
 pub check_spec : {M : Type 1} → statement M
 check_spec = tie.close (tie.spec returns (λ c κs. search rules) run_requires (λ c. search rules) (λ c. search rules) end_requires returns_2 returns_3)

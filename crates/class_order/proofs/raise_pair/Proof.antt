@@ -8,7 +8,7 @@ returns : tie.Need-returns
 returns c =
     let t = c.before.before in
     let y = t.before.before.before in
-    raised_composed _ _ _ _ _ c.raise.ensures y.before.first.ensures.0 y.second.ensures.0 (sym t.before.is-under.ensures ∙ t.if1.true)
+    raised_composed _ _ _ _ _ c.raise.ensures y.before.first.ensures y.second.ensures (sym t.before.is-under.ensures ∙ t.if1.true)
 
 returns_2 : tie.Need-returns-2
 returns_2 c blocks = unchanged _ blocks _ c.before.before.before.before.before.requires

@@ -9,7 +9,7 @@ use Rattle.congruence.proofs.join_pair.Tie as tie
 join_requires : tie.Need-join-requires
 join_requires c κs =
     let w = c.before.before.before.before.before.before.before.before.before.before in
-    (w.before.before.requires, w.before.first.ensures.0, w.second.ensures.0)
+    (w.before.before.requires, w.before.first.ensures, w.second.ensures)
 
 returns_3 : tie.Need-returns-3
 returns_3 c =

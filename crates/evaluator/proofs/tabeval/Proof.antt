@@ -4,7 +4,7 @@ use native.Mathlib.Omega.{arith}
 use Rattle.tableau.specs.Reply.{refusal_of, Call}
 use Rattle.evaluation.specs.Evaluation.{Evaluation, evaluation, evaluation_bytes}
 use Rattle.evaluation_reply.specs.Evaluation.{evaluation_record}
-use Rattle.evaluator.proofs.CallLaws.{number_small, buffer_right, buffer_wrong, never_buffer, means}
+use Rattle.evaluator.proofs.CallLaws.{number_small, buffer_right, buffer_wrong, means}
 use borrow.Author.Rules.{rules}
 use Rattle.evaluator.proofs.tabeval.Statement.{statement}
 use Rattle.evaluator.proofs.tabeval.Tie as tie
@@ -20,10 +20,7 @@ returns c =
     let a = c.before.before.before.before.before.args in
     let w = buffer_wrong a.file.now a.heap.now a.reply.now (λ e. omega (arith, e)) in (
       c.reason-number.ensures ∙ sym (ap (λ (k : Call). k.returns) w),
-      (
-        sym (ap (λ (k : Call). k.buffer) w),
-        ((λ e. absurd (omega (arith, e))), λ y q. never_buffer a.file.now a.heap.now a.reply.now y (ap (λ (k : Call). k.buffer) w ∙ q)),
-      ),
+      (sym (ap (λ (k : Call). k.buffer) w), λ e. absurd (omega (arith, e))),
     )
 
 -- the reply
@@ -45,10 +42,8 @@ returns_2 c =
     let r = answered c in
     let w = buffer_right a.file.now a.heap.now a.reply.now (omega arith) in
     let n = ap (λ (x : Evaluation). x.number) r in
-    let b = c.before.before.write-numbers.ensures ∙ ap evaluation_bytes r ∙ sym (ap (λ (k : Call). k.buffer) w) in (
-      n ∙ sym (ap (λ (k : Call). k.returns) w),
-      (b, ((λ e. means a.file.now a.heap.now _ refl (sym n ∙ e)), λ y q. never_buffer a.file.now a.heap.now a.reply.now y (sym b ∙ q))),
-    )
+    let b = c.before.before.write-numbers.ensures ∙ ap evaluation_bytes r ∙ sym (ap (λ (k : Call). k.buffer) w) in
+    (n ∙ sym (ap (λ (k : Call). k.returns) w), (b, λ e. means a.file.now a.heap.now _ refl (sym n ∙ e)))
 
 pub tabeval_spec : {M : Type 1} → statement M
 tabeval_spec =

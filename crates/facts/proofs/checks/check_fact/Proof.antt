@@ -24,7 +24,7 @@ nil_count [] n e = rw e
 nil_count (x ∷ xs) n e = rw e (eqb-suc-zero (length xs))
 
 returns : tie.Need-returns
-returns c facts values H s = (run_unlettered facts _ (no_letter _ c.if1.true), refl)
+returns c facts values H s = run_unlettered facts _ (no_letter _ c.if1.true)
 
 ordered_is : (c : tie.After-size-first) {b : Bool} → c.size-first.result ≡ b → {facts : Facts} {values : List ℕ}
     → FactsHeld facts c.before.before.args.keys.now values c.before.before.args.count
@@ -32,19 +32,19 @@ ordered_is : (c : tie.After-size-first) {b : Bool} → c.size-first.result ≡ b
 ordered_is c e {facts} H = ap (λ (t : Bool). beq t (eqb c.before.before.args.f.word siz_word)) (sym (nil_count facts _ H.count)) ∙ sym c.size-first.ensures ∙ e
 
 returns_2 : tie.Need-returns-2
-returns_2 c facts values H s = (run_disordered facts _ (letter_D _ c.before.before.if1.false) (ordered_is c.before (not-true _ c.if2.true) H), refl)
+returns_2 c facts values H s = run_disordered facts _ (letter_D _ c.before.before.if1.false) (ordered_is c.before (not-true _ c.if2.true) H)
 
 -- a word that is not known, or is
 returns_3 : tie.Need-returns-3
 returns_3 c facts values H s =
     let w = c.before.before in
     let o = w.before in
-    (run_unknown facts _ (letter_D _ o.before.before.if1.false) (ordered_is o.before (not-false _ o.if2.false) H) (subst (FactKnown _) c.enum_told.given.1 w.word_of.ensures), refl)
+    run_unknown facts _ (letter_D _ o.before.before.if1.false) (ordered_is o.before (not-false _ o.if2.false) H) (subst (FactKnown _) c.enum_told.given.1 w.word_of.ensures)
 
-done : (facts : Facts) (f : LineFields) (w : FactWord) → run_fact_fields facts f ≡ run_word facts f w → (is_nil facts ≡ true → w ≡ FactWord.Siz) → (i : ℕ) (r : FactResult)
-    → WordDone facts f w i r → FactDone facts f i r
-done facts f w e first i (FactResult.Passed x) d = record { word = w; first = first; added = d; runs = e }
-done facts f w e first i (FactResult.Refused r j) d = (e ∙ d.0, d.1)
+done : (facts : Facts) (f : LineFields) (w : FactWord) → run_fact_fields facts f ≡ run_word facts f w → (is_nil facts ≡ true → w ≡ FactWord.Siz) → (r : FactResult)
+    → WordDone facts f w r → FactDone facts f r
+done facts f w e first (FactResult.Passed x) d = record { word = w; first = first; added = d; runs = e }
+done facts f w e first (FactResult.Refused r) d = e ∙ d
 
 returns_4 : tie.Need-returns-4
 returns_4 c facts values H s =
@@ -55,13 +55,13 @@ returns_4 c facts values H s =
     let i = ordered_is o.before (not-false _ o.if2.false) H in
     let q = subst (FactKnown _) k.word.given.1 w.word_of.ensures in
     let f = o.before.before.before.args.f in
-    done facts f k.word.given.0.0 (run_known facts f l i _ q) (first_is_size facts _ _ i q) _ c.check-word.result (c.check-word.ensures facts values H s)
+    done facts f k.word.given.0.0 (run_known facts f l i _ q) (first_is_size facts _ _ i q) c.check-word.result (c.check-word.ensures facts values H s)
 
 pub check_fact_spec : {M : Type 1} → statement M
 check_fact_spec =
     tie.close
     (tie.spec
-    (λ c. omega (arith, c.requires.0.2.room)) returns (λ c κs. tt) returns_2
+    returns (λ c κs. tt) returns_2
     (λ c κs. tt) (λ c. search rules) (λ c. search rules) returns_3
     (λ c κs. c.before.before.before.before.before.before.before.requires)
     returns_4)

@@ -1,7 +1,6 @@
 -- The first check that fails decides; else the line passes with its key and its value.
-use mathlib.Core.Path.{◌≡◌, refl, sym, ◌∙◌, ap}
+use mathlib.Core.Path.{◌≡◌, sym, ◌∙◌, ap}
 use mathlib.Core.Bool.{Bool, true, false}
-use native.Mathlib.Omega.{arith}
 use lib.ListN.{take}
 use borrow.Author.Rules.{rules}
 use borrow.Author.Tests.{not-true, not-false}
@@ -21,7 +20,7 @@ zero_is : (c : tie.After-unused-zero) {b : Bool} → c.unused_zero_lem.result �
 zero_is c e = ap (λ (r : Four FactField). every zero_unless_used r (numbers_of c.before.before.args.f)) (sym c.before.row_of.ensures) ∙ sym c.unused_zero_lem.ensures ∙ e
 
 returns : tie.Need-returns
-returns c facts values H s = (field_used facts _ _ (zero_is c.before (not-true _ c.if1.true)), refl)
+returns c facts values H s = field_used facts _ _ (zero_is c.before (not-true _ c.if1.true))
 
 -- CHECK 19: the ranges
 abbrev begun : tie.After-all-in-range → tie.Start
@@ -37,7 +36,7 @@ ranges_are c e =
     ∙ sym c.all-in-range.ensures ∙ e
 
 returns_2 : tie.Need-returns-2
-returns_2 c facts values H s = (out_of_range facts _ _ (zero c.before) (rw s (ranges_are c.before (not-true _ c.if2.true))), refl)
+returns_2 c facts values H s = out_of_range facts _ _ (zero c.before) (rw s (ranges_are c.before (not-true _ c.if2.true)))
 
 -- given twice
 abbrev ranged : tie.After-has → tie.After-all-in-range
@@ -54,13 +53,13 @@ said_is c e {facts} H =
     ∙ sym (c.has.ensures ∙ ap (has_key (take a.count a.keys.now)) c.before.key_of.ensures) ∙ e
 
 returns_3 : tie.Need-returns-3
-returns_3 c facts values H s = (given_twice facts _ _ (zero (ranged c.before)) (rw s (ranges c.before)) (said_is c.before c.if3.true H), refl)
+returns_3 c facts values H s = given_twice facts _ _ (zero (ranged c.before)) (rw s (ranges c.before)) (said_is c.before c.if3.true H)
 
 -- not allowed; passed
 returns_4 : tie.Need-returns-4
 returns_4 c facts values H s =
     let h = c.before.before.before in
-    (not_allowed facts _ _ (zero (ranged h)) (rw s (ranges h)) (said_is h c.before.before.if3.false H) (sym (c.before.allowed.ensures facts values H) ∙ not-true _ c.if4.true), refl)
+    not_allowed facts _ _ (zero (ranged h)) (rw s (ranges h)) (said_is h c.before.before.if3.false H) (sym (c.before.allowed.ensures facts values H) ∙ not-true _ c.if4.true)
 
 value_of_requires : tie.Need-value-of-requires
 value_of_requires c κs =
@@ -85,7 +84,7 @@ pub check_word_spec : {M : Type 1} → statement M
 check_word_spec =
     tie.close
     (tie.spec
-    (λ c. omega (arith, c.requires.0.2.room)) (λ c κs. tt) (λ c κs. tt) returns
+    (λ c κs. tt) (λ c κs. tt) returns
     (λ c κs. tt) returns_2
     (λ c κs. (c.before.before.before.before.row_of.ensures, (begun c.before).requires.1.0))
     (λ c κs. let H = (begun c.before.before).requires.0.2 in (H.room, H.keys_size)) returns_3

@@ -55,13 +55,13 @@ check_fact_requires c κs =
 abbrev told : tie.After-check-fact invariant_loop decreases_loop → tie.After-known-told invariant_loop decreases_loop
 told c = c.before.before
 
-checked : (c : tie.After-check-fact invariant_loop decreases_loop) → FactDone (begun (told c)).before.loop.inv.facts (told c).before.f.given.0.0 ((begun (told c)).before.loop.count + 1) c.check-fact.result
+checked : (c : tie.After-check-fact invariant_loop decreases_loop) → FactDone (begun (told c)).before.loop.inv.facts (told c).before.f.given.0.0 c.check-fact.result
 checked c = let R = (begun (told c)).before.loop.inv in c.check-fact.ensures R.facts _ R.held R.sized
 
 returns_2 : tie.Need-returns-2 invariant_loop decreases_loop
 returns_2 c =
     let x = c.before.before.before in
-    refused_line (begun (told x)).before.loop.inv _ (is_line (told x)) _ _ (subst (FactDone _ _ _) c.before.reason.given.1 (checked x))
+    refused_line (begun (told x)).before.loop.inv _ (is_line (told x)) _ (subst (FactDone _ _) c.before.reason.given.1 (checked x))
 
 -- the line passed
 abbrev passed : tie.After-known-told3 invariant_loop decreases_loop → tie.After-check-fact invariant_loop decreases_loop
@@ -81,7 +81,7 @@ loop_less c =
 loop_again : tie.Need-loop-preserved invariant_loop decreases_loop
 loop_again c =
     let x = passed c.before in
-    rw c.sizes-after.ensures (more (begun (told x)).before.loop.inv _ (is_line (told x)) _ (subst (FactDone _ _ _) c.before.before.fact.given.1 (checked x)))
+    rw c.sizes-after.ensures (more (begun (told x)).before.loop.inv _ (is_line (told x)) _ (subst (FactDone _ _) c.before.before.fact.given.1 (checked x)))
 
 -- behind the last LF stands nothing, or a bad line
 returns_3 : tie.Need-returns-3 invariant_loop decreases_loop
@@ -107,6 +107,7 @@ read_facts_spec =
     returns
     check_fact_requires
     (λ c. search rules)
+    (λ c. omega (arith, (begun (told c.before.before.before)).before.loop.inv.held.room))
     returns_2
     (λ c. search rules)
     (λ c. omega (arith, has_room c)) (λ c. omega (arith, has_room c)) (λ c. omega (arith, has_room c))

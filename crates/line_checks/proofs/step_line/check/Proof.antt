@@ -2,7 +2,7 @@
 use mathlib.Core.Path.{◌≡◌, subst}
 use mathlib.Core.Option.{some}
 use Rattle.tableau.specs.Words.{rule_names}
-use Rattle.words.specs.Words.{lookup_packed, RuleKnown}
+use Rattle.words.specs.Words.{lookup_packed, RuleKnown, RuleFits}
 use Rattle.parsing.specs.Taken.{StepTakenAs}
 use Rattle.line_checks.proofs.StepLines.{step_unknown, step_closed, step_unused, step_takes}
 use borrow.Author.Rules.{rules}
@@ -14,8 +14,8 @@ abbrev first : tie.After-known-told → tie.Start
 first c = c.before.before.before.before.before
 
 known : (c : tie.After-known-told)
-    → lookup_packed rule_names (first c).args.f.word ≡ some c.before.rule.given.0.0
-known c = subst (RuleKnown _) c.before.rule.given.1 c.before.before.before.rule-of.ensures
+    → (lookup_packed rule_names (first c).args.f.word ≡ some c.before.row.given.0.0.rule) × RuleFits c.before.row.given.0.0
+known c = subst (RuleKnown _) c.before.row.given.1 c.before.before.before.rule-of.ensures
 
 -- check 4
 returns : tie.Need-returns
@@ -30,7 +30,7 @@ returns_2 c table C H K P =
     let k = c.before in
     let s = first k in
     let p = s.pre.1 in
-    step_closed table C _ _ p.0 s.args.f p.2 _ _ _ _ K _ (known k) c.if1.true
+    step_closed table C _ _ p.0 s.args.f p.2 _ _ _ _ K _ (known k).0 c.if1.true
 
 -- check 6
 returns_3 : tie.Need-returns-3
@@ -39,7 +39,7 @@ returns_3 c table C H K P =
     let k = o.before.before in
     let s = first k in
     let p = s.pre.1 in
-    step_unused table C _ _ p.0 s.args.f p.2 _ _ _ _ K _ (known k) o.before.if1.false (subst (StepTakenAs _ _) c.enum-told2.given.1 o.step_of_lem.ensures)
+    step_unused table C _ _ p.0 s.args.f p.2 _ _ _ _ K _ (known k).0 o.before.if1.false (subst (StepTakenAs _ _) c.enum-told2.given.1 o.step_of_lem.ensures)
 
 take_requires : tie.Need-take-requires
 take_requires c κs =
@@ -57,12 +57,12 @@ returns_4 c table C H K P =
     let s = first k in
     let p = s.pre.1 in
     let u = subst (StepTakenAs _ _) x.step.given.1 o.step_of_lem.ensures in
-    step_takes table C _ _ p.0 s.args.f p.2 _ _ _ _ K _ (known k) o.before.if1.false H _ u.0 u.1 _ (c.take.ensures table C H K P)
+    step_takes table C _ _ p.0 s.args.f p.2 _ _ _ _ K _ (known k).0 o.before.if1.false H _ u.0 u.1 _ (c.take.ensures table C H K P)
 
 pub check_spec : {M : Type 1} → statement M
 check_spec =
     tie.close
     (tie.spec (λ c. search rules) (λ c κs. search rules) (λ c. search rules) (λ c. search rules) returns
     returns_2
-    (λ c κs. search rules) (λ c. search rules) (λ c. search rules) returns_3
+    (λ c κs. (known c.before).1) (λ c. search rules) (λ c. search rules) returns_3
     take_requires returns_4)

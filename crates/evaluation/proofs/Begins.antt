@@ -1,19 +1,15 @@
--- Which texts begin `S,`: a line exactly where its letter is S, a text exactly where its first line does, and by its first two bytes.
+-- Which texts begin `S,`: a line exactly where its letter is S, a text exactly where its first line does.
 use mathlib.Core.Path.{◌≡◌, refl, sym, ◌∙◌, ap}
-use mathlib.Core.Bool.{◌&&◌, and-true}
 use mathlib.Core.List.{List, [], ◌∷◌, ◌++◌}
 use mathlib.Core.Option.{some}
-use Prim.Native.Nat.{ℕ, ◌+◌}
-use native.Mathlib.Nat.{add-zero}
-use lib.Dec.{eqb}
-use lib.ListN.{drop, get_or}
-use lib.Seq.{get_or-drop}
+use Prim.Native.Nat.{ℕ}
 use Rattle.tableau.specs.declared.Letter.{Letter}
 use Rattle.tableau.specs.Basics.{bytes, same_bytes, lookup}
-use Rattle.tableau.specs.File.{Line, letters, rank, in_order, max_digits, shape, split, comma, LF, begins_step}
+use Rattle.tableau.specs.File.{Line, letters, rank, in_order, max_digits, shape, split, comma, LF}
 use Rattle.tableau.proofs.SixFields.{six_fields_lem}
 use Rattle.tableau.proofs.Checks.{lookup_agree}
 use Rattle.tableau.proofs.Pieces.{each_behind, pieces}
+use Rattle.evaluation.specs.Evaluation.{begins_step}
 
 -- the first piece of a line is its letter, and S is the last of the letters
 pub begins_step_lem : {L : Line Letter} (l : List ℕ) → shape letters l ≡ some L → begins_step l ≡ in_order Letter.S L.letter
@@ -38,13 +34,3 @@ begins_first text = let x = pieces LF text in sym (ap begins_step x.whole ∙ go
     go (a ∷ []) [] = refl
     go (a ∷ []) (q ∷ ps) = refl
     go (a ∷ b ∷ p) ps = refl
-
--- past the last byte is neither of them
-pub begins_bytes : (file : List ℕ) (i : ℕ) → begins_step (drop i file) ≡ (eqb 83 (get_or file i 0) && eqb 44 (get_or file (i + 1) 0))
-unfolding bytes same_bytes
-begins_bytes file i = go (drop i file) ∙ rw (get_or-drop i file 0 0, get_or-drop i file 1 0, add-zero)
-  where
-    go : (text : List ℕ) → begins_step text ≡ (eqb 83 (get_or text 0 0) && eqb 44 (get_or text 1 0))
-    go [] = refl
-    go (a ∷ []) = refl
-    go (a ∷ b ∷ bs) = ap (λ x. eqb 83 a && x) (and-true (eqb 44 b))

@@ -1,5 +1,7 @@
 -- D lines that pass their checks, by their words and numbers: a `siz`, then lines that may follow.
-use Rattle.std.specs.Prelude.{◌≡◌, true, [], ◌∷◌, ◌++◌}
+use mathlib.Core.Path.{◌≡◌}
+use mathlib.Core.Bool.{true}
+use mathlib.Core.List.{[], ◌∷◌, ◌++◌}
 use Rattle.tableau.specs.Basics.{every}
 use Rattle.evaluation.specs.declared.FactWord.{FactWord}
 use Rattle.evaluation.specs.Facts.{fact_fields, Fact, Facts, zero_unless_used, may_follow}
