@@ -1,4 +1,6 @@
 // `bck`: does a branch contradict its own equalities and its order of classes? Terms are put into one block where it follows that they are equal, and blocks into an order, until nothing changes.
+#![tactic(auto)]
+
 mod literals;
 mod order;
 
@@ -19,7 +21,7 @@ use table::NUMBERS;
 use tree::Tree;
 
 // What a round comes to: it joined blocks, or there are none left to join, and it says whether the branch contradicts itself.
-#[derive(Drop)]
+#[derive(Clone, Copy)]
 enum RoundResult {
     Joined,
     Saturated(bool),

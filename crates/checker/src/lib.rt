@@ -1,4 +1,6 @@
 // The checker: the lines of a whole file, the build host's call, the reply line.
+#![tactic(auto)]
+
 ghost use Rattle.std.specs.Prelude.{◌≡◌, ◌≤◌, length};
 ghost use Rattle.tableau.specs.Claims.{BeginsWithYes, NoHeap};
 ghost use Rattle.tableau.specs.Reply as specification;

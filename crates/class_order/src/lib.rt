@@ -1,4 +1,6 @@
 // The order of blocks that the le literals of a branch and its class terms come to, in rows of bits that the caller lends: bit y of row x, ROW words from x * ROW on, says that block x is under block y.
+#![tactic(auto)]
+
 ghost use Rattle.std.specs.Prelude.{◌≡◌, ℕ, ◌+◌, ◌*◌, ◌^◌, ◌<◌, eqb, length};
 ghost use Rattle.tableau.specs.Terms.{Table};
 ghost use Rattle.packing.specs.Packing.{unpack_literal, Small};

@@ -1,5 +1,7 @@
 // The clauses of a file, in one array that the caller lends: the packed literals of the C lines in their order; behind them, for each clause, how many C lines
 // there are up to its last.
+#![tactic(auto)]
+
 ghost use Rattle.std.specs.Prelude.{◌≡◌, true, ◌&&◌, [], ◌∷◌, ◌++◌, ℕ, ◌<◌, ◌≤◌, leb};
 ghost use Rattle.tableau.specs.Terms.{Clauses};
 ghost use Rattle.tableau.specs.Reply.{max_clause_lines, takes_disjunct};
@@ -17,7 +19,7 @@ const LITERALS: usize = 8;
 pub const WORDS: usize = 801;
 
 // The literals of a clause: so many, from an index on.
-#[derive(Drop)]
+#[derive(Clone, Copy)]
 pub struct Span {
     pub from: usize,
     pub count: usize,

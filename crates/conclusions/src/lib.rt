@@ -1,4 +1,6 @@
 // The rule that a line names, on the literals at its places and the terms of its fields: checks 12 to 14.
+#![tactic(auto)]
+
 ghost use Rattle.tableau.specs.Fields.{rule_fields};
 ghost use Rattle.tableau.specs.Terms.{Table};
 ghost use Rattle.table.specs.Held.{Searchable};

@@ -1,5 +1,7 @@
 // Terms with one word and equal arguments are equal. The signature of a term is its packed form with the block of each argument in the argument's place; the chains of the term table lead from a
 // signature to a term that has it.
+#![tactic(auto)]
+
 ghost use Rattle.std.specs.Prelude.{◌≡◌, ℕ, ◌≤◌};
 ghost use Rattle.tableau.specs.Basics.{map_four};
 ghost use Rattle.tableau.specs.Terms.{max_terms};

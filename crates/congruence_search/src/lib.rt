@@ -2,6 +2,8 @@
 // one signature now.
 //
 // Nothing is promised of the pairs but their number: whoever follows them joins two terms only where their signatures are one, so that a search that errs costs time and nothing else.
+#![tactic(auto)]
+
 ghost use Rattle.std.specs.Prelude.{◌≤◌, ◌<◌};
 ghost use Rattle.tableau.specs.Terms.{max_terms};
 ghost use Rattle.syntax.specs.Syntax.{arguments_in};
@@ -68,7 +70,7 @@ const HIGH_FACTOR: u64 = 28629151879;
 const BELOW: u64 = 33554432;
 
 // How far a search has come: where the queue begins, how many terms are in it, and how many entries and pairs there are.
-#[derive(Drop)]
+#[derive(Clone, Copy)]
 struct Search {
     front: usize,
     waiting: usize,

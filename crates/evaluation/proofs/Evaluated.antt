@@ -55,15 +55,15 @@ module _ {H : FiniteHeap} (ρ : Values H) (file : List (List ℕ)) (j : ℕ) (ot
   line_from i ls = or_clause (first_false (is_true ρ table) i ls) j
 
   -- no literal is left
-  all_true : (before ls : List (List ℕ)) → file ≡ before ++ ls → literals_in ls ≡ [] → AllTrue ρ table (literals_in before) → Says ρ file j
-  all_true before ls e z t =
+  all_true_lem : (before ls : List (List ℕ)) → file ≡ before ++ ls → literals_in ls ≡ [] → AllTrue ρ table (literals_in before) → Says ρ file j
+  all_true_lem before ls e z t =
       let q : literals_in file ≡ literals_in before = ap literals_in e ∙ literals_append before ls ∙ rw (z, append-nil) in
       otherwise (rw q t)
 
   says_from : {σ τ : State} {ls : List (List ℕ)} → Run LinePassed σ ls τ → NoSteps ls → (before : List (List ℕ)) → file ≡ before ++ ls
       → AllTrue ρ table (literals_in before) → (i : ℕ) → i ≡ length before + length (terms_in ls) → Says ρ file (line_from i (literals_in ls))
   unfolding terms_in literals_in rank
-  says_from done n before e t i c = all_true before [] e refl t
+  says_from done n before e t i c = all_true_lem before [] e refl t
   says_from {σ} (next {σ' = σ'} {l = l} {ls = ls} p r) n before e t i c =
       go (one_added p n.0) (says_from r n.1 (before ++ (l ∷ [])) (e ∙ sym (append_assoc before (l ∷ []) ls)))
     where
@@ -84,7 +84,7 @@ module _ {H : FiniteHeap} (ρ : Values H) (file : List (List ℕ)) (j : ℕ) (ot
       go : OneAdded σ l σ' → Later → Says ρ file (line_from i (line_literal (shape letters l) ++ literals_in ls))
       go (term x u v w o) later = rw v (later (also (rw v tt)) i (c ∙ rw (u, one_more) (omega arith)))
       go (assumption L u v w o a) later = let z = ap length (no_terms r n.1 (rw a)) in rw v (test L v (c ∙ rw u (omega arith)) z later (is_true ρ table L) refl)
-      go (disjunct d u v w a) later = let z = no_literals_lem r n.1 a in rw (v, z) (all_true before (l ∷ ls) e (rw v z) t)
+      go (disjunct d u v w a) later = let z = no_literals_lem r n.1 a in rw (v, z) (all_true_lem before (l ∷ ls) e (rw v z) t)
 
 -- a clause with a line among others has a literal
 in_clause_lem : {d : Disjunct} (before : List (List ℕ)) (l : List ℕ) (after : List (List ℕ)) → line_disjunct (shape letters l) ≡ d ∷ []

@@ -1,7 +1,8 @@
 // The words of heap files, in the order of document 02. The specification in specs/ gives them their meaning; code above this crate uses the same types.
+#![tactic(auto)]
 
 // The words of D lines.
-#[derive(Drop)]
+#[derive(Clone, Copy)]
 pub enum FactWord {
     Siz,
     Alc,
@@ -16,7 +17,7 @@ pub enum FactWord {
 }
 
 // What a number of a D line counts: references, fields and classes, "all counted from 0", or names, from 1.
-#[derive(Drop)]
+#[derive(Clone, Copy)]
 pub enum Domain {
     Reference,
     Field,
@@ -26,7 +27,7 @@ pub enum Domain {
 
 // What a field of a D line holds: nothing; a size, from 1 to a limit; a part of what the line speaks of, its subject; the value that the
 // line gives to the subject.
-#[derive(Drop)]
+#[derive(Clone, Copy)]
 pub enum FactField {
     Unused,
     Size(usize),

@@ -1,4 +1,6 @@
 // The evaluator's reply: three numbers in the build host's buffer, or one line of text.
+#![tactic(auto)]
+
 ghost use Rattle.std.specs.Prelude.{◌≡◌, ◌≤◌, length, take};
 ghost use Rattle.evaluation.specs.Evaluation as specification;
 ghost use Rattle.reply.specs.Line.{line_bytes};
@@ -8,7 +10,7 @@ use reply::Reply;
 use tableau::Reason;
 
 // The refusal number, the file (1 checker, 2 heap, 0 without a refusal) and the line.
-#[derive(Drop)]
+#[derive(Clone, Copy)]
 pub struct Evaluation {
     pub number: usize,
     pub file: usize,

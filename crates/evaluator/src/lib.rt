@@ -1,4 +1,6 @@
 // The evaluator: a heap file tried against the assumptions of a checker file; the build host's call, the reply line.
+#![tactic(auto)]
+
 mod assumptions;
 mod disjunctions;
 mod trial;

@@ -18,13 +18,13 @@ use lines::LineFields;
 use tableau::Reason;
 
 // What a line adds that passes.
-#[derive(Drop)]
+#[derive(Clone, Copy)]
 pub struct NewFact {
     pub key: u64,
     pub value: u8,
 }
 
-#[derive(Drop)]
+#[derive(Clone, Copy)]
 pub enum FactResult {
     Passed(NewFact),
     Refused(Reason),

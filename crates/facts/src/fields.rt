@@ -9,7 +9,7 @@ use crate::Sizes;
 use evaluation::{Domain, FactField, FactWord};
 use lines::LineFields;
 
-#[derive(Drop)]
+#[derive(Clone, Copy)]
 pub enum FactFound {
     Known(FactWord),
     Unknown,
@@ -59,7 +59,7 @@ pub fn index_of(word: FactWord) -> usize
 }
 
 // What the four fields of a line hold.
-#[derive(Drop)]
+#[derive(Clone, Copy)]
 pub struct FactRow {
     pub a: FactField,
     pub b: FactField,

@@ -1,4 +1,6 @@
 // The lines of a heap file, each kept as two numbers: a key, which its word and its subject make, and the value that it gives.
+#![tactic(auto)]
+
 pub mod checks;
 pub mod fields;
 pub mod keys;
@@ -8,7 +10,7 @@ pub mod reading;
 pub const FACTS: usize = 4616;
 
 // The sizes that the first line gives; 0 before it.
-#[derive(Drop)]
+#[derive(Clone, Copy)]
 pub struct Sizes {
     pub references: usize,
     pub fields: usize,

@@ -10,14 +10,14 @@ use lines::{Cursor, LineFields, LineRead, lines_end, read_line};
 use tableau::Reason;
 
 // All lines passed: so many, and the sizes that the first of them gives.
-#[derive(Drop)]
+#[derive(Clone, Copy)]
 pub struct FactsRead {
     pub count: usize,
     pub sizes: Sizes,
 }
 
 // Where the lines lead: to the first that is refused, with its number, or past all of them.
-#[derive(Drop)]
+#[derive(Clone, Copy)]
 pub enum FactsEnd {
     Stopped(Reason, usize),
     Ended(FactsRead),

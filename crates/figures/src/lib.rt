@@ -1,4 +1,6 @@
 // The figures over a night's replies: the replies read in one pass, the mean and the variance of their S lines, the line that is printed.
+#![tactic(auto)]
+
 mod line;
 mod night;
 mod totals;

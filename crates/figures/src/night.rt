@@ -14,7 +14,7 @@ use tableau::Reason;
 const NIGHT_BYTES: usize = 60000;
 
 // The totals over all replies, or the first line that is refused.
-#[derive(Drop)]
+#[derive(Clone, Copy)]
 pub enum NightRead {
     Read(Totals),
     Refused(Reason, usize),

@@ -11,7 +11,7 @@ use fractions::{Fraction, lowest};
 use reply::Reply;
 
 // How many replies there are and how many of them are yes; of these the sum of the S lines and the sum of their squares.
-#[derive(Drop)]
+#[derive(Clone, Copy)]
 pub struct Totals {
     pub files: u64,
     pub accepted: u64,

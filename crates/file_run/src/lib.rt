@@ -1,4 +1,6 @@
 // The lines of a file, in one loop: each is read once, whatever its letter.
+#![tactic(auto)]
+
 ghost use Rattle.std.specs.Prelude.{◌≡◌, [], ◌+◌, ◌<◌, ◌≤◌, length};
 ghost use Rattle.tableau.specs.declared.Reason.{Reason};
 ghost use Rattle.tableau.specs.File.{max_bytes};
@@ -24,7 +26,7 @@ pub struct Run {
 }
 
 // Where the lines lead: to the first that is refused, with its number, or past all of them.
-#[derive(Drop)]
+#[derive(Clone, Copy)]
 pub enum RunEnd {
     Stopped(Reason, usize),
     Ended(Progress),

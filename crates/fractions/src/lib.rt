@@ -1,9 +1,11 @@
 // Fractions in lowest terms.
+#![tactic(auto)]
+
 ghost use Rattle.std.specs.Prelude.{◌≡◌, ◌<◌};
 ghost use Rattle.statistics.specs.Fractions as specification;
 ghost use Rattle.fractions.specs.Fraction.{fraction_record};
 
-#[derive(Drop)]
+#[derive(Clone, Copy)]
 pub struct Fraction {
     pub numerator: u64,
     pub denominator: u64,

@@ -1,5 +1,7 @@
 // The freshness test: does a clause or a literal on the branch mention w, and which first? Row i of an array that the caller lends, ROW words from i * ROW on, has a bit for each term, set where a
 // clause or one of the first i literals mentions it, so that a test reads one bit. Rows are filled when they are asked for; the caller keeps the number of those that still hold.
+#![tactic(auto)]
+
 ghost use Rattle.std.specs.Prelude.{◌≡◌, true, List, [], ◌∷◌, ◌++◌, map, ℕ, ◌+◌, ◌%◌, ◌<◌, ◌≤◌, length, take};
 ghost use Rattle.tableau.specs.Terms.{Table, Clauses, at, mentioned_in, first_place, max_terms};
 ghost use Rattle.tableau.specs.Tree.{max_places};

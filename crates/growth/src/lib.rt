@@ -1,4 +1,6 @@
 // What a line makes of the tree and of the counts, and the verdict where the file ends.
+#![tactic(auto)]
+
 ghost use Rattle.std.specs.Prelude.{◌≡◌, ◌<◌, ◌≤◌};
 ghost use Rattle.tableau.specs.File.{max_bytes};
 ghost use Rattle.tableau.specs.Reply.{max_disjuncts};
@@ -17,7 +19,7 @@ use tree::{Change, Extent, Growth, Tree, least};
 
 // How far a file is read: the letter of its last line, whether the tree is closed, the lines so far and their counts, the number of the last clause. The first `noted`
 // literals of the branch have their rows of mentions.
-#[derive(Drop)]
+#[derive(Clone, Copy)]
 pub struct Progress {
     pub letter: Letter,
     pub closed: bool,
@@ -29,7 +31,7 @@ pub struct Progress {
 
 // The result of a line: how far the file is read after it and what it makes of the tree, which is a change, or a split into the literals of a clause; or the reason of
 // its refusal beside its number.
-#[derive(Drop)]
+#[derive(Clone, Copy)]
 pub enum LineResult {
     Passed(Progress, Change),
     Splits(Progress, Span),

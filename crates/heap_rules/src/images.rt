@@ -13,7 +13,7 @@ use table::Found;
 use tableau::{Freshness, Operator, Reason, Relation, TermNumber};
 
 // The terms of an access to the field f of u in the heap h, typ(u), dty(f) and rea(h,u,f), if all three stand in the table.
-#[derive(Drop)]
+#[derive(Clone, Copy)]
 enum Access {
     At(TermNumber, TermNumber, TermNumber),
     NotMade,

@@ -1,4 +1,6 @@
 // The checks of a line that is read, in the order of their numbers, and what it makes of the table and of the tree.
+#![tactic(auto)]
+
 ghost use Rattle.std.specs.Prelude.{◌≡◌, ◌<◌};
 ghost use Rattle.tableau.specs.File.{rank as rank_of};
 ghost use Rattle.tableau.specs.Terms.{Table, Clauses};

@@ -1,17 +1,19 @@
 // A line of the file, from its bytes to its six fields, in one pass: a step gets one byte and the field read so far.
+#![tactic(auto)]
+
 ghost use Rattle.std.specs.Prelude.{◌≡◌, ◌<◌, ◌≤◌, ◌^◌};
 ghost use Rattle.lines.specs.Lines.{line_at, LFAhead, LinesEnd};
 ghost use Rattle.lines.specs.ByteSteps.{next_letter, first_digit, next_digit, LettersFit, most_digits, DigitsFit};
 ghost use Rattle.lines.specs.ByteSteps.{LetterSteps, WordSteps, DigitsSteps, NumberSteps};
 
 // A position in the file.
-#[derive(Drop)]
+#[derive(Clone, Copy)]
 pub struct Cursor {
     pub at: usize,
 }
 
 // The six fields of a line, its word packed in one number, and the position after its LF. The letter is any capital: each kind of file says which it knows.
-#[derive(Drop)]
+#[derive(Clone, Copy)]
 pub struct LineFields {
     pub letter: u8,
     pub word: usize,
@@ -22,7 +24,7 @@ pub struct LineFields {
     pub next: Cursor,
 }
 
-#[derive(Drop)]
+#[derive(Clone, Copy)]
 pub enum LineRead {
     Line(LineFields),
     BadShape,
@@ -34,21 +36,21 @@ const LF: u8 = 10;
 const LINE_DIGITS: usize = 5;
 
 // The letter, and the position after its comma.
-#[derive(Drop)]
+#[derive(Clone, Copy)]
 enum LetterRead {
     Read(u8, usize),
     Bad,
 }
 
 // A number, or a word packed in one, and the position after the byte that ends it.
-#[derive(Drop)]
+#[derive(Clone, Copy)]
 pub enum ValueRead {
     Read(usize, usize),
     Bad,
 }
 
 // What one byte more of a field leads to: the field goes on with a new value, it ends before the byte, or it has not its shape.
-#[derive(Drop)]
+#[derive(Clone, Copy)]
 enum ByteStep {
     More(usize),
     End,
@@ -56,7 +58,7 @@ enum ByteStep {
 }
 
 // A number's first digit, and how many may follow it: none after a 0.
-#[derive(Drop)]
+#[derive(Clone, Copy)]
 enum FirstDigit {
     Digit(usize, usize),
     Bad,

@@ -1,5 +1,7 @@
 // The rules of singletons, of `all` and `nul`, and the cut. Each looks at the terms that its row names and searches for those that it
 // adds: refusal 12 where what the row needs isn't so, then 14 where a term to be added is not made.
+#![tactic(auto)]
+
 ghost use Rattle.std.proofs.Math.Option.{none, some};
 ghost use Rattle.tableau.specs.declared.Rule.{Rule};
 ghost use Rattle.tableau.specs.Terms.{Table};

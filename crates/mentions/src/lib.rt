@@ -1,5 +1,7 @@
 // Which terms stand in which, in an array that the caller lends: the row of the term t, ROW words from t * ROW on, has a bit for each
 // number, set where the term of that number stands in t.
+#![tactic(auto)]
+
 ghost use Rattle.std.specs.Prelude.{◌≡◌, Bool, false, List, ℕ, ◌+◌, ◌*◌, ◌<◌, ◌≤◌, length, get_or};
 ghost use Rattle.tableau.specs.Terms.{max_terms};
 ghost use Rattle.syntax.specs.Syntax.{arguments_in, term_in};

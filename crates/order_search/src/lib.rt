@@ -2,6 +2,8 @@
 // is above y is above x. A component's pairs come after those of the components above it; the last ones lead from each of its blocks to one that was found earlier.
 //
 // Nothing is promised of the pairs but their number: whoever follows them takes a pair only where the rows already say that it holds, so that a search that errs costs time and nothing else.
+#![tactic(auto)]
+
 ghost use Rattle.std.specs.Prelude.{◌≤◌, ◌<◌};
 ghost use Rattle.packing.specs.Packing.{Small};
 ghost use Rattle.tree.specs.State.{IsBranch};

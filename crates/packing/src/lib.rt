@@ -1,12 +1,14 @@
 // A term and a literal as one number each, and taken apart again, so that a rule can unpack what it needs by `let .. else`. The layout
 // of the numbers is known here alone.
+#![tactic(auto)]
+
 use tableau::{Name, Sort, TermNumber};
 
 pub mod literals;
 pub mod term_codes;
 
 // A term taken apart.
-#[derive(Drop)]
+#[derive(Clone, Copy)]
 pub enum TermView {
     Variable(Sort, Name),
     Nul,
@@ -24,7 +26,7 @@ pub enum TermView {
 }
 
 // A literal taken apart.
-#[derive(Drop)]
+#[derive(Clone, Copy)]
 pub enum LiteralView {
     In(TermNumber, TermNumber),
     Ni(TermNumber, TermNumber),

@@ -1,4 +1,6 @@
 // Pairs of numbers below NUMBERS that a search names, for whoever follows them: each as one number, and all in one array.
+#![tactic(auto)]
+
 ghost use Rattle.packing.specs.Packing.{Small};
 ghost use Rattle.pairs.specs.Pairs.{AtMostPairs};
 

@@ -1,4 +1,6 @@
 // A line taken apart by its word, once check 6 has passed: "A field that the word doesn't use holds `0`."
+#![tactic(auto)]
+
 ghost use Rattle.std.specs.Prelude.{◌||◌, not, ◌≡◌, eqb};
 ghost use Rattle.std.specs.Int.Bits.{bit_and};
 ghost use Rattle.tableau.specs.Basics.{Four, every};
@@ -15,19 +17,19 @@ use syntax::{Arguments, Literal, Mask, Step, Term, ThirdField};
 use tableau::{ClauseNumber, Letter, Name, Place, Relation, Rule, Side, TermNumber, Word};
 use words::{RuleRow, WordRow};
 
-#[derive(Drop)]
+#[derive(Clone, Copy)]
 pub enum TermTaken {
     Term(Term),
     UnusedField,
 }
 
-#[derive(Drop)]
+#[derive(Clone, Copy)]
 pub enum LiteralTaken {
     Literal(Literal),
     UnusedField,
 }
 
-#[derive(Drop)]
+#[derive(Clone, Copy)]
 pub enum StepTaken {
     Step(Step),
     UnusedField,

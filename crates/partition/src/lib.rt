@@ -1,5 +1,7 @@
 // A partition of the numbers below 1,024 into blocks, in an array that the caller lends: blocks[x] is the number that stands for the block of x. Two numbers are in one block where their entries
 // are equal. Terms are put into one block where it follows that they are equal.
+#![tactic(auto)]
+
 ghost use Rattle.std.specs.Prelude.{◌≡◌, ◌||◌, eqb, length};
 ghost use Rattle.packing.specs.Packing.{Small};
 ghost use Rattle.partition.specs.Blocks.{block_of, IsPartition, renamed_as, Renamed, Joined, Singletons};

@@ -1,4 +1,6 @@
 // What the programs share: an input read to its end, a reply line written, a message on standard error.
+#![tactic(auto)]
+
 ghost use Rattle.std.specs.Prelude.{◌≤◌, ◌<◌, length};
 ghost use Rattle.tableau.specs.File.{max_bytes};
 ghost use Rattle.program_io.specs.Input.{Fits};
@@ -10,7 +12,7 @@ use reply::Text;
 pub const SPACE: usize = 60001;
 
 // What came in: so many bytes, or a part that a failed read cut off.
-#[derive(Drop)]
+#[derive(Clone, Copy)]
 pub enum Input {
     Read(usize),
     Failed,

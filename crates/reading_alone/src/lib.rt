@@ -1,4 +1,6 @@
 // All lines of a file read and nothing checked, so that the reader of lines can be timed alone. No part of the checker.
+#![tactic(auto)]
+
 ghost use Rattle.std.specs.Prelude.{◌≡◌};
 ghost use Rattle.lines.specs.Lines.{numbers_of};
 ghost use Rattle.reading_alone.specs.Reading.{mixed, read_file};

@@ -1,4 +1,6 @@
 // Regions as numbers of 64 bits, heap values as rows of 1,024 bytes: what a heap gives for the field f of the reference x stands at 16 x + f.
+#![tactic(auto)]
+
 ghost use Rattle.std.specs.Prelude.{◌≡◌, ◌<◌, length};
 ghost use Rattle.std.specs.Int.Bits.{bit_and, bit_or, bit_xor};
 ghost use Rattle.tableau.specs.Basics.{same_bytes};

@@ -1,4 +1,6 @@
 // The reply: seven numbers in the build host's buffer, or one line of text. Both forms are made of parts for any numbers.
+#![tactic(auto)]
+
 mod buffer;
 mod line;
 
@@ -11,7 +13,7 @@ pub use line::{put_decimal, put_fields, write_line};
 use tableau::Reason;
 
 // The counts after a yes.
-#[derive(Drop)]
+#[derive(Clone, Copy)]
 pub struct Counts {
     pub terms: usize,
     pub assumptions: usize,
@@ -20,14 +22,14 @@ pub struct Counts {
 }
 
 // What the lines of a file come to: a yes, or the reason of the first bad line with its number.
-#[derive(Drop)]
+#[derive(Clone, Copy)]
 pub enum Verdict {
     Accepted(Counts),
     Refused(Reason, usize),
 }
 
 // The numbers of a reply, and whether it is a yes.
-#[derive(Drop)]
+#[derive(Clone, Copy)]
 pub struct Reply {
     pub is_yes: bool,
     pub number: usize,

@@ -1,4 +1,6 @@
 // A reply line, from its bytes to a reply: a word and seven numbers, read as those of any line; and whether a reply contradicts itself.
+#![tactic(auto)]
+
 ghost use Rattle.std.specs.Prelude.{◌≡◌, ◌-◌, ◌<◌, length};
 ghost use Rattle.std.proofs.Math.Option.{some};
 ghost use Rattle.lines.specs.Lines.{LFAhead};
@@ -20,20 +22,20 @@ const DIGITS: usize = 5;
 const COUNT: usize = 7;
 
 // A reply, and the position after its LF.
-#[derive(Drop)]
+#[derive(Clone, Copy)]
 pub enum ReplyRead {
     Line(Reply, usize),
     BadShape,
 }
 
 // Where the numbers end.
-#[derive(Drop)]
+#[derive(Clone, Copy)]
 enum NumbersRead {
     Read(usize),
     Bad,
 }
 
-#[derive(Drop)]
+#[derive(Clone, Copy)]
 enum AnswerFound {
     Known(bool),
     Unknown,

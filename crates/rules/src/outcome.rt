@@ -9,7 +9,7 @@ use syntax::Literal;
 use tableau::{Reason, Relation, TermNumber};
 use tree::Alternative;
 
-#[derive(Drop)]
+#[derive(Clone, Copy)]
 pub enum Outcome {
     Refused(Reason),
     Closes,

@@ -1,5 +1,7 @@
 // The rules of equal regions, of intersections, unions and differences, and `sep`. Each looks at the terms that its row names; where
 // what the row needs isn't so, the answer is refusal 12.
+#![tactic(auto)]
+
 ghost use Rattle.std.specs.Prelude.{◌≡◌};
 ghost use Rattle.std.proofs.Math.Option.{none, some};
 ghost use Rattle.tableau.specs.declared.Rule.{Rule};

@@ -1,4 +1,6 @@
 // The part of a checker file that is read: "Reading of the checker file stops before the first line that begins `S,`."
+#![tactic(auto)]
+
 ghost use Rattle.std.specs.Prelude.{◌&&◌, ◌≡◌, ◌<◌, ◌≤◌, length, drop};
 ghost use Rattle.evaluation.specs.Evaluation.{begins_step};
 ghost use Rattle.evaluation.specs.Parts.{steps_at};

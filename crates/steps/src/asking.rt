@@ -13,7 +13,7 @@ use tableau::{Freshness, Rule};
 use tree::Tree;
 
 // The answers, and how many literals have their rows after the test of w.
-#[derive(Drop)]
+#[derive(Clone, Copy)]
 pub struct Asked {
     pub fresh: Freshness,
     pub contradicted: bool,

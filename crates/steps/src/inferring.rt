@@ -22,7 +22,7 @@ use tableau::{ClauseNumber, Reason};
 use tree::Tree;
 
 // What a step adds: the outcome of its rule, or, of `cla`, the literals of a clause, which is named.
-#[derive(Drop)]
+#[derive(Clone, Copy)]
 pub enum Inference {
     ByRule(Outcome),
     ByClause(ClauseNumber),

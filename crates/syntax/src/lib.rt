@@ -1,8 +1,10 @@
 // What a line says, taken apart by its word: from here on a field is a place, the number of a term or of a clause, a name or a side.
+#![tactic(auto)]
+
 use tableau::{ClauseNumber, Name, Operator, Place, Relation, Rule, Side, Sort, TermNumber};
 
 // The arguments of an operator; one that it does not take is 0.
-#[derive(Drop)]
+#[derive(Clone, Copy)]
 pub struct Arguments {
     pub a: TermNumber,
     pub b: TermNumber,
@@ -11,14 +13,14 @@ pub struct Arguments {
 }
 
 // A T line: the term that it writes.
-#[derive(Drop)]
+#[derive(Clone, Copy)]
 pub enum Term {
     Variable(Sort, Name),
     Apply(Operator, Arguments),
 }
 
 // An A or C line: its literal. A rule adds such literals too.
-#[derive(Drop)]
+#[derive(Clone, Copy)]
 pub struct Literal {
     pub relation: Relation,
     pub left: TermNumber,
@@ -26,7 +28,7 @@ pub struct Literal {
 }
 
 // Which of the fields 3 to 6 a word uses: the sum of the bits of those that it does.
-#[derive(Drop)]
+#[derive(Clone, Copy)]
 pub struct Mask(pub u8);
 
 impl Mask {
@@ -40,7 +42,7 @@ impl Mask {
 }
 
 // Field t of an S line: in `rep` a side, in `cla` the number of a clause, else a term.
-#[derive(Drop)]
+#[derive(Clone, Copy)]
 pub enum ThirdField {
     Term(TermNumber),
     Side(Side),
@@ -48,7 +50,7 @@ pub enum ThirdField {
 }
 
 // An S line: its rule with the fields that the rule uses, places p and q, terms t and w; a field that it does not use is 0.
-#[derive(Drop)]
+#[derive(Clone, Copy)]
 pub struct Step {
     pub rule: Rule,
     pub used: Mask,

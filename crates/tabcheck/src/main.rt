@@ -1,4 +1,6 @@
 // The program: reads a file from standard input and writes its reply line, and nothing else, to standard output.
+#![tactic(auto)]
+
 use program_io::{Input, SPACE};
 
 fn main() {

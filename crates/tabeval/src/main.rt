@@ -1,5 +1,7 @@
 // The program: reads the checker file and the heap file that its two arguments name, and writes their reply line, and nothing
 // else, to standard output.
+#![tactic(auto)]
+
 ghost use Rattle.std.specs.Prelude.{◌<◌, length};
 ghost use Rattle.tableau.specs.File.{max_bytes};
 ghost use Rattle.program_io.specs.Input.{Fits};

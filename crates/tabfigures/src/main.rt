@@ -1,4 +1,6 @@
 // The program: reads a night's replies from standard input and writes the line of figures, and nothing else, to standard output.
+#![tactic(auto)]
+
 use program_io::{Input, SPACE};
 
 fn main() {

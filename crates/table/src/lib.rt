@@ -1,5 +1,7 @@
 // The table of terms, in two arrays that the caller lends. terms[t] is the packed term t. chains[h] is the last term with the hash h, and
 // chains[HASHES + t] the one before t with the same hash (0: none).
+#![tactic(auto)]
+
 ghost use Rattle.std.specs.Prelude.{◌≡◌, List, ℕ, ◌+◌, ◌<◌, ◌≤◌, length, get_or, set};
 ghost use Rattle.tableau.specs.Terms.{Table, at, number_of, sort_of, same_sort, max_terms};
 ghost use Rattle.tableau.specs.Terms as specification;
@@ -39,7 +41,7 @@ const BELOW: u64 = 33554432;
 const HOPS: usize = 4;
 
 // The number of a term that was searched for.
-#[derive(Drop)]
+#[derive(Clone, Copy)]
 pub enum Found {
     At(TermNumber),
     Nothing,

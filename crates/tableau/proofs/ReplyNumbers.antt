@@ -92,7 +92,7 @@ on_branch_lem table C B w zero u = omega arith
 on_branch_lem table C B w (suc p) u = inside B p u.1.here.1
 
 step_place : {σ : State} {text : List ℕ} {p : Place} → StepPlace σ text p → Room σ.status → p ≤ max_places
-step_place {σ} {text} {p} s r = omega (arith, on_branch_lem _ _ _ _ p s.says, (rw s.tree_open at r).0)
+step_place {σ} {text} {p} s r = omega (arith, on_branch_lem σ.table σ.clauses s.tree.branch s.line.fields.d p s.says, (rw s.tree_open at r).0)
 
 -- so it is no more than a branch has places
 place_most : (file : List ℕ) → (reply file).place ≤ max_places

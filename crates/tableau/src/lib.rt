@@ -1,7 +1,8 @@
 // The words of document 01, in its order, and those that document 02 adds. The specification in specs/ gives them their meaning; code above this crate uses the same types.
+#![tactic(auto)]
 
 // "Field 1 is one of the letters T, A, [C], S."
-#[derive(Drop)]
+#[derive(Clone, Copy)]
 pub enum Letter {
     T,
     A,
@@ -10,7 +11,7 @@ pub enum Letter {
 }
 
 // The sorts of terms.
-#[derive(Drop)]
+#[derive(Clone, Copy)]
 pub enum Sort {
     Reference,
     Region,
@@ -20,7 +21,7 @@ pub enum Sort {
 }
 
 // The words whose arguments are terms.
-#[derive(Drop)]
+#[derive(Clone, Copy)]
 pub enum Operator {
     Nul,
     Rea,
@@ -37,14 +38,14 @@ pub enum Operator {
 }
 
 // A word of a T line: rfv, rgv, arv, fnv and clv make the variables, one word for each sort; the others are operators.
-#[derive(Drop)]
+#[derive(Clone, Copy)]
 pub enum Word {
     Variable(Sort),
     Operation(Operator),
 }
 
 // The words of A and C lines.
-#[derive(Drop)]
+#[derive(Clone, Copy)]
 pub enum Relation {
     In,
     Ni,
@@ -55,7 +56,7 @@ pub enum Relation {
 }
 
 // The words of S lines: the rules. Those that close stand side by side, so that one comparison tells them.
-#[derive(Drop)]
+#[derive(Clone, Copy)]
 pub enum Rule {
     Eqr,
     Eql,
@@ -92,7 +93,7 @@ pub enum Rule {
 }
 
 // Why a file is refused, in the order of the refusal numbers 1 to 21.
-#[derive(Drop)]
+#[derive(Clone, Copy)]
 pub enum Reason {
     TooLong,
     BadShape,
@@ -119,7 +120,7 @@ pub enum Reason {
 }
 
 // Whether w is fresh; where it isn't, with the place that the reason `NotFresh` has.
-#[derive(Drop)]
+#[derive(Clone, Copy)]
 pub enum Freshness {
     Fresh,
     NotFresh(Place),
@@ -127,19 +128,19 @@ pub enum Freshness {
 
 // "Places, term numbers and names are three separate kinds of count throughout": a place on the branch, the number of a term, the name of
 // a variable. Places and term numbers count from 1.
-#[derive(Drop)]
+#[derive(Clone, Copy)]
 pub struct Place(pub usize);
 
-#[derive(Drop)]
+#[derive(Clone, Copy)]
 pub struct TermNumber(pub usize);
 
-#[derive(Drop)]
+#[derive(Clone, Copy)]
 pub struct Name(pub usize);
 
 // The number of a clause, from 1.
-#[derive(Drop)]
+#[derive(Clone, Copy)]
 pub struct ClauseNumber(pub usize);
 
 // The t of `rep`, a side of a literal: "1 left, 2 right".
-#[derive(Drop)]
+#[derive(Clone, Copy)]
 pub struct Side(pub usize);

@@ -1,5 +1,7 @@
 // The values of terms in a heap that was read, in two arrays that the caller lends. numbers[t] is the number of the term t: that of a
 // reference, a field or a class, or a region's mask. Where t is a heap value, its row stands at t * ROW.
+#![tactic(auto)]
+
 ghost use Rattle.std.specs.Prelude.{◌≡◌, ◌≤◌, length};
 ghost use Rattle.tableau.specs.Terms.{max_terms};
 ghost use Rattle.packing.specs.Packing.{Small};

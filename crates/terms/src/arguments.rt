@@ -15,14 +15,14 @@ use syntax::{Arguments, Term};
 use tableau::{Operator, Sort, TermNumber};
 
 // What an operator takes at a place: nothing, or a term of a sort.
-#[derive(Drop)]
+#[derive(Clone, Copy)]
 enum ArgumentSort {
     None,
     Of(Sort),
 }
 
 // What it takes at each of its four places.
-#[derive(Drop)]
+#[derive(Clone, Copy)]
 struct ArgumentRow {
     a: ArgumentSort,
     b: ArgumentSort,

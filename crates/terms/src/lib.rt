@@ -1,5 +1,7 @@
 // T lines make terms, A and C lines make literals of them: checks 7 to 10, in arrays that the caller lends. (Check 6, that unused fields are
 // 0, is the caller's.)
+#![tactic(auto)]
+
 ghost use Rattle.std.specs.Prelude.{◌≡◌, true, ◌<◌, length};
 ghost use Rattle.tableau.specs.Basics.{every};
 ghost use Rattle.tableau.specs.Fields.{sides, word_fields};
@@ -20,14 +22,14 @@ mod arguments;
 mod sides;
 
 // The checks 7 to 10 of a T line.
-#[derive(Drop)]
+#[derive(Clone, Copy)]
 pub enum Making {
     Made,
     Refused(Reason),
 }
 
 // The checks 8 and 9 of an A or C line: the packed literal.
-#[derive(Drop)]
+#[derive(Clone, Copy)]
 pub enum Assumption {
     Assumed(u32),
     Refused(Reason),

@@ -1,6 +1,8 @@
 // The tree: the branch and the alternatives that wait. A literal is one number here, its code; the contracts hold for every reading of
 // the codes as literals. A method with `mut self` that is called for a step would copy the arrays, so what a step makes of the tree is
 // worked out from its extent alone, and then stored in place, one array a call.
+#![tactic(auto)]
+
 ghost use Rattle.std.specs.Prelude.{◌≡◌, true, [], ◌∷◌, map, ℕ, suc, ◌+◌, ◌-◌, ◌≤◌, ◌<◌, min, max, get_or};
 ghost use Rattle.tableau.specs.Terms.{Literal};
 ghost use Rattle.tableau.specs.Tree.{max_places, max_waiting, root, passed, close, grown};
@@ -15,7 +17,7 @@ use clauses::Span;
 use tableau::{Place, Reason};
 
 // The literals that an alternative adds, in order: the first `count` of three.
-#[derive(Drop)]
+#[derive(Clone, Copy)]
 pub struct Alternative {
     pub count: usize,
     pub first: u32,
@@ -35,7 +37,7 @@ pub struct Tree {
 
 // How far the arrays of a tree are filled, and the alternative that is taken next (0: none waits). What a step makes of the tree depends on
 // nothing else of it.
-#[derive(Drop)]
+#[derive(Clone, Copy)]
 pub struct Extent {
     pub len: usize,
     pub count: usize,
@@ -43,7 +45,7 @@ pub struct Extent {
 }
 
 // Packed alternatives that begin to wait: the first `count` of two, the first of them taken first.
-#[derive(Drop)]
+#[derive(Clone, Copy)]
 pub struct Begun {
     pub count: usize,
     pub first: u64,
@@ -52,7 +54,7 @@ pub struct Begun {
 
 // The branch is cut back to a length, and an alternative added there; some alternatives are kept waiting, and others begin to wait on
 // top of them.
-#[derive(Drop)]
+#[derive(Clone, Copy)]
 pub struct Change {
     pub cut: usize,
     pub adds: Alternative,
@@ -61,7 +63,7 @@ pub struct Change {
 }
 
 // What a step makes of an open tree.
-#[derive(Drop)]
+#[derive(Clone, Copy)]
 pub enum Growth {
     To(Change),
     Closed,

@@ -1,4 +1,6 @@
 // The value of a variable, from the keys and values of the lines: a number, or the row of a heap value.
+#![tactic(auto)]
+
 ghost use Rattle.std.specs.Prelude.{◌≡◌, ◌<◌, ◌≤◌, length, take};
 ghost use Rattle.tableau.specs.Terms.{max_terms};
 ghost use Rattle.evaluation.specs.Facts.{fact_index};

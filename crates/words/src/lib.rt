@@ -1,5 +1,7 @@
 // The letters of a checker file, and the words of T, A, C and S lines: what each stands for, and the fields that it uses. A letter's words stand in one fixed byte string, in
 // the order of its table.
+#![tactic(auto)]
+
 ghost use Rattle.std.specs.Prelude.{[], ◌∷◌, ◌≡◌};
 ghost use Rattle.lines.specs.Lines.{pack_word};
 ghost use Rattle.words.specs.Words.{words_of, index_of, LetterKnown, WordKnown, RelationKnown, RuleKnown};
@@ -8,37 +10,37 @@ use syntax::Mask;
 use tableau::{Letter, Operator, Relation, Rule, Sort, Word};
 
 // What a word stands for, and the fields that it uses.
-#[derive(Drop)]
+#[derive(Clone, Copy)]
 pub struct WordRow {
     pub word: Word,
     pub used: Mask,
 }
 
-#[derive(Drop)]
+#[derive(Clone, Copy)]
 pub struct RuleRow {
     pub rule: Rule,
     pub used: Mask,
 }
 
-#[derive(Drop)]
+#[derive(Clone, Copy)]
 pub enum LetterFound {
     Known(Letter),
     Unknown,
 }
 
-#[derive(Drop)]
+#[derive(Clone, Copy)]
 pub enum WordFound {
     Known(WordRow),
     Unknown,
 }
 
-#[derive(Drop)]
+#[derive(Clone, Copy)]
 pub enum RelationFound {
     Known(Relation),
     Unknown,
 }
 
-#[derive(Drop)]
+#[derive(Clone, Copy)]
 pub enum RuleFound {
     Known(RuleRow),
     Unknown,

@@ -6,21 +6,17 @@ use Rattle.tableau.specs.Basics.{bytes}
 use Rattle.tableau.specs.Words.{relations}
 use Rattle.words.specs.Words.{words_of}
 use Rattle.words.proofs.TableLaws.{packed_texts, rows_of, found, not_found}
-use Rattle.words.proofs.relation_of.Statement.{statement}
-use Rattle.words.proofs.relation_of.Tie as tie
+use Rattle.words.proofs.relation_of.Goals as goal
 
-known : tie.Need-returns
+pub returns-then-index-lt-RELATION_COUNT : goal.returns-then-index-lt-RELATION_COUNT
 unfolding words_of packed_texts rows_of relations bytes
-known c =
-    let k = c.before.before in
+returns-then-index-lt-RELATION_COUNT c =
     found (λ R. R) (λ x R. x ≡ some R) (λ R. refl) _ relations
-    k.before.before.args.word k.search.result k.search.ensures c.before.if1.true
+    c.args.word c.search-index.result c.search-index.ensures c.if-index-lt-RELATION_COUNT.true
 
-unknown : tie.Need-returns-2
+pub returns : goal.returns
 unfolding words_of packed_texts relations bytes
-unknown c =
-    let k = c.before in
-    not_found relations k.before.before.args.word k.search.result k.search.ensures c.if1.false
+returns c = not_found relations c.args.word c.search-index.result c.search-index.ensures c.if-index-lt-RELATION_COUNT.false
 
-pub relation_of_spec : {M : Type 1} → statement M
-relation_of_spec = tie.close (tie.spec (λ c. search rules) (λ c κs. tt) (λ c. c.if1.true) known unknown)
+pub bounds-relations-index : goal.bounds-relations-index
+bounds-relations-index c = c.if-index-lt-RELATION_COUNT.true
