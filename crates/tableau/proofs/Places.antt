@@ -105,23 +105,21 @@ abbrev is_one_of : Rule → List Rule → Bool
 is_one_of x [] = false
 is_one_of x (y ∷ ys) = eqb (place_of x) (place_of y) || is_one_of x ys
 
-not_one_of : (ks : List ℕ) (ys : List Rule) (x : Rule) → all_of (λ (y : Rule). absent ks (place_of y)) ys ≡ true → OneOf ks (place_of x) → is_one_of x ys ≡ false
-not_one_of ks [] x a h = refl
-not_one_of ks (y ∷ ys) x a h =
-    let b = both_true (absent ks (place_of y)) _ a in
-    λ i. ne_eqb (place_of x) (place_of y) (not_among ks (place_of y) (place_of x) b.0 h) i || not_one_of ks ys x b.1 h i
+-- the rule is none of these
+abbrev pub NoneOf : Rule → List Rule → Type 0
+NoneOf x [] = Unit
+NoneOf x (y ∷ ys) = (x ≡ y → ⊥) × NoneOf x ys
 
--- the places of the other rules, in the order of the table
-abbrev places_in : List Rule → List Rule → List ℕ
-places_in named [] = []
-places_in named (x ∷ xs) = cond (is_one_of x named) (places_in named xs) (place_of x ∷ places_in named xs)
-
-abbrev pub places_but : List Rule → List ℕ
-places_but named = places_in named rules
+not_one_of : (ys : List Rule) (x : Rule) → NoneOf x ys → is_one_of x ys ≡ false
+not_one_of [] x h = refl
+not_one_of (y ∷ ys) x h = rw (apart (eqb (place_of x) (place_of y)) refl, not_one_of ys x h.1)
+  where
+    apart : (b : Bool) → eqb (place_of x) (place_of y) ≡ b → b ≡ false
+    apart true e = absurd (h.0 (same_rule x y e))
+    apart false e = refl
 
 -- a test that holds of every rule but the named ones holds in the arm that is left when each of those has its own
-pub other_rule : (f : Rule → Bool) (named : List Rule) → all_of (λ x. is_one_of x named || f x) rules ≡ true
-    → all_of (λ (y : Rule). absent (places_but named) (place_of y)) named ≡ true → (x : Rule) → OneOf (places_but named) (place_of x) → f x ≡ true
-other_rule f named h a x o =
+pub other_rule : (f : Rule → Bool) (named : List Rule) → all_of (λ x. is_one_of x named || f x) rules ≡ true → (x : Rule) → NoneOf x named → f x ≡ true
+other_rule f named h x n =
     let e = every_rule (λ y. is_one_of y named || f y) h x in
-    sym (λ i. not_one_of (places_but named) named x a o i || f x) ∙ e
+    sym (λ i. not_one_of named x n i || f x) ∙ e

@@ -1,0 +1,6 @@
+-- The number is that of the reason.
+use borrow.Author.Rules.{rules}
+use Rattle.evaluation_reply.proofs.refused.Goals as goal
+
+pub returns : goal.returns
+returns c = rw c.reason_number.ensures

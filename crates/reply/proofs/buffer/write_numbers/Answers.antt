@@ -1,0 +1,9 @@
+-- The numbers fill the buffer.
+use mathlib.Core.Path.{◌∙◌, ap}
+use borrow.Author.Rules.{rules}
+use Rattle.tableau.specs.Reply.{number_bytes, reply_bytes}
+use Rattle.reply.proofs.buffer.write_numbers.Goals as goal
+
+pub returns : goal.returns
+unfolding reply_bytes
+returns c = c.put_numbers.ensures ∙ ap number_bytes c.numbers.ensures

@@ -1,0 +1,9 @@
+use mathlib.Core.Path.{refl}
+use native.Mathlib.Omega.{arith}
+use borrow.Author.Rules.{rules}
+use Rattle.table.specs.Held.{hash_of}
+use Rattle.table.proofs.hash.Goals as goal
+
+pub returns : goal.returns
+unfolding hash_of
+returns c = (refl, omega arith)

@@ -1,0 +1,5 @@
+use borrow.Author.Rules.{rules}
+use Rattle.table.proofs.sort_of.Goals as goal
+
+pub returns : goal.returns
+returns c = λ table E. c.sort.ensures _ (c.packed.ensures table E).is
