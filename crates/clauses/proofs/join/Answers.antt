@@ -5,7 +5,7 @@ use lib.ListN.{length}
 use native.Mathlib.Omega.{arith}
 use Rattle.clauses.proofs.Laws.{last_few, ok, next_few, joined}
 use Rattle.clauses.proofs.join.Goals as goal
-use Rattle.clauses.proofs.join.Goals.{After-end_of-lines, After-way_told-1}
+use Rattle.clauses.proofs.join.Goals.{After-end_of-lines}
 
 -- the lines so far, and their number
 lines : (c : goal.After-end_of-lines) → c.end_of-lines.result ≡ length c.requires.clauses_held.0
@@ -13,13 +13,11 @@ lines c = c.end_of-lines.ensures ∙ c.requires.clauses_held.1.lines
 
 few : (c : goal.After-end_of-lines) → c.end_of-lines.result < 400
 few c =
-    let p = c.requires in
-    omega (arith, lines c, (ok p.0.1 c.args.k.0 c.args.code p.1 p.0.2).few)
+    omega (arith, lines c, (ok c.requires.clauses_held.1 c.args.k.0 c.args.code c.requires.code_lt_code_limit c.requires.clauses_held.2).few)
 
 next : (c : goal.After-end_of-lines) → c.args.k.0 ≤ 400
 next c =
-    let p = c.requires in
-    next_few p.0.1 c.args.k.0 c.args.code p.1 p.0.2
+    next_few c.requires.clauses_held.1 c.args.k.0 c.args.code c.requires.code_lt_code_limit c.requires.clauses_held.2
 
 pub returns : goal.returns
 returns c C H t = rw (c.end_of-lines.ensures, H.lines) (joined H _ _ c.requires.code_lt_code_limit t)
@@ -31,19 +29,19 @@ pub offset_bounds-clauses-lines : goal.offset_bounds-clauses-lines
 offset_bounds-clauses-lines c = omega (arith, few (goal.at.offset_bounds-clauses-lines c).After-end_of-lines)
 
 pub bounds-clauses-lines : goal.bounds-clauses-lines
-bounds-clauses-lines c = omega (arith, few (goal.at.bounds-clauses-lines c).After-way_told-1)
+bounds-clauses-lines c = omega (arith, few (goal.at.bounds-clauses-lines c).After-end_of-lines)
 
 pub overflow_add-clauses : goal.overflow_add-clauses
-overflow_add-clauses c = omega (arith, few (goal.at.overflow_add-clauses c).After-way_told-1)
+overflow_add-clauses c = omega (arith, few (goal.at.overflow_add-clauses c).After-end_of-lines)
 
 pub overflow_cast-clauses : goal.overflow_cast-clauses
-overflow_cast-clauses c = omega (arith, few (goal.at.overflow_cast-clauses c).After-way_told-1)
+overflow_cast-clauses c = omega (arith, few (goal.at.overflow_cast-clauses c).After-end_of-lines)
 
 pub overflow_add-clauses-2 : goal.overflow_add-clauses-2
-overflow_add-clauses-2 c = omega (arith, next (goal.at.overflow_add-clauses-2 c).After-way_told-1)
+overflow_add-clauses-2 c = omega (arith, next (goal.at.overflow_add-clauses-2 c).After-end_of-lines)
 
 pub offset_bounds-clauses-number : goal.offset_bounds-clauses-number
-offset_bounds-clauses-number c = omega (arith, next (goal.at.offset_bounds-clauses-number c).After-way_told-1)
+offset_bounds-clauses-number c = omega (arith, next (goal.at.offset_bounds-clauses-number c).After-end_of-lines)
 
 pub bounds-clauses-number : goal.bounds-clauses-number
-bounds-clauses-number c = omega (arith, next (goal.at.bounds-clauses-number c).After-way_told-1)
+bounds-clauses-number c = omega (arith, next (goal.at.bounds-clauses-number c).After-end_of-lines)

@@ -7,6 +7,5 @@ use Rattle.evaluation_reply.proofs.write_line.Goals as goal
 pub returns : goal.returns
 unfolding evaluation_line
 returns c =
-    let fields = c.put_fields.ensures in
     let number = c.put_decimal-len.ensures.put in
-    record { upper_bound = (fields.0, fields.1.size); line_after = two_texts number fields.1 }
+    record { upper_bound = (c.put_fields.ensures.upper_bound, c.put_fields.ensures.put.size); line_after = two_texts number c.put_fields.ensures.put }

@@ -9,7 +9,7 @@ use Rattle.mentions.proofs.RowLaws.{filled_none, filled_more, filled_all}
 use Rattle.mentions.proofs.clear.Given as goal
 
 abbrev pub invariant-loop-i : goal.invariant-loop-i
-invariant-loop-i l = Filled l.initial.rows l.rows l.t (λ i q. false) i
+invariant-loop-i l = Filled l.initial.rows l.rows l.t (λ i q. false) l.i
 
 abbrev pub decreases-loop-i : goal.decreases-loop-i
 decreases-loop-i l = 10 - l.i

@@ -1,0 +1,7 @@
+use mathlib.Core.Path.{ap}
+use lib.Bits.{bit_and}
+use borrow.Author.Rules.{rules}
+use Rattle.regions.proofs.image.Goals as goal
+
+pub returns : goal.returns
+returns c = ap (bit_and c.args.all) c.reached.ensures

@@ -1,0 +1,19 @@
+-- The second alternative begins to wait.
+use borrow.Author.Rules.{rules}
+use native.Mathlib.Omega.{arith}
+use mathlib.Core.List.{[], ◌∷◌}
+use Rattle.tree.proofs.Waiting.{begins_one}
+use Rattle.tree.proofs.Changes.{branch_full, waiting_full, steps_to}
+use Rattle.tree.proofs.Extent.split2.Goals as goal
+
+pub returns-then-len-greatest-gt-PLACES : goal.returns-then-len-greatest-gt-PLACES
+returns-then-len-greatest-gt-PLACES c = branch_full _ c.args.first (c.args.second ∷ []) (omega arith) (omega arith)
+
+pub returns-then-count-gt-WAITING : goal.returns-then-count-gt-WAITING
+returns-then-count-gt-WAITING c = waiting_full _ c.args.first (c.args.second ∷ []) (omega arith) (omega arith) (omega arith)
+
+pub returns : goal.returns
+returns c =
+    rw c.pack.ensures
+    (steps_to _ c.args.first (c.args.second ∷ []) (omega arith) (omega arith) _ c.requires.1 (omega arith)
+    (begins_one _ c.args.second c.requires.2 (omega arith)))
