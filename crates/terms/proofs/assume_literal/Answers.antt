@@ -17,7 +17,7 @@ use Rattle.terms.proofs.assume_literal.Goals.{Else-not-are_made}
 
 eight : (c : goal.Else-not-are_made) (table : Table) → length table ≡ c.args.n
     → every (term_or_name table) (sides c.args.literal.relation) (sides_in c.args.literal) ≡ true
-eight c table q = sym (c.are_made.ensures table q) ∙ not-false _ c.if-not-are_made.false
+eight c table q = sym (c.are_made.ensures table q) ∙ c.if-not-are_made.false
 
 packable : (c : goal.Else-not-are_made) → PackableLiteral (literal_in c.args.literal)
 packable c = let p = c.requires in sides_packable p.0 c.args.literal p.1.few (eight c p.0 p.2)
@@ -29,7 +29,7 @@ returns-then-not-are_made c =
       (sym (c.are_made.ensures table q) ∙ c.if-not-are_made.true) refl)); small_code = tt }
 
 pub have_sorts-requires : goal.have_sorts-requires
-have_sorts-requires c = let p = c.requires in ((p.0, p.1), packable (goal.at.have_sorts-requires c).Else-not-are_made)
+have_sorts-requires c = let p = c.requires in record { entries = (p.0, p.1); packable_literal = packable (goal.at.have_sorts-requires c).Else-not-are_made }
 
 pub returns-then-not-have_sorts : goal.returns-then-not-have_sorts
 returns-then-not-have_sorts c =

@@ -31,7 +31,7 @@ seven c table H = let q : length table ≡ c.args.n = H.count in lt-ltb (length 
 eight : (c : goal.Else-not-are_made) (table : Table) → (Held table (arrays c.args.terms.now c.args.chains.now c.args.rows.now) c.args.n) → ArgumentsMade table c.args.term
 eight c table H = record {
   unused_zero = c.requires.term_value.0;
-  made = sym (c.are_made.ensures table H.count) ∙ not-false _ c.if-not-are_made.false;
+  made = sym (c.are_made.ensures table H.count) ∙ c.if-not-are_made.false;
 }
 
 packable : (c : goal.Else-not-are_made) (table : Table) → (Held table (arrays c.args.terms.now c.args.chains.now c.args.rows.now) c.args.n) → Packable (term_in c.args.term)
@@ -39,24 +39,21 @@ packable c table H = term_packable table c.args.term (eight c table H) H.searcha
 
 nine : (c : goal.Else-not-have_sorts) (table : Table) → (Held table (arrays c.args.terms.now c.args.chains.now c.args.rows.now) c.args.n)
     → every (of_sort table) (word_fields (word_in c.args.term)) (fields_in c.args.term) ≡ true
-nine c table H = sym (c.have_sorts.ensures table H.searchable.entries) ∙ not-false _ c.if-not-have_sorts.false
+nine c table H = sym (c.have_sorts.ensures table H.searchable.entries) ∙ c.if-not-have_sorts.false
 
 found : (c : goal.After-search) (table : Table) → (Held table (arrays c.args.terms.now c.args.chains.now c.args.rows.now) c.args.n)
     → found_of (number_of table (term_in (c.args.term))) ≡ c.search.result
 found c table H = sym (c.search.ensures table H.searchable _
     (record { is = c.pack-packed.ensures; packable = (term_packable table c.args.term ((record {
   unused_zero = c.requires.term_value.0;
-  made = sym (c.are_made.ensures table H.count) ∙ not-false _ c.if-not-are_made.false;
+  made = sym (c.are_made.ensures table H.count) ∙ c.if-not-are_made.false;
 })) H.searchable.entries.few c.requires.term_value.1) }))
 
 -- so check 10 decides
 line : (c : goal.After-search) (table : Table) → (Held table (arrays c.args.terms.now c.args.chains.now c.args.rows.now) c.args.n) → {ten : Bool} → is_new table (term_in (c.args.term)) ≡ ten
     → term_line table (word_in (c.args.term)) (fields_in (c.args.term)) ≡ term_checks true true true true ten (table ++ (term_in (c.args.term) ∷ []))
 line c table H ten =
-    term_line_lem table (c.args.term) c.requires.term_value.0 ((let q : length table ≡ c.args.n = H.count in lt-ltb (length table) max_terms (omega arith))) ((record {
-  unused_zero = c.requires.term_value.0;
-  made = sym (c.are_made.ensures table H.count) ∙ not-false _ c.if-not-are_made.false;
-})).made ((sym (c.have_sorts.ensures table H.searchable.entries) ∙ not-false _ c.if-not-have_sorts.false)) ten
+    term_line_lem table (c.args.term) c.requires.term_value.0 ((let q : length table ≡ c.args.n = H.count in lt-ltb (length table) max_terms (omega arith))) (sym (c.are_made.ensures table H.count) ∙ c.if-not-are_made.false) ((sym (c.have_sorts.ensures table H.searchable.entries) ∙ c.if-not-have_sorts.false)) ten
 
 pub returns-then-n-ge-TERMS : goal.returns-then-n-ge-TERMS
 returns-then-n-ge-TERMS c =
@@ -77,7 +74,7 @@ returns-then-not-are_made c =
     }
 
 pub have_sorts-requires : goal.have_sorts-requires
-have_sorts-requires c = let p = c.requires.held in ((p.0, p.1.searchable.entries), packable (goal.at.have_sorts-requires c).Else-not-are_made p.0 p.1)
+have_sorts-requires c = let p = c.requires.held in record { entries = (p.0, p.1.searchable.entries); packable = packable (goal.at.have_sorts-requires c).Else-not-are_made p.0 p.1 }
 
 pub returns-then-not-have_sorts : goal.returns-then-not-have_sorts
 returns-then-not-have_sorts c =

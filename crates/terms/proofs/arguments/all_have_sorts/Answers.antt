@@ -39,13 +39,13 @@ returns-else-has_sort c =
     (c.has_sort.ensures table E) c.if-has_sort.false
 
 pub has_sort-requires : goal.has_sort-requires
-has_sort-requires c = (c.requires.entries, c.requires.all_below.0)
+has_sort-requires c = record { entries = c.requires.entries; small = c.requires.all_below.0 }
 
 pub has_sort-requires-then-has_sort : goal.has_sort-requires-then-has_sort
-has_sort-requires-then-has_sort c = (c.requires.entries, c.requires.all_below.1)
+has_sort-requires-then-has_sort c = record { entries = c.requires.entries; small = c.requires.all_below.1 }
 
 pub has_sort-requires-then-has_sort-2 : goal.has_sort-requires-then-has_sort-2
-has_sort-requires-then-has_sort-2 c = (c.requires.entries, c.requires.all_below.2)
+has_sort-requires-then-has_sort-2 c = record { entries = c.requires.entries; small = c.requires.all_below.2 }
 
 pub has_sort-requires-then-has_sort-3 : goal.has_sort-requires-then-has_sort-3
-has_sort-requires-then-has_sort-3 c = (c.requires.entries, c.requires.all_below.3)
+has_sort-requires-then-has_sort-3 c = record { entries = c.requires.entries; small = c.requires.all_below.3 }

@@ -9,4 +9,4 @@ pub returns-in-Of : goal.returns-in-Of
 returns-in-Of c = λ table E. rw c.in-Of.is (c.has_sort.ensures table E)
 
 pub has_sort-requires : goal.has_sort-requires
-has_sort-requires c = c.requires
+has_sort-requires c = record { entries = c.requires.entries; small = c.requires.small }

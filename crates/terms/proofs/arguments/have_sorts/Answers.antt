@@ -7,7 +7,7 @@ use Rattle.syntax.specs.Syntax.{arguments_in}
 use Rattle.terms.proofs.arguments.have_sorts.Goals as goal
 
 pub all_have_sorts-requires : goal.all_have_sorts-requires
-all_have_sorts-requires c = record { entries = c.requires.entries; all_below = rw c.in-Apply.is at c.requires.packable_literal }
+all_have_sorts-requires c = record { entries = c.requires.entries; all_below = rw c.in-Apply.is at c.requires.packable }
 
 pub returns-in-Variable : goal.returns-in-Variable
 returns-in-Variable c = λ table E. rw c.in-Variable.is

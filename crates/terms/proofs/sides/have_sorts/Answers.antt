@@ -8,27 +8,27 @@ use Rattle.terms.proofs.sides.have_sorts.Goals as goal
 
 pub of_sorts-requires : goal.of_sorts-requires
 unfolding sides one_sort
-of_sorts-requires c = let told = c.requires in record { entries = told.0; packable_literal = told.1 }
+of_sorts-requires c = record { entries = c.requires.entries; packable_literal = c.requires.packable_literal }
 
 pub of_sorts-requires-in-Ni : goal.of_sorts-requires-in-Ni
 unfolding sides one_sort
-of_sorts-requires-in-Ni c = let told = c.requires in record { entries = told.0; packable_literal = told.1 }
+of_sorts-requires-in-Ni c = record { entries = c.requires.entries; packable_literal = c.requires.packable_literal }
 
 pub of_one_sort-requires : goal.of_one_sort-requires
 unfolding sides one_sort
-of_one_sort-requires c = let told = c.requires in record { entries = told.0; packable_literal = told.1 }
+of_one_sort-requires c = record { entries = c.requires.entries; packable_literal = c.requires.packable_literal }
 
 pub of_one_sort-requires-in-Ne : goal.of_one_sort-requires-in-Ne
 unfolding sides one_sort
-of_one_sort-requires-in-Ne c = let told = c.requires in record { entries = told.0; packable_literal = told.1 }
+of_one_sort-requires-in-Ne c = record { entries = c.requires.entries; packable_literal = c.requires.packable_literal }
 
 pub of_sorts-requires-in-Le : goal.of_sorts-requires-in-Le
 unfolding sides one_sort
-of_sorts-requires-in-Le c = let told = c.requires in record { entries = told.0; packable_literal = told.1 }
+of_sorts-requires-in-Le c = record { entries = c.requires.entries; packable_literal = c.requires.packable_literal }
 
 pub of_sorts-requires-in-Nl : goal.of_sorts-requires-in-Nl
 unfolding sides one_sort
-of_sorts-requires-in-Nl c = let told = c.requires in record { entries = told.0; packable_literal = told.1 }
+of_sorts-requires-in-Nl c = record { entries = c.requires.entries; packable_literal = c.requires.packable_literal }
 
 pub returns-in-In : goal.returns-in-In
 unfolding sides one_sort

@@ -13,4 +13,4 @@ pub sort_of-requires : goal.sort_of-requires
 sort_of-requires c = record { entries = c.requires.entries; small = c.requires.packable_literal.0 }
 
 pub has_sort-requires : goal.has_sort-requires
-has_sort-requires c = (c.requires.entries, c.requires.packable_literal.1)
+has_sort-requires c = record { entries = c.requires.entries; small = c.requires.packable_literal.1 }

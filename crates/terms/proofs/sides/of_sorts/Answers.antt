@@ -13,7 +13,7 @@ returns-else-has_sort c =
     first_decides (same_sort a.right (sort_of (at table a.literal.right.0))) (c.has_sort.ensures table E) c.if-has_sort.false
 
 pub has_sort-requires : goal.has_sort-requires
-has_sort-requires c = (c.requires.entries, c.requires.packable_literal.0)
+has_sort-requires c = record { entries = c.requires.entries; small = c.requires.packable_literal.0 }
 
 pub has_sort-requires-then-has_sort : goal.has_sort-requires-then-has_sort
-has_sort-requires-then-has_sort c = (c.requires.entries, c.requires.packable_literal.1)
+has_sort-requires-then-has_sort c = record { entries = c.requires.entries; small = c.requires.packable_literal.1 }

@@ -7,6 +7,12 @@ use Rattle.tree.proofs.Tree.literal_at.Goals.{Start}
 on : (c : goal.Start) → (1 ≤ c.args.place.0) × (c.args.place.0 ≤ c.args.len)
 on c = from_check c.args.len c.args.place.0 c.requires.1
 
+pub overflow_sub-i : goal.overflow_sub-i
+overflow_sub-i c = omega (arith, on (goal.at.overflow_sub-i c).Start)
+
+pub offset_bounds-branch-i : goal.offset_bounds-branch-i
+offset_bounds-branch-i c = omega (arith, on (goal.at.offset_bounds-branch-i c).Start)
+
 pub bounds-branch-i : goal.bounds-branch-i
 bounds-branch-i c = omega (arith, on (goal.at.bounds-branch-i c).Start)
 

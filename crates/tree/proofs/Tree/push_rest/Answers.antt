@@ -11,14 +11,13 @@ use Rattle.tree.proofs.Tree.push_rest.Goals.{In-loop-i}
 -- the index is that of a literal, and there is room
 inside : (c : goal.In-loop-i) → (c.loop-i.i ≤ 400) × (c.loop-i.count < 200)
 inside c =
-    let p = c.requires in
     let v = c.loop-i.invariant in
-    (omega (arith, p.1.0, v.1), omega (arith, p.0.2, v.2, c.loop-i-test.true))
+    (omega (arith, c.requires.count_bound.0, v.1), omega (arith, c.requires.stack.2, v.2, c.loop-i-test.true))
 
 pub loop-i-init : goal.loop-i-init
 loop-i-init c =
     let e : c.args.span.from + c.args.span.count - (c.args.span.from + c.args.span.count) ≡ 0 = omega arith in
-    (omega (arith, c.requires.0.1), omega arith, omega arith, rw e (push_none c.requires.0.0))
+    (omega (arith, c.requires.stack.1), omega arith, omega arith, rw e (push_none c.requires.stack.0))
 
 pub loop-i-preserved : goal.loop-i-preserved
 loop-i-preserved c =
@@ -30,7 +29,7 @@ loop-i-preserved c =
       omega (arith, v.1),
       omega (arith, v.2, t),
       rw (c.pack.ensures, c.one.ensures.1)
-          (push_literal c.args.cut c.args.literals.now i (i - 1) (end - i) (end - (i - 1)) _ (omega (arith, t)) (omega (arith, v.1, t)) c.requires.0.3 (c.requires.1.1 _) v.3 (inside (goal.at.loop-i-preserved c).In-loop-i).1 refl),
+          (push_literal c.args.cut c.args.literals.now i (i - 1) (end - i) (end - (i - 1)) _ (omega (arith, t)) (omega (arith, v.1, t)) c.requires.stack.3 (c.requires.count_bound.1 _) v.3 (inside (goal.at.loop-i-preserved c).In-loop-i).1 refl),
     )
 
 pub returns : goal.returns
@@ -41,10 +40,10 @@ returns c =
     rw (e, n) at v.3
 
 pub overflow_add-from : goal.overflow_add-from
-overflow_add-from c = omega (arith, c.requires.0.1, c.requires.1.0)
+overflow_add-from c = omega (arith, c.requires.stack.1, c.requires.count_bound.0)
 
 pub overflow_add-i : goal.overflow_add-i
-overflow_add-i c = omega (arith, c.requires.1.0)
+overflow_add-i c = omega (arith, c.requires.count_bound.0)
 
 pub overflow_sub-i : goal.overflow_sub-i
 overflow_sub-i c = omega (arith, c.loop-i-test.true)
@@ -56,10 +55,10 @@ pub bounds-literals-i : goal.bounds-literals-i
 bounds-literals-i c = omega (arith, inside (goal.at.bounds-literals-i c).In-loop-i, c.loop-i-test.true)
 
 pub one-requires : goal.one-requires
-one-requires c = c.requires.1.1 _
+one-requires c = c.requires.count_bound.1 _
 
 pub pack-requires : goal.pack-requires
-pack-requires c = (rw c.one.ensures.1 (one_code_lem _ (c.requires.1.1 _)), omega (arith, c.requires.0.3))
+pack-requires c = (rw c.one.ensures.1 (one_code_lem _ (c.requires.count_bound.1 _)), omega (arith, c.requires.stack.3))
 
 pub offset_bounds-waiting-count : goal.offset_bounds-waiting-count
 offset_bounds-waiting-count c = omega (arith, inside (goal.at.offset_bounds-waiting-count c).In-loop-i)
