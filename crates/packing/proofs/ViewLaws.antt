@@ -1,59 +1,48 @@
--- The arms of a `let .. else`: which variant a view is, by its key.
-use mathlib.Core.Path.{◌≡◌, refl, sym, ◌∙◌, ap}
+-- The arms of a `let .. else`: which variant a view is.
+use mathlib.Core.Path.{◌≡◌, refl, sym, ◌∙◌, ap, subst}
 use mathlib.Core.Bool.{Bool, true, false, cond}
 use mathlib.Core.List.{List, [], ◌∷◌}
 use Prim.Native.Nat.{ℕ, suc}
 use native.Mathlib.Omega.{arith}
 use lib.Dec.{eqb}
-use types.Run.{OneOf}
-use borrow.Author.Tests.{ne_eqb}
 use denote.Enum.Declared as Declared
 use Rattle.tableau.specs.declared.Sort.{Sort}
 use Rattle.tableau.specs.declared.Name.{Name}
 use Rattle.tableau.specs.declared.Operator.{Operator}
 use Rattle.tableau.specs.declared.Relation.{Relation}
 use Rattle.tableau.specs.Basics.{Four}
-use Rattle.tableau.specs.Terms.{TermNo, Term, variable, apply, operator_index, relation_index, sort_index, same_sort}
+use Rattle.tableau.specs.Terms.{TermNo, Term, variable, apply, operator_index, sort_index, same_sort, same_relation}
 use Rattle.tableau.specs.Steps.{is_rfv}
-pub use Rattle.tableau.proofs.Places.{absent, not_among}
-use Rattle.tableau.specs.contracts.Sort as sort-type
+use Rattle.tableau.proofs.Match.{same_relation_lem}
+use Rattle.tableau.specs.declared.TermNumber.{TermNumber}
 use Rattle.packing.specs.declared.TermView.{TermView}
 use Rattle.packing.specs.declared.LiteralView.{LiteralView}
 use Rattle.packing.specs.Packing.{name_of, view_of, view_apply, relation_of, IsNot}
 use Rattle.packing.specs.contracts.TermView as term-view
-use Rattle.packing.specs.contracts.LiteralView as literal-view
 
--- THE KEYS of the other arms of a `let .. else`
-abbrev pub except : ℕ → List ℕ → List ℕ
-except k [] = []
-except k (j ∷ js) = cond (eqb j k) (except k js) (j ∷ except k js)
+-- A LITERAL that has not the relation
+abbrev pub Misses : Relation → LiteralView → Type 0
+Misses Relation.In p = (m n : TermNumber) → p ≡ LiteralView.In m n → ⊥
+Misses Relation.Ni p = (m n : TermNumber) → p ≡ LiteralView.Ni m n → ⊥
+Misses Relation.Eq p = (m n : TermNumber) → p ≡ LiteralView.Eq m n → ⊥
+Misses Relation.Ne p = (m n : TermNumber) → p ≡ LiteralView.Ne m n → ⊥
+Misses Relation.Le p = (m n : TermNumber) → p ≡ LiteralView.Le m n → ⊥
+Misses Relation.Nl p = (m n : TermNumber) → p ≡ LiteralView.Nl m n → ⊥
 
-absent_except : (k : ℕ) (js : List ℕ) → absent (except k js) k ≡ true
-absent_except k [] = refl
-absent_except k (j ∷ js) = go (absent_except k js) (eqb j k) refl
+has_its_own : (p : LiteralView) → Misses (relation_of p) p → ⊥
+has_its_own (LiteralView.In m n) h = h m n refl
+has_its_own (LiteralView.Ni m n) h = h m n refl
+has_its_own (LiteralView.Eq m n) h = h m n refl
+has_its_own (LiteralView.Ne m n) h = h m n refl
+has_its_own (LiteralView.Le m n) h = h m n refl
+has_its_own (LiteralView.Nl m n) h = h m n refl
+
+pub is_not : (R : Relation) (p : LiteralView) → Misses R p → IsNot R p
+is_not R p h = go (same_relation R (relation_of p)) refl
   where
-    go : absent (except k js) k ≡ true → (b : Bool) → eqb j k ≡ b → absent (cond b (except k js) (j ∷ except k js)) k ≡ true
-    go ih true e = ih
-    go ih false e = rw e ih
-
-pub other_key : (k : ℕ) (js : List ℕ) (x : ℕ) → OneOf (except k js) x → x ≡ k → ⊥
-other_key k js x = not_among (except k js) k x (absent_except k js)
-
--- a literal of another relation
-relation_tag : (p : LiteralView) → Declared.tag_of literal-view.the_type p ≡ relation_index (relation_of p)
-unfolding relation_index
-relation_tag (LiteralView.In m n) = refl
-relation_tag (LiteralView.Ni m n) = refl
-relation_tag (LiteralView.Eq m n) = refl
-relation_tag (LiteralView.Ne m n) = refl
-relation_tag (LiteralView.Le m n) = refl
-relation_tag (LiteralView.Nl m n) = refl
-
-abbrev pub relation_keys : List ℕ
-relation_keys = 0 ∷ 1 ∷ 2 ∷ 3 ∷ 4 ∷ 5 ∷ []
-
-pub is_not : (R : Relation) (p : LiteralView) → OneOf (except (relation_index R) relation_keys) (Declared.tag_of literal-view.the_type p) → IsNot R p
-is_not R p h = ne_eqb (relation_index R) (relation_index (relation_of p)) (λ e. other_key (relation_index R) relation_keys _ h (relation_tag p ∙ sym e))
+    go : (b : Bool) → same_relation R (relation_of p) ≡ b → same_relation R (relation_of p) ≡ false
+    go true e = absurd (has_its_own p (subst (λ (Q : Relation). Misses Q p) (same_relation_lem R (relation_of p) e) h))
+    go false e = e
 
 -- the key of an operator's view
 pub operator_tag : (o : Operator) (k : Four TermNo) → Declared.tag_of term-view.the_type (view_apply o k) ≡ suc (operator_index o)
@@ -72,17 +61,14 @@ operator_tag Operator.Typ k = refl
 operator_tag Operator.Dty k = refl
 
 -- a term whose view is no variable is no `rfv`
-abbrev pub operators : List ℕ
-operators = 1 ∷ 2 ∷ 3 ∷ 4 ∷ 5 ∷ 6 ∷ 7 ∷ 8 ∷ 9 ∷ 10 ∷ 11 ∷ 12 ∷ []
-
-pub not_variable : (e : Term) (x : TermView) → x ≡ view_of e → OneOf operators (Declared.tag_of term-view.the_type x) → is_rfv e ≡ false
-not_variable (variable s n) x q h = absurd (not_among operators 0 (Declared.tag_of term-view.the_type x) refl h (ap (Declared.tag_of term-view.the_type) q))
+pub not_variable : (e : Term) (x : TermView) → x ≡ view_of e → ((s : Sort) (n : Name) → x ≡ TermView.Variable s n → ⊥) → is_rfv e ≡ false
+not_variable (variable s n) x q h = absurd (h s (name_of n) q)
 not_variable (apply o k) x q h = refl
 
 -- a variable of another sort is none either
-pub not_reference : (s : Sort) → OneOf (1 ∷ 2 ∷ 3 ∷ 4 ∷ []) (Declared.tag_of sort-type.the_type s) → same_sort Sort.Reference s ≡ false
+pub not_reference : (s : Sort) → (s ≡ Sort.Reference → ⊥) → same_sort Sort.Reference s ≡ false
 unfolding sort_index
-not_reference Sort.Reference h = absurd (not_among (1 ∷ 2 ∷ 3 ∷ 4 ∷ []) 0 0 refl h refl)
+not_reference Sort.Reference h = absurd (h refl)
 not_reference Sort.Region h = refl
 not_reference Sort.Heap h = refl
 not_reference Sort.Field h = refl

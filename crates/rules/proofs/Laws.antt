@@ -6,7 +6,6 @@ use mathlib.Core.Option.{Option, none, some}
 use Prim.Native.Nat.{ℕ, suc, ◌≤◌}
 use native.Mathlib.Omega.{arith}
 use lib.Dec.{eqb}
-use types.Run.{OneOf}
 use borrow.Author.Tests.{eq-eqb, ne_eqb, not-true, not-false}
 use denote.Enum.Declared as Declared
 use Rattle.tableau.specs.declared.Operator.{Operator}
@@ -14,7 +13,7 @@ use Rattle.tableau.specs.declared.Relation.{Relation}
 use Rattle.tableau.specs.declared.TermNumber.{TermNumber}
 use Rattle.tableau.specs.Basics.{Four, four, guard}
 use Rattle.tableau.specs.Fields.{arguments}
-use Rattle.tableau.specs.Terms.{TermNo, Table, Term, Literal, variable, apply, literal, operator_index, relation_index, sort_index, same_relation, number_of}
+use Rattle.tableau.specs.Terms.{TermNo, Table, Term, Literal, variable, apply, literal, operator_index, relation_index, sort_index, same_operator, same_relation, number_of}
 use Rattle.tableau.specs.Rules.{rule}
 use Rattle.tableau.specs.Tree.{passed, answer}
 use Rattle.tableau.specs.Steps.{arguments_of, fits, fits_literal, met, made, made_literals, made_alternatives, conclude_rows, conclude}
@@ -24,7 +23,7 @@ use Rattle.packing.specs.declared.LiteralView.{LiteralView}
 use Rattle.packing.specs.Packing.{view_of, view_apply, literal_of, relation_of, left_of, right_of, number, unpack_literal, pack_literal, PackableLiteral, SmallView}
 use Rattle.packing.proofs.PackingLaws.{literal_unpack_pack}
 use Rattle.packing.proofs.ViewLaws.{operator_tag}
-pub use Rattle.packing.proofs.ViewLaws.{except, other_key, relation_keys, is_not}
+pub use Rattle.packing.proofs.ViewLaws.{is_not}
 use Rattle.packing.specs.contracts.TermView as term-view
 use Rattle.table.specs.declared.Found.{Found}
 use Rattle.table.specs.Held.{found_of, FoundAs, ViewAt}
@@ -63,17 +62,44 @@ pub same : (R : Relation) → same_relation R R ≡ true
 same R = eq-eqb (relation_index R) (relation_index R) refl
 
 -- A TERM of another operator
-abbrev pub operator_keys : List ℕ
-operator_keys = 0 ∷ 1 ∷ 2 ∷ 3 ∷ 4 ∷ 5 ∷ 6 ∷ 7 ∷ 8 ∷ 9 ∷ 10 ∷ 11 ∷ 12 ∷ []
-
 abbrev pub Others : Operator → TermView → Type 0
-Others o x = OneOf (except (suc (operator_index o)) operator_keys) (Declared.tag_of term-view.the_type x)
+Others Operator.Nul x = x ≡ TermView.Nul → ⊥
+Others Operator.Rea x = (a b c : TermNumber) → x ≡ TermView.Rea a b c → ⊥
+Others Operator.Emp x = x ≡ TermView.Emp → ⊥
+Others Operator.All x = x ≡ TermView.All → ⊥
+Others Operator.Cup x = (a b : TermNumber) → x ≡ TermView.Cup a b → ⊥
+Others Operator.Cap x = (a b : TermNumber) → x ≡ TermView.Cap a b → ⊥
+Others Operator.Dif x = (a b : TermNumber) → x ≡ TermView.Dif a b → ⊥
+Others Operator.Sin x = (a : TermNumber) → x ≡ TermView.Sin a → ⊥
+Others Operator.Img x = (a b c : TermNumber) → x ≡ TermView.Img a b c → ⊥
+Others Operator.Wri x = (a b c d : TermNumber) → x ≡ TermView.Wri a b c d → ⊥
+Others Operator.Typ x = (a : TermNumber) → x ≡ TermView.Typ a → ⊥
+Others Operator.Dty x = (a : TermNumber) → x ≡ TermView.Dty a → ⊥
+
+has_its_own : (o : Operator) (k : Four TermNo) → Others o (view_apply o k) → ⊥
+unfolding view_apply
+has_its_own Operator.Nul k h = h refl
+has_its_own Operator.Rea k h = h _ _ _ refl
+has_its_own Operator.Emp k h = h refl
+has_its_own Operator.All k h = h refl
+has_its_own Operator.Cup k h = h _ _ refl
+has_its_own Operator.Cap k h = h _ _ refl
+has_its_own Operator.Dif k h = h _ _ refl
+has_its_own Operator.Sin k h = h _ refl
+has_its_own Operator.Img k h = h _ _ _ refl
+has_its_own Operator.Wri k h = h _ _ _ _ refl
+has_its_own Operator.Typ k h = h _ refl
+has_its_own Operator.Dty k h = h _ refl
 
 pub no_arguments : (o : Operator) (e : Term) {x : TermView} → view_of e ≡ x → Others o x → arguments_of o e ≡ none
 no_arguments o (variable s n) q h = refl
-no_arguments o (apply o' k) q h =
-    ap (λ b. guard b (some k)) (ne_eqb (operator_index o) (operator_index o')
-    (λ e. other_key (suc (operator_index o)) operator_keys _ h (ap (Declared.tag_of term-view.the_type) (sym q) ∙ operator_tag o' k ∙ ap suc (sym e))))
+no_arguments o (apply o' k) {x} q h = ap (λ b. guard b (some k)) (go (same_operator o o') refl)
+  where
+    go : (b : Bool) → same_operator o o' ≡ b → same_operator o o' ≡ false
+    go true e =
+        let mine : Others o' x = subst (λ (p : Operator). Others p x) (same_operator_lem o o' e) h in
+        absurd (has_its_own o' k (subst (λ (v : TermView). Others o' v) (sym q) mine))
+    go false e = e
 
 -- A TERM of the view's operator: it has arguments that give the view
 this_operator : (o : Operator) (e : Term) (x : TermView) → view_of e ≡ x → Declared.tag_of term-view.the_type x ≡ suc (operator_index o)

@@ -6,8 +6,6 @@ use mathlib.Core.Logic.{◌⊎◌, inl, inr}
 use Prim.Native.Nat.{ℕ, suc, ◌+◌, ◌*◌, ◌%◌, ◌<◌, ◌≤◌}
 use native.Mathlib.Nat.{mod-eq_of_lt, eq-or-lt_of_le, le_of_suc-le-suc}
 use native.Mathlib.Omega.{arith}
-use types.Run.{OneOf}
-use denote.Enum.Declared as Declared
 use lib.Bits.{bit_and}
 use lib.ListN.{length, get_or, set}
 use lib.Seq.{get_or-set_same, get_or-set_other}
@@ -20,9 +18,8 @@ use Rattle.tableau.specs.Meaning.{same, image, FiniteHeap, Ref, Field, Value, re
 use Rattle.tableau.proofs.WellFormed.{OkArgument, OkTerm, WellFormed}
 use Rattle.tableau.proofs.Match.{value_apply, kind_value, argument_values}
 use Rattle.packing.specs.declared.TermView.{TermView}
-use Rattle.packing.specs.Packing.{view_apply, view_of, number, term_limit}
-use Rattle.packing.proofs.ViewLaws.{not_among, operators}
-use Rattle.packing.specs.contracts.TermView as term-view
+use Rattle.packing.specs.Packing.{name_of, view_apply, view_of, number, term_limit}
+use Rattle.tableau.specs.declared.Name.{Name}
 use Rattle.table.specs.Held.{ViewAt}
 use Rattle.regions.specs.declared.HeapTables.{HeapTables}
 use Rattle.regions.specs.Masks.{IsMask, IsRow, row_length, entry, one_bit, image_mask}
@@ -116,12 +113,12 @@ module _ (table : Table) (wf : WellFormed (at table)) (H : FiniteHeap) (ρ : Val
       (argument_shown (arguments o).c k.c ok.2) (argument_shown (arguments o).d k.d ok.3) R)
 
   -- an operation, once it is computed
-  pub operation_shown : (A : HeapTables) → HoldHeap H A → (view : TermView) → ViewAt table t view → OneOf operators (Declared.tag_of term-view.the_type view)
+  pub operation_shown : (A : HeapTables) → HoldHeap H A → (view : TermView) → ViewAt table t view → ((s : Sort) (n : Name) → view ≡ TermView.Variable s n → ⊥)
       → t ≤ max_terms → length numbers ≡ term_limit → length rows ≡ rows_length → Computed A view numbers rows numbers' rows' t → ShownBelow H ρ table numbers' rows' (suc t)
   operation_shown A G view w o few p q C = go (at table t) refl
     where
       go : (e : Term) → at table t ≡ e → ShownBelow H ρ table numbers' rows' (suc t)
-      go (variable s n) e = absurd (not_among operators 0 _ refl o (sym (ap (Declared.tag_of term-view.the_type) (ap view_of (sym e) ∙ w.is))))
+      go (variable s n) e = absurd (o s (name_of n) (sym (ap view_of (sym e) ∙ w.is)))
       go (apply x k) e =
           let same : view_apply x k ≡ view = ap view_of (sym e) ∙ w.is in
           let own : number_at numbers' t ≡ operation_number A (view_apply x k) numbers rows =

@@ -3,9 +3,7 @@ use mathlib.Core.Path.{◌≡◌, refl, sym, ◌∙◌, ap, subst}
 use mathlib.Core.List.{List, [], ◌∷◌}
 use Prim.Native.Nat.{ℕ, ◌%◌, ◌<◌, ◌≤◌}
 use native.Mathlib.Omega.{arith}
-use types.Run.{OneOf}
 use lib.ListN.{set}
-use denote.Enum.Declared as Declared
 use Rattle.tableau.specs.declared.TermNumber.{TermNumber}
 use Rattle.tableau.specs.declared.Operator.{Operator}
 use Rattle.tableau.specs.Basics.{Four}
@@ -14,8 +12,6 @@ use Rattle.tableau.specs.Terms.{TermNo, Table, Term, variable, apply, at}
 use Rattle.tableau.proofs.WellFormed.{OkTerm, WellFormed}
 use Rattle.packing.specs.declared.TermView.{TermView}
 use Rattle.packing.specs.Packing.{view_apply, view_of}
-use Rattle.packing.proofs.ViewLaws.{not_among}
-use Rattle.packing.specs.contracts.TermView as term-view
 use Rattle.table.specs.Held.{ViewAt}
 use Rattle.regions.specs.Masks.{place}
 use Rattle.term_values.specs.Values.{number_at, row_of, view_arguments, AllBelow, written_row, Written, RowComputed}
@@ -43,13 +39,9 @@ module _ (numbers old new : List ℕ) (t : TermNo) {view : TermView} where
           ≡ written_row (row_of old h'.0) (number_at numbers x'.0) (number_at numbers f'.0) (number_at numbers v'.0)
       same h' x' f' v' z = cc
 
-pub row_kept : (numbers rows : List ℕ) (t : TermNo) (view : TermView)
-    → OneOf (0 ∷ 1 ∷ 2 ∷ 3 ∷ 4 ∷ 5 ∷ 6 ∷ 7 ∷ 8 ∷ 9 ∷ 11 ∷ 12 ∷ []) (Declared.tag_of term-view.the_type view) → RowComputed view numbers rows rows t
-row_kept numbers rows t view o = record {
-  row = λ h x f v e. absurd (not_among (0 ∷ 1 ∷ 2 ∷ 3 ∷ 4 ∷ 5 ∷ 6 ∷ 7 ∷ 8 ∷ 9 ∷ 11 ∷ 12 ∷ []) 10 _ refl o (ap (Declared.tag_of term-view.the_type) e));
-  size = refl;
-  earlier = λ j l. refl;
-}
+pub row_kept : (numbers rows : List ℕ) (t : TermNo) (view : TermView) → ((h x f v : TermNumber) → view ≡ TermView.Wri h x f v → ⊥)
+    → RowComputed view numbers rows rows t
+row_kept numbers rows t view o = record { row = λ h x f v e. absurd (o h x f v e); size = refl; earlier = λ j l. refl }
 
 -- the arguments of a term of the table are earlier
 operation_below : (table : TermNo → Term) (t : TermNo) (o : Operator) (k : Four TermNo) → OkTerm table t (apply o k) → AllBelow t (view_arguments (view_apply o k))

@@ -1,8 +1,0 @@
-use native.Mathlib.Omega.{arith}
-use Rattle.rules.proofs.Laws.{splits}
-use Rattle.rules.proofs.outcome.splits_two_two.Statement.{statement}
-use Rattle.rules.proofs.outcome.splits_two_two.Tie as tie
-
-pub splits_two_two_spec : {M : Type 1} → statement M
-splits_two_two_spec =
-    tie.close (tie.spec (λ c κs. c.requires.0) (λ c κs. c.before.requires.1) (λ c. splits (omega arith) (omega arith) c.before.two.ensures c.two2.ensures))

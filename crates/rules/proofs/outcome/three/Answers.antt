@@ -1,0 +1,25 @@
+use mathlib.Core.Path.{◌∙◌, ap}
+use mathlib.Core.List.{[], ◌∷◌, map}
+use Rattle.packing.specs.Packing.{unpack_literal}
+use Rattle.rules.proofs.Laws.{packed_back}
+use borrow.Author.Rules.{rules}
+use Rattle.rules.proofs.outcome.three.Goals as goal
+
+pub returns : goal.returns
+returns c =
+    let s = c.requires in
+    record {
+      at_most = c.three.ensures.0;
+      is = ap (map unpack_literal) c.three.ensures.1
+          ∙ (λ i. packed_back _ s.0 c.pack.ensures.0 i ∷ packed_back _ s.1 c.pack-2.ensures.0 i
+          ∷ packed_back _ s.2 c.pack-3.ensures.0 i ∷ []);
+    }
+
+pub pack-requires : goal.pack-requires
+pack-requires c = c.requires.0
+
+pub pack-requires-2 : goal.pack-requires-2
+pack-requires-2 c = c.requires.1
+
+pub pack-requires-3 : goal.pack-requires-3
+pack-requires-3 c = c.requires.2

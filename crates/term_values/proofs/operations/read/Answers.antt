@@ -1,0 +1,13 @@
+use mathlib.Core.Path.{sym, ◌∙◌, ap}
+use Prim.Native.Nat.{ℕ, ◌+◌, ◌*◌}
+use lib.ListN.{get_or}
+use borrow.Author.Rules.{rules}
+use Rattle.term_values.specs.Values.{row_of}
+use Rattle.term_values.proofs.RowLaws.{row_entry}
+use Rattle.term_values.proofs.operations.read.Goals as goal
+
+pub returns : goal.returns
+returns c =
+    let a = c.args in
+    c.wide.ensures ∙ sym (row_entry a.rows.now a.heap.0 c.place.result c.place.ensures.1)
+    ∙ ap (λ (n : ℕ). get_or (row_of a.rows.now a.heap.0) n 0) c.place.ensures.0
