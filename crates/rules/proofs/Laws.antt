@@ -42,12 +42,12 @@ pub by_test : {A : Type 0} (b : Bool) → (b ≡ true → A) → (b ≡ false �
 by_test true f g = f refl
 by_test false f g = g refl
 
--- a negated test of what a function answers
-pub test_fails : {r b : Bool} → r ≡ b → not r ≡ true → b ≡ false
-test_fails {r} e h = sym e ∙ not-true r h
+-- a test of what a function answers
+pub test_fails : {r b : Bool} → r ≡ b → r ≡ false → b ≡ false
+test_fails e h = sym e ∙ h
 
-pub test_holds : {r b : Bool} → r ≡ b → not r ≡ false → b ≡ true
-test_holds {r} e h = sym e ∙ not-false r h
+pub test_holds : {r b : Bool} → r ≡ b → r ≡ true → b ≡ true
+test_holds e h = sym e ∙ h
 
 -- A LITERAL, by its parts
 pub by_sides : (p : LiteralView) → literal_of p ≡ literal (relation_of p) (left_of p) (right_of p)

@@ -6,6 +6,7 @@ use mathlib.Core.List.{[], ◌∷◌}
 use mathlib.Core.Option.{Option, none, some}
 use Prim.Native.Nat.{ℕ}
 use lib.Dec.{eqb}
+use borrow.Author.Tests.{eq-eqb, ne_eqb}
 use Rattle.tableau.specs.declared.Freshness.{Freshness}
 use Rattle.tableau.specs.declared.Operator.{Operator}
 use Rattle.tableau.specs.declared.Reason.{Reason}
@@ -34,11 +35,11 @@ two_guards false b k = refl
 -- p is m eq n, and b whether they are regions; the row carries a member of the one with letter k to the one with letter l
 module _ {A : Table → Type 0} {x : Rule} {k l : ℕ} {p : LiteralView} {m n : TermNumber} {b : Bool} (i : rule x ≡ rows (carrying k l))
     (e : p ≡ LiteralView.Eq m n) (f : (table : Table) → A table → b ≡ are_regions table m.0 n.0) where
-  pub no_regions : {Q : Option Literal} → not b ≡ true → Concludes A x (some (literal_of p)) Q 0 0 (Outcome.Refused Reason.NeedNotMet)
+  pub no_regions : {Q : Option Literal} → b ≡ false → Concludes A x (some (literal_of p)) Q 0 0 (Outcome.Refused Reason.NeedNotMet)
   unfolding computing
   no_regions g = record { room = tt; answers = λ table h fresh. rw (i, e, two_guards _ _ _, test_fails (f table h) g) }
 
-  pub moves : {c d : TermNo} {r : Outcome} (q : LiteralView) → not b ≡ false → ((u : TermNumber) → letters_of m n u k ≡ some c)
+  pub moves : {c d : TermNo} {r : Outcome} (q : LiteralView) → b ≡ true → ((u : TermNumber) → letters_of m n u k ≡ some c)
       → ((u : TermNumber) → letters_of m n u l ≡ some d) → Moves c d q r → Concludes A x (some (literal_of p)) (some (literal_of q)) 0 0 r
   unfolding computing
   moves {c = c} q g from to w = record {
@@ -67,13 +68,25 @@ unequal {b = b} {fresh} e f room a = record {
 }
 
 -- v is what the code computes for a test b and a test w
-pub and_came : {T E : Type 0} {v w b : Bool} → (T × (v ≡ w)) ⊎ (E × (v ≡ b)) → (T → b ≡ true) → (E → b ≡ false) → v ≡ (b && w)
-and_came (inl (t, e)) f g = rw (f t) e
-and_came (inr (t, e)) f g = rw (g t) (e ∙ g t)
+pub and_holds : {v w b : Bool} → v ≡ w → b ≡ true → v ≡ (b && w)
+and_holds e f = rw f e
 
-pub or_came : {T E : Type 0} {v w b : Bool} → (T × (v ≡ b)) ⊎ (E × (v ≡ w)) → (T → b ≡ true) → (E → b ≡ false) → v ≡ (b || w)
-or_came (inl (t, e)) f g = rw (f t) (e ∙ f t)
-or_came (inr (t, e)) f g = rw (g t) e
+pub and_fails : {v b : Bool} (w : Bool) → v ≡ b → b ≡ false → v ≡ (b && w)
+and_fails w e f = rw f (e ∙ f)
+
+-- both of two equalities, or not both
+pub both_equal : {a b c d : ℕ} → (a ≡ b) × (c ≡ d) → (eqb a b && eqb c d) ≡ true
+both_equal {a} {b} {c} {d} e = rw (eq-eqb a b e.0, eq-eqb c d e.1)
+
+pub not_both_equal : {a b c d : ℕ} → ((a ≡ b) × (c ≡ d → ⊥)) ⊎ (a ≡ b → ⊥) → (eqb a b && eqb c d) ≡ false
+not_both_equal {a} {b} {c} {d} (inl e) = rw (eq-eqb a b e.0, ne_eqb c d e.1)
+not_both_equal {a} {b} {c} {d} (inr e) = rw (ne_eqb a b e)
+
+pub or_holds : {v b : Bool} (w : Bool) → v ≡ b → b ≡ true → v ≡ (b || w)
+or_holds w e f = rw f (e ∙ f)
+
+pub or_fails : {v w b : Bool} → v ≡ w → b ≡ false → v ≡ (b || w)
+or_fails e f = rw f e
 
 -- m in k, n in or outside l, and t has the operator and a, b: m in t where m is n, k is a, and l is b
 pub joins : {A : Table → Type 0} {x : Rule} {R : Relation} {o : Operator} {P Q : Literal} {m k n l t : ℕ} {a b : TermNumber} {v y : TermView} {c d : Bool}

@@ -1,0 +1,27 @@
+use Rattle.tableau.specs.declared.Relation.{Relation}
+use Rattle.packing.specs.declared.LiteralView.{LiteralView}
+use Rattle.rules.proofs.Laws.{by_sides, computing, is_not}
+use Rattle.equality_rules.proofs.Denials.{on_sides}
+use Rattle.equality_rules.proofs.closing.cls_equal.Goals as goal
+
+-- p is a eq b, and q no denial
+pub returns-in_default-q : goal.returns-in_default-q
+unfolding computing
+returns-in_default-q c =
+    let q = c.args.q in
+    record { room = tt; answers = λ table h fresh. rw (c.in-Eq.is, by_sides q, is_not Relation.Ne q c.in_default-q.not-Ne) }
+
+-- p is a eq b, and q its denial, on the same terms or not
+pub returns : goal.returns
+unfolding computing
+returns c =
+    on_sides LiteralView.Eq LiteralView.Ne c.in-Eq.is c.in-Ne.is c.closes.ensures
+    (λ l table fresh. rw l) (λ l m table fresh. rw (l, m)) (λ l m table fresh. rw (l, m))
+
+pub cls_ordered-requires : goal.cls_ordered-requires
+unfolding computing
+cls_ordered-requires c = (c.requires, is_not Relation.Eq c.args.p c.in_default.not-Eq)
+
+pub returns-in_default : goal.returns-in_default
+unfolding computing
+returns-in_default c = c.cls_ordered.ensures

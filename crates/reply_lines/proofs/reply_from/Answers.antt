@@ -1,0 +1,6 @@
+-- There are seven numbers.
+use borrow.Author.Rules.{rules}
+use Rattle.reply_lines.proofs.reply_from.Goals as goal
+
+pub returns : goal.returns
+returns c = rw c.requires
