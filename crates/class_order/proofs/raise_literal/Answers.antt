@@ -8,7 +8,7 @@ use Rattle.packing.proofs.PackingLaws.{literal_read_lem, literal_view_small}
 use Rattle.packing.proofs.ViewLaws.{is_not}
 use Rattle.class_order.proofs.RowLaws.{literal_skipped, literal_raised}
 use Rattle.class_order.proofs.raise_literal.Goals as goal
-use Rattle.class_order.proofs.raise_literal.Goals.{In-Le-2}
+use Rattle.class_order.proofs.raise_literal.Goals.{In-Le}
 
 -- the literal is no le
 pub returns-in_default : goal.returns-in_default
@@ -18,7 +18,7 @@ returns-in_default c =
     literal_skipped _ _ p _ c.requires.1 (literal_read_lem _ p c.view.ensures) (is_not Relation.Le p c.in_default.not-Le)
 
 -- its sides are small
-small : (c : goal.In-Le-2) → Small c.in-Le.a.0 × Small c.in-Le.b.0
+small : (c : goal.In-Le) → Small c.in-Le.a.0 × Small c.in-Le.b.0
 small c = subst SmallLiteral c.in-Le.is (literal_view_small _ _ c.view.ensures)
 
 pub raise-requires : goal.raise-requires
@@ -30,13 +30,13 @@ returns c =
     (rw (c.wide.ensures, c.wide-2.ensures) at c.raise.ensures)
 
 pub offset_bounds-blocks-left : goal.offset_bounds-blocks-left
-offset_bounds-blocks-left c = omega (arith, (small (goal.at.offset_bounds-blocks-left c).In-Le-2).0)
+offset_bounds-blocks-left c = omega (arith, (small (goal.at.offset_bounds-blocks-left c).In-Le).0)
 
 pub bounds-blocks-left : goal.bounds-blocks-left
-bounds-blocks-left c = omega (arith, (small (goal.at.bounds-blocks-left c).In-Le-2).0)
+bounds-blocks-left c = omega (arith, (small (goal.at.bounds-blocks-left c).In-Le).0)
 
 pub offset_bounds-blocks-right : goal.offset_bounds-blocks-right
-offset_bounds-blocks-right c = omega (arith, (small (goal.at.offset_bounds-blocks-right c).In-Le-2).1)
+offset_bounds-blocks-right c = omega (arith, (small (goal.at.offset_bounds-blocks-right c).In-Le).1)
 
 pub bounds-blocks-right : goal.bounds-blocks-right
-bounds-blocks-right c = omega (arith, (small (goal.at.bounds-blocks-right c).In-Le-2).1)
+bounds-blocks-right c = omega (arith, (small (goal.at.bounds-blocks-right c).In-Le).1)

@@ -9,15 +9,15 @@ use Rattle.table.specs.Held.{Entries, SmallFound}
 use Rattle.rules.proofs.Laws.{Arguments2, Arguments3, computing, found_at, found_nothing, is_cup, is_img, is_not, no_arguments, view_small}
 use Rattle.rules.proofs.Rows.{other_p}
 use Rattle.heap_rules.proofs.images.fin.Goals as goal
-use Rattle.heap_rules.proofs.images.fin.Goals.{In-Cup-2, In-Img-2}
+use Rattle.heap_rules.proofs.images.fin.Goals.{In-Cup, In-Img}
 
 -- the left side is cup(r,i)
-is_union : (u : goal.In-Cup-2) (table : Table) → Entries table u.args.terms.now
+is_union : (u : goal.In-Cup) (table : Table) → Entries table u.args.terms.now
     → Arguments2 Operator.Cup (at table u.in-Eq.union.0) u.in-Cup.r u.in-Cup.i
 is_union u table e = is_cup (at table _) _ _ ((u.view.ensures table e).is ∙ u.in-Cup.is)
 
 -- i is img(h,s,f)
-is_image : (i : goal.In-Img-2) (table : Table) → Entries table i.args.terms.now
+is_image : (i : goal.In-Img) (table : Table) → Entries table i.args.terms.now
     → Arguments3 Operator.Img (at table i.in-Cup.i.0) i.in-Img.field-0 i.in-Img.s i.in-Img.field-2
 is_image i table e = is_img (at table _) _ _ _ ((i.view-2.ensures table e).is ∙ i.in-Img.is)
 
@@ -38,17 +38,17 @@ returns-then-i-image c =
     record {
       room = tt;
       answers = λ table h fresh.
-          rw (c.in-Eq.is, (is_union (goal.at.returns-then-i-image c).In-Cup-2 table h.entries).2, ne_eqb _ _ c.if-i-image.true);
+          rw (c.in-Eq.is, (is_union (goal.at.returns-then-i-image c).In-Cup table h.entries).2, ne_eqb _ _ c.if-i-image.true);
     }
 
 -- r and i are small
-arguments_small : (u : goal.In-Cup-2) → Small u.in-Cup.r.0 × Small u.in-Cup.i.0
+arguments_small : (u : goal.In-Cup) → Small u.in-Cup.r.0 × Small u.in-Cup.i.0
 arguments_small u = view_small u.requires.searchable_by (λ table h. u.view.ensures table h.entries) u.in-Cup.is
 
 pub view-requires-2 : goal.view-requires-2
 view-requires-2 c =
     let s = c.requires.searchable_by in
-    record { entries = (s.0, s.1.entries); small = (arguments_small (goal.at.view-requires-2 c).In-Cup-2).1 }
+    record { entries = (s.0, s.1.entries); small = (arguments_small (goal.at.view-requires-2 c).In-Cup).1 }
 
 -- i is not img(h,s,f)
 pub returns-in_default-view-2 : goal.returns-in_default-view-2
@@ -57,7 +57,7 @@ returns-in_default-view-2 c =
     record {
       room = tt;
       answers = λ table h fresh.
-          rw (c.in-Eq.is, (is_union (goal.at.returns-in_default-view-2 c).In-Cup-2 table h.entries).2, eq-eqb _ _ c.if-i-image.false, no_arguments Operator.Img (at table _) (c.view-2.ensures table h.entries).is c.in_default-view-2.not-Img);
+          rw (c.in-Eq.is, (is_union (goal.at.returns-in_default-view-2 c).In-Cup table h.entries).2, eq-eqb _ _ c.if-i-image.false, no_arguments Operator.Img (at table _) (c.view-2.ensures table h.entries).is c.in_default-view-2.not-Img);
     }
 
 -- the regions differ
@@ -67,12 +67,12 @@ returns-then-s-r c =
     record {
       room = tt;
       answers = λ table h fresh.
-          rw (c.in-Eq.is, (is_union (goal.at.returns-then-s-r c).In-Cup-2 table h.entries).2, eq-eqb _ _ c.if-i-image.false, (is_image (goal.at.returns-then-s-r c).In-Img-2 table h.entries).1, ne_eqb _ _ (λ q. c.if-s-r.true (sym q)));
+          rw (c.in-Eq.is, (is_union (goal.at.returns-then-s-r c).In-Cup table h.entries).2, eq-eqb _ _ c.if-i-image.false, (is_image (goal.at.returns-then-s-r c).In-Img table h.entries).1, ne_eqb _ _ (λ q. c.if-s-r.true (sym q)));
     }
 
 pub on_three-requires : goal.on_three-requires
 on_three-requires c =
-    let a = arguments_small (goal.at.on_three-requires c).In-Cup-2 in
+    let a = arguments_small (goal.at.on_three-requires c).In-Cup in
     record { searchable_by = c.requires.searchable_by; small = (a.1, a.0, omega arith) }
 
 -- cup(i,r) is no term
@@ -82,11 +82,11 @@ returns-in_default-on_three c =
     record {
       room = tt;
       answers = λ table h fresh.
-          rw (c.in-Eq.is, (is_union (goal.at.returns-in_default-on_three c).In-Cup-2 table h.entries).2, eq-eqb _ _ c.if-i-image.false, (is_image (goal.at.returns-in_default-on_three c).In-Img-2 table h.entries).1, eq-eqb _ _ (sym c.if-s-r.false), found_nothing (c.on_three.ensures.found table h) c.in_default-on_three.is);
+          rw (c.in-Eq.is, (is_union (goal.at.returns-in_default-on_three c).In-Cup table h.entries).2, eq-eqb _ _ c.if-i-image.false, (is_image (goal.at.returns-in_default-on_three c).In-Img table h.entries).1, eq-eqb _ _ (sym c.if-s-r.false), found_nothing (c.on_three.ensures.found table h) c.in_default-on_three.is);
     }
 
 pub adds_one-requires : goal.adds_one-requires
-adds_one-requires c = rw c.literal.ensures (subst SmallFound c.in-At.is c.on_three.ensures.small, (arguments_small (goal.at.adds_one-requires c).In-Cup-2).0)
+adds_one-requires c = rw c.literal.ensures (subst SmallFound c.in-At.is c.on_three.ensures.small, (arguments_small (goal.at.adds_one-requires c).In-Cup).0)
 
 -- cup(i,r) eq r
 pub returns : goal.returns
@@ -96,7 +96,7 @@ returns c =
     record {
       room = b.room;
       answers = λ table h fresh.
-          rw (c.in-Eq.is, (is_union (goal.at.returns c).In-Cup-2 table h.entries).2, eq-eqb _ _ c.if-i-image.false, (is_image (goal.at.returns c).In-Img-2 table h.entries).1, eq-eqb _ _ (sym c.if-s-r.false), found_at (c.on_three.ensures.found table h) c.in-At.is) (sym b.adds);
+          rw (c.in-Eq.is, (is_union (goal.at.returns c).In-Cup table h.entries).2, eq-eqb _ _ c.if-i-image.false, (is_image (goal.at.returns c).In-Img table h.entries).1, eq-eqb _ _ (sym c.if-s-r.false), found_at (c.on_three.ensures.found table h) c.in-At.is) (sym b.adds);
     }
 
 -- p is no eq
