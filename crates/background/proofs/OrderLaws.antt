@@ -6,8 +6,6 @@ use mathlib.Core.Option.{some}
 use Prim.Native.Nat.{ℕ, ◌+◌, ◌<◌, ◌≤◌}
 use native.Mathlib.Omega.{arith}
 use lib.ListN.{get_or}
-use types.Run.{OneOf}
-use denote.Enum.Declared as Declared
 use Rattle.tableau.specs.declared.Relation.{Relation}
 use Rattle.tableau.specs.Terms.{TermNo, Literal, literal}
 use Rattle.tableau.specs.Background as background
@@ -15,8 +13,7 @@ use Rattle.tableau.specs.Background.{On, Follows}
 use Rattle.tableau.proofs.Bools.{clash}
 use Rattle.packing.specs.declared.LiteralView.{LiteralView}
 use Rattle.packing.specs.Packing.{unpack_literal, Small, IsNot, literal_of}
-use Rattle.packing.specs.contracts.LiteralView as literal-view
-use Rattle.packing.proofs.ViewLaws.{not_among}
+use Rattle.packing.proofs.ViewLaws.{Misses}
 use Rattle.tree.specs.State.{IsBranch, branch_of}
 use Rattle.tree.proofs.BranchLaws.{on_branch_lem, each_on}
 use Rattle.partition.specs.Blocks.{block_of, IsPartition, Fewer, Coarsened, Joined}
@@ -92,14 +89,14 @@ pub part_all : (rows old new xs : List ℕ) (n i : ℕ) (r : Bool) → n ≤ i �
 part_all rows old new xs n i r h P = record { change = P.change; mutual_if = all_mutual r rows new xs n i h P.mutual_if }
 
 -- a literal that is neither ne nor nl denies nothing
-pub denied_other : (blocks rows : List ℕ) (p : LiteralView) → OneOf (0 ∷ 1 ∷ 2 ∷ 4 ∷ []) (Declared.tag_of literal-view.the_type p) → denies blocks rows (literal_of p) ≡ false
+pub denied_other : (blocks rows : List ℕ) (p : LiteralView) → Misses Relation.Ne p × Misses Relation.Nl p → denies blocks rows (literal_of p) ≡ false
 unfolding denies
 denied_other blocks rows (LiteralView.In m n) h = refl
 denied_other blocks rows (LiteralView.Ni m n) h = refl
 denied_other blocks rows (LiteralView.Eq m n) h = refl
 denied_other blocks rows (LiteralView.Le m n) h = refl
-denied_other blocks rows (LiteralView.Ne m n) h = absurd (not_among (0 ∷ 1 ∷ 2 ∷ 4 ∷ []) 3 3 refl h refl)
-denied_other blocks rows (LiteralView.Nl m n) h = absurd (not_among (0 ∷ 1 ∷ 2 ∷ 4 ∷ []) 5 5 refl h refl)
+denied_other blocks rows (LiteralView.Ne m n) h = absurd (h.0 m n refl)
+denied_other blocks rows (LiteralView.Nl m n) h = absurd (h.1 m n refl)
 
 -- DENIALS: where none of the first i literals denies, none of the branch does
 pub record DeniedPart (blocks rows xs : List ℕ) (n i : ℕ) : Type 0 where

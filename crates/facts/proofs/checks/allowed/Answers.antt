@@ -9,7 +9,6 @@ use Rattle.evaluation.specs.Facts.{fact_fields, subject_of, allowed}
 use Rattle.facts.specs.Keys.{has_key}
 use Rattle.facts.proofs.WordChecks.{held_said, allocated_key}
 use Rattle.facts.proofs.checks.allowed.Goals as goal
-use Rattle.facts.proofs.checks.allowed.Goals.{After-has}
 
 pub returns-in-Rgv : goal.returns-in-Rgv
 unfolding allowed fact_fields subject_of
@@ -18,7 +17,7 @@ returns-in-Rgv c facts values H =
     let x = a.f.b in
     rw c.in-Rgv.is
     (c.has.ensures ∙ ap (has_key (take a.count a.keys.now)) (c.pack_key.ensures ∙ allocated_key x)
-    ∙ held_said H FactWord.Alc (four x 0 0 0) (record { b = omega arith; (goal.at.returns-in-Rgv c).After-has = omega arith; d = omega arith }))
+    ∙ held_said H FactWord.Alc (four x 0 0 0) (record { b = omega arith; c = omega arith; d = omega arith }))
 
 pub pack_key-requires : goal.pack_key-requires
 unfolding allowed

@@ -1,0 +1,12 @@
+-- The invariant: the le literals before i whose sides are under each other have them in one block, where nothing has changed.
+use Prim.Native.Nat.{◌-◌}
+use native.Mathlib.Omega.{arith}
+use borrow.Author.Rules.{rules}
+use Rattle.background.proofs.OrderLaws.{Part, part_none, part_more, part_all}
+use Rattle.background.proofs.order.antisymmetry.Given as goal
+
+abbrev pub invariant-loop-i : goal.invariant-loop-i
+invariant-loop-i l = Part l.rows l.initial.blocks l.blocks l.branch l.len l.i l.changed
+
+abbrev pub decreases-loop-i : goal.decreases-loop-i
+decreases-loop-i l = l.len - l.i

@@ -1,0 +1,34 @@
+-- Check 9 speaks of t and w; a rule whose t is no term asks for no sort.
+use mathlib.Core.Path.{sym, ◌∙◌, subst}
+use Prim.Native.Nat.{◌≤◌}
+use native.Mathlib.Omega.{arith}
+use Rattle.tableau.specs.Fields.{rule_fields}
+use Rattle.syntax.specs.Syntax.{kind_of, step_fields, third_in, ThirdFits}
+use Rattle.syntax.specs.declared.ThirdField as declared
+use Rattle.conclusions.specs.Infers.{ThirdGiven}
+use Rattle.steps.proofs.CheckLaws.{no_term_lem, nine, step_given, third_small, fourth_small, unsorted_unless_term}
+use borrow.Author.Rules.{rules}
+use Rattle.steps.proofs.checks.sorts_fit.Goals as goal
+
+pub returns-in_default : goal.returns-in_default
+unfolding rule_fields
+returns-in_default c =
+    λ table E.
+    let x = c.args.step.rule in
+    let l : 1 ≤ kind_of (rule_fields x).t = omega (arith, c.requires.well_taken.third, no_term_lem c.args.step.t c.in_default.not-Term) in
+    sym (nine table x (step_fields c.args.step) ∙ unsorted_unless_term table x _ _ l)
+
+pub has_sorts-requires : goal.has_sorts-requires
+has_sorts-requires c =
+    let x = c.args.step.rule in
+    let p = c.requires.entries in
+    let g = step_given p.0 p.1.few c.args.step c.requires.well_taken p.2 in
+    let e = c.in-Term.is in
+    let t = third_small (rule_fields x).t _ (subst (ThirdFits (rule_fields x).t) e c.requires.well_taken.third)
+    (subst (λ (k : declared.ThirdField). ThirdGiven (rule_fields x).t (third_in k)) e g.third) in
+    record { entries = (p.0, p.1); small = (t, fourth_small (rule_fields x).w _ g.fourth) }
+
+pub returns : goal.returns
+returns c =
+    λ table E.
+    sym (nine table c.args.step.rule (step_fields c.args.step) ∙ rw c.in-Term.is (sym (c.has_sorts.ensures table E)))
