@@ -34,10 +34,6 @@ not-false : (b : Bool) → not b ≡ false → b ≡ true
 not-false true e = refl
 not-false false e = sym e
 
-not-true : (b : Bool) → not b ≡ true → b ≡ false
-not-true true e = sym e
-not-true false e = refl
-
 pub low_mask : (n : ℕ) → n ≤ 16 → 1 * 2 ^ n % 2 ^ 64 ≡ 2 ^ n
 low_mask n l = shl_exact {a = 1} 1 n 64 (omega arith) (omega arith) ∙ (let e : 1 * 2 ^ n ≡ 2 ^ n = omega arith in e)
 
@@ -65,23 +61,23 @@ module _ (under : List ℕ) (n b c : ℕ) where
   abbrev rest : Bool
   rest = implies (is_below under n c b) (eqb b c) and each n (λ d. implies (is_below under n c d.0) (is_below under n b d.0))
 
-  pub keeps_none : (t : Bool) → t ≡ is_below under n b c → not t ≡ true → true ≡ keeps_order under n b c
+  pub keeps_none : (t : Bool) → t ≡ is_below under n b c → t ≡ false → true ≡ keeps_order under n b c
   unfolding keeps_order implies
-  keeps_none t e s = sym (ap (λ (u : Bool). implies u rest) (sym e ∙ not-true t s))
+  keeps_none t e s = sym (ap (λ (u : Bool). implies u rest) (sym e ∙ s))
 
-  pub keeps_equal : (t u : Bool) → t ≡ is_below under n b c → not t ≡ false → u ≡ is_below under n c b → u ≡ true → eqb b c ≡ keeps_order under n b c
+  pub keeps_equal : (t u : Bool) → t ≡ is_below under n b c → t ≡ true → u ≡ is_below under n c b → u ≡ true → eqb b c ≡ keeps_order under n b c
   unfolding keeps_order implies ◌and◌
   keeps_equal p q e s f r = bool_iff (eqb b c) (keeps_order under n b c)
       (λ t. implies_in (is_below under n b c) rest (λ h. and_i (implies_in (is_below under n c b) (eqb b c) (λ k. t))
       (each_in n _ (λ d. implies_in (is_below under n c d.0) _ (λ k. ap (λ (x : ℕ). is_below under n x d.0) (eqb-true b c t) ∙ k)))))
-      (λ t. implied (is_below under n c b) (eqb b c) (and_left _ _ (implied (is_below under n b c) rest t (sym e ∙ not-false p s))) (sym f ∙ r))
+      (λ t. implied (is_below under n c b) (eqb b c) (and_left _ _ (implied (is_below under n b c) rest t (sym e ∙ s))) (sym f ∙ r))
 
-  pub keeps_within : (t u : Bool) (w : ℕ) → n ≤ 16 → t ≡ is_below under n b c → not t ≡ false → u ≡ is_below under n c b → u ≡ false
+  pub keeps_within : (t u : Bool) (w : ℕ) → n ≤ 16 → t ≡ is_below under n b c → t ≡ true → u ≡ is_below under n c b → u ≡ false
       → w ≡ bit_xor (get_or under c 0) (bit_and (get_or under c 0) (get_or under b 0)) → eqb (bit_and w (1 * 2 ^ n % 2 ^ 64 - 1)) 0 ≡ keeps_order under n b c
   unfolding keeps_order implies ◌and◌
   keeps_within t u w l e s f r d =
       ap (λ (k : ℕ). eqb (bit_and k (1 * 2 ^ n % 2 ^ 64 - 1)) 0) d ∙ within_test n (get_or under c 0) (get_or under b 0) l
-      ∙ sym (ap (λ (p : Bool). implies p rest) (sym e ∙ not-false t s)
+      ∙ sym (ap (λ (p : Bool). implies p rest) (sym e ∙ s)
       ∙ ap (λ (p : Bool). implies p (eqb b c) and each n (λ x. implies (is_below under n c x.0) (is_below under n b x.0))) (sym f ∙ r))
 
 -- LOOPS over the classes: a test that holds below i
@@ -91,17 +87,17 @@ pub record HoldsBelow (test : ℕ → Bool) (i : ℕ) : Type 0 where
 pub holds_start : (test : ℕ → Bool) → HoldsBelow test 0
 holds_start test = record { below = λ k l. absurd (omega arith) }
 
-pub holds_more : (test : ℕ → Bool) (i : ℕ) (t : Bool) → HoldsBelow test i → t ≡ test i → not t ≡ false → HoldsBelow test (i + 1)
+pub holds_more : (test : ℕ → Bool) (i : ℕ) (t : Bool) → HoldsBelow test i → t ≡ test i → t ≡ true → HoldsBelow test (i + 1)
 holds_more test i t H e s = record { below = λ k l. at k (eq-or-lt_of_le (let z : k ≤ i = omega arith in z)) }
   where
     at : (k : ℕ) → (k ≡ i) ⊎ (k < i) → test k ≡ true
-    at k (inl z) = ap test z ∙ sym e ∙ not-false t s
+    at k (inl z) = ap test z ∙ sym e ∙ s
     at k (inr m) = H.below k m
 
 module _ (under : List ℕ) (n b : ℕ) where
-  pub from_false : (c : ℕ) (t : Bool) → c < n → t ≡ keeps_order under n b c → not t ≡ true → false ≡ keeps_order_from under n b
+  pub from_false : (c : ℕ) (t : Bool) → c < n → t ≡ keeps_order under n b c → t ≡ false → false ≡ keeps_order_from under n b
   unfolding keeps_order_from
-  from_false c t l e s = sym (each_false n (λ d. keeps_order under n b d.0) (c, l) (sym e ∙ not-true t s))
+  from_false c t l e s = sym (each_false n (λ d. keeps_order under n b d.0) (c, l) (sym e ∙ s))
 
   pub from_true : (c : ℕ) → HoldsBelow (keeps_order under n b) c → n ≤ c → true ≡ keeps_order_from under n b
   unfolding keeps_order_from
@@ -120,9 +116,9 @@ module _ (under : List ℕ) (n b : ℕ) where
           → implies (relation under n c b) (eqb b.0 c.0) and each n (λ d. implies (relation under n c d) (relation under n b d)) ≡ true
       at b c p = implied (relation under n b c) _ (each_out n (λ d. keeps_order under n b.0 d.0) (H.below b.0 (omega (arith, b.1))) c) p
 
-  pub order_false : (t : Bool) → b < n → t ≡ keeps_order_from under n b → not t ≡ true → false ≡ is_order_below under n
+  pub order_false : (t : Bool) → b < n → t ≡ keeps_order_from under n b → t ≡ false → false ≡ is_order_below under n
   unfolding keeps_order keeps_order_from is_order_below is_transitive is_antisymmetric
-  order_false u l e s = elim (dec (is_order_below under n)) [ inl t ↦ clash (holds t) (sym e ∙ not-true u s) | inr t ↦ sym t ]
+  order_false u l e s = elim (dec (is_order_below under n)) [ inl t ↦ clash (holds t) (sym e ∙ s) | inr t ↦ sym t ]
     where
       x : Below n
       x = (b, l)

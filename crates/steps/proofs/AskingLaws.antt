@@ -5,7 +5,6 @@ use mathlib.Core.List.{List, [], ◌∷◌}
 use mathlib.Core.Option.{Option, none, some}
 use Prim.Native.Nat.{ℕ}
 use lib.Dec.{eqb}
-use types.Run.{OneOf}
 use borrow.Author.Tests.{not-true}
 use Rattle.tableau.specs.declared.Freshness.{Freshness}
 use Rattle.tableau.specs.declared.Reason.{Reason}
@@ -19,7 +18,7 @@ use Rattle.tableau.specs.Steps.{Letters, Conclusion, adds_one, congruent, given,
 use Rattle.tableau.specs.Saturation.{contradicted}
 use Rattle.tableau.specs.Tree.{Checked, ◌>>=◌, ◌>>◌, require_some, require_fresh, answer}
 use Rattle.tableau.proofs.Bools.{both_false}
-use Rattle.tableau.proofs.Places.{rules, place_of, places_but, other_rule}
+use Rattle.tableau.proofs.Places.{rules, NoneOf, other_rule}
 use Rattle.syntax.specs.declared.Step.{Step}
 use Rattle.conclusions.specs.Infers.{background_kind, is_background}
 use Rattle.conclusions.proofs.Laws.{same_whatever}
@@ -112,10 +111,10 @@ module _ (table : Table) (C : Clauses) (B : List Literal) (s : Step) (f : Freshn
       ∙ ap (λ (v : Freshness). answer table v P Q D (contradicted table B) t s.w.0 s.rule) e
 
 -- THE RULES THAT ASK are `ext`, `wit` and `bck`
-pub others_unasked : (x : Rule) → OneOf (places_but (Rule.Ext ∷ Rule.Wit ∷ Rule.Bck ∷ [])) (place_of x) → asks_branch x ≡ false
+pub others_unasked : (x : Rule) → NoneOf x (Rule.Ext ∷ Rule.Wit ∷ Rule.Bck ∷ []) → asks_branch x ≡ false
 unfolding rules rule_names rule any_fresh
-others_unasked x o = not-true _ (other_rule (λ y. not (asks_branch y)) (Rule.Ext ∷ Rule.Wit ∷ Rule.Bck ∷ []) refl refl x o)
+others_unasked x o = not-true _ (other_rule (λ y. not (asks_branch y)) (Rule.Ext ∷ Rule.Wit ∷ Rule.Bck ∷ []) refl x o)
 
-pub others_not_background : (x : Rule) → OneOf (places_but (Rule.Bck ∷ [])) (place_of x) → is_background x ≡ false
+pub others_not_background : (x : Rule) → NoneOf x (Rule.Bck ∷ []) → is_background x ≡ false
 unfolding rules rule_names rule
-others_not_background x o = not-true _ (other_rule (λ y. not (is_background y)) (Rule.Bck ∷ []) refl refl x o)
+others_not_background x o = not-true _ (other_rule (λ y. not (is_background y)) (Rule.Bck ∷ []) refl x o)

@@ -7,11 +7,10 @@ use native.Mathlib.Omega.{arith}
 use lib.Bits.{bit_and}
 use lib.Dec.{eqb, leb}
 use lib.ListN.{length}
-use types.Run.{OneOf}
-use denote.Enum.Declared.{tag_of}
 use borrow.Author.Tests.{eqb-true, leb-true, ne_eqb, not-true}
 use Rattle.tableau.specs.declared.Rule.{Rule}
 use Rattle.tableau.specs.declared.TermNumber.{TermNumber}
+use Rattle.tableau.specs.declared.ClauseNumber.{ClauseNumber}
 use Rattle.tableau.specs.Basics.{Four, every}
 use Rattle.tableau.specs.Words.{rule_names}
 use Rattle.tableau.specs.Fields.{Use, name, PlaceField, ThirdField, TermField, unused, place, side, clause, term, of, place_use, third_use, term_use, rule_fields, rule_uses}
@@ -19,25 +18,24 @@ use Rattle.tableau.specs.Terms.{Table, Literal, Clauses, max_terms}
 use Rattle.tableau.specs.Tree.{on_branch, is_there}
 use Rattle.tableau.specs.Reply.{zero_if_unused, is_term, term_or_name, of_sort}
 use Rattle.tableau.proofs.Bools.{both_true, every_true}
-use Rattle.tableau.proofs.Places.{rules, place_of, places_but, every_rule, other_rule, not_among}
+use Rattle.tableau.proofs.Places.{rules, NoneOf, every_rule, other_rule}
 use Rattle.syntax.specs.declared.ThirdField as declared
 use Rattle.syntax.specs.declared.Step.{Step}
-use Rattle.syntax.specs.contracts.ThirdField as third-type
 use Rattle.syntax.specs.Syntax.{kind_of, kind_in, ThirdFits, NoClause, WellTaken, third_in, step_fields}
 use Rattle.syntax.proofs.Masks.{is_used, bits_of}
 use Rattle.packing.specs.Packing.{Small}
 use Rattle.conclusions.specs.Infers.{ThirdGiven, TermGiven, Given}
 
 -- FIELD t in the arm that is left when a term, or a clause number, has its own
-pub no_term_lem : (k : declared.ThirdField) → OneOf (1 ∷ 2 ∷ []) (tag_of third-type.the_type k) → 1 ≤ kind_in k
-no_term_lem (declared.ThirdField.Term t) o = absurd (not_among (1 ∷ 2 ∷ []) 0 0 refl o refl)
+pub no_term_lem : (k : declared.ThirdField) → ((t : TermNumber) → k ≡ declared.ThirdField.Term t → ⊥) → 1 ≤ kind_in k
+no_term_lem (declared.ThirdField.Term t) o = absurd (o t refl)
 no_term_lem (declared.ThirdField.Side s) o = omega arith
 no_term_lem (declared.ThirdField.Clause k) o = omega arith
 
-pub no_clause : (k : declared.ThirdField) → OneOf (0 ∷ 1 ∷ []) (tag_of third-type.the_type k) → kind_in k < 2
+pub no_clause : (k : declared.ThirdField) → ((n : ClauseNumber) → k ≡ declared.ThirdField.Clause n → ⊥) → kind_in k < 2
 no_clause (declared.ThirdField.Term t) o = omega arith
 no_clause (declared.ThirdField.Side s) o = omega arith
-no_clause (declared.ThirdField.Clause k) o = absurd (not_among (0 ∷ 1 ∷ []) 2 2 refl o refl)
+no_clause (declared.ThirdField.Clause k) o = absurd (o k refl)
 
 -- CHECKS 8 AND 9 speak of t and w alone
 module _ (table : Table) where
@@ -197,12 +195,12 @@ unsorted table term n h = refl
 unsorted table (of s) n h = absurd (true≢false h)
 
 -- all rules but `cut` and `ler`
-pub others_unsorted : (table : Table) (x : Rule) (t w : ℕ) → OneOf (places_but (Rule.Cut ∷ Rule.Ler ∷ [])) (place_of x)
+pub others_unsorted : (table : Table) (x : Rule) (t w : ℕ) → NoneOf x (Rule.Cut ∷ Rule.Ler ∷ [])
     → (of_sort table (rule_uses x).c t && of_sort table (rule_uses x).d w) ≡ true
 unfolding rules rule_names rule_fields
 others_unsorted table x t w o =
     let b = both_true (not (asks_sort (rule_uses x).c)) _
-    (other_rule (λ y. not (asks_sort (rule_uses y).c) && not (asks_sort (rule_uses y).d)) (Rule.Cut ∷ Rule.Ler ∷ []) refl refl x o) in
+    (other_rule (λ y. not (asks_sort (rule_uses y).c) && not (asks_sort (rule_uses y).d)) (Rule.Cut ∷ Rule.Ler ∷ []) refl x o) in
     λ i. unsorted table (rule_uses x).c t (not-true _ b.0) i && unsorted table (rule_uses x).d w (not-true _ b.1) i
 
 -- nor has a rule whose t is no term

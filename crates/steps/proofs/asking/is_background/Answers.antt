@@ -12,4 +12,4 @@ returns-in-Bck c = sym (ap is_background c.in-Bck.is)
 
 pub returns-in_default : goal.returns-in_default
 unfolding rules rule_names
-returns-in_default c = sym (others_not_background c.args.rule c.in_default.not-Bck)
+returns-in_default c = sym (others_not_background c.args.rule (c.in_default.not-Bck, tt))
