@@ -5,10 +5,6 @@ use mathlib.Core.List.{List, [], ◌∷◌}
 use mathlib.Core.Option.{none, some}
 use Prim.Native.Nat.{ℕ, ◌+◌, ◌<◌, ◌≤◌}
 use borrow.Author.Tests.{le-leb, lt-leb}
-use types.Run.{OneOf}
-use denote.Enum.Declared.{tag_of}
-use Rattle.tableau.specs.contracts.Letter as letter-type
-use Rattle.tableau.proofs.Places.{not_among}
 use Rattle.tableau.specs.declared.Letter.{Letter}
 use Rattle.tableau.specs.declared.Reason.{Reason}
 use Rattle.tableau.specs.Basics.{lookup}
@@ -34,11 +30,11 @@ pub disordered : (last k : Letter) {m n : ℕ} → m ≡ rank last → n ≡ ran
 disordered last k p q h = lt-leb (rank last) (rank k) (rw (sym p, sym q) h)
 
 -- a letter that is not S, nor T or A, is C
-pub clause_letter : (k : Letter) → OneOf (0 ∷ 1 ∷ 2 ∷ []) (tag_of letter-type.the_type k) → OneOf (2 ∷ 3 ∷ []) (tag_of letter-type.the_type k) → k ≡ Letter.C
-clause_letter Letter.T o q = absurd (not_among (2 ∷ 3 ∷ []) 0 0 refl q refl)
-clause_letter Letter.A o q = absurd (not_among (2 ∷ 3 ∷ []) 1 1 refl q refl)
-clause_letter Letter.C o q = refl
-clause_letter Letter.S o q = absurd (not_among (0 ∷ 1 ∷ 2 ∷ []) 3 3 refl o refl)
+pub clause_letter : (k : Letter) → (k ≡ Letter.S → ⊥) → (k ≡ Letter.T → ⊥) → (k ≡ Letter.A → ⊥) → k ≡ Letter.C
+clause_letter Letter.T s t a = absurd (t refl)
+clause_letter Letter.A s t a = absurd (a refl)
+clause_letter Letter.C s t a = refl
+clause_letter Letter.S s t a = absurd (s refl)
 
 module _ (table : Table) (C : Clauses) (g : Progress) (e : Extent) (f : LineFields) (codes words prefix : List ℕ) where
   pub no_letter : (A : Arrays) → lookup letters (f.letter ∷ []) ≡ none → LineDone table C codes g e f A words prefix (LineResult.Refused Reason.BadShape (g.lines + 1))

@@ -4,15 +4,11 @@ use mathlib.Core.List.{List, [], ◌∷◌, ◌++◌}
 use mathlib.Core.Logic.{◌⊎◌, inl, inr}
 use Prim.Native.Nat.{ℕ, ◌+◌, ◌*◌, ◌-◌, ◌<◌, ◌≤◌}
 use native.Mathlib.Omega.{arith}
-use types.Run.{OneOf}
 use lib.ListN.{length, get_or, take, drop, length-take, length-drop, get_or-append}
 use lib.Seq.{get_or-take, get_or-drop, get_or-append-add, length-take-le}
 use borrow.Rule.Slice.PartMut.{mid_of, post_of, put_mid, same_len_mid, drop_put}
-use denote.Enum.Declared as Declared
 use Rattle.tableau.specs.declared.Sort.{Sort}
 use Rattle.tableau.specs.Terms.{Name, TermNo, max_terms}
-use Rattle.tableau.specs.contracts.Sort as sort-type
-use Rattle.tableau.proofs.Places.{not_among}
 use Rattle.evaluation.specs.declared.FactWord.{FactWord}
 use Rattle.evaluation.specs.Facts.{fact_index}
 use Rattle.facts.specs.Keys.{pack_key, value_at}
@@ -22,11 +18,11 @@ use Rattle.term_values.specs.Values.{rows_length}
 use Rattle.variables.specs.Variables.{IsHeapRow, RowRead}
 
 -- a variable of another sort has no row
-pub row_kept : (keys values : List ℕ) (n : Name) (rows : List ℕ) (t : TermNo) (s : Sort) → OneOf (0 ∷ 1 ∷ 3 ∷ 4 ∷ []) (Declared.tag_of sort-type.the_type s)
+pub row_kept : (keys values : List ℕ) (n : Name) (rows : List ℕ) (t : TermNo) (s : Sort) → (s ≡ Sort.Heap → ⊥)
     → RowRead keys values s n rows rows t
 row_kept keys values n rows t Sort.Reference o = refl
 row_kept keys values n rows t Sort.Region o = refl
-row_kept keys values n rows t Sort.Heap o = absurd (not_among (0 ∷ 1 ∷ 3 ∷ 4 ∷ []) 2 2 refl o refl)
+row_kept keys values n rows t Sort.Heap o = absurd (o refl)
 row_kept keys values n rows t Sort.Field o = refl
 row_kept keys values n rows t Sort.Class o = refl
 
