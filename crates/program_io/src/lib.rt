@@ -4,7 +4,7 @@
 
 ghost use Rattle.std.specs.Prelude.{◌≤◌, ◌<◌, length};
 ghost use Rattle.tableau.specs.File.{max_bytes};
-ghost use Rattle.program_io.specs.Input.{Fits};
+ghost use Rattle.program_io.specs.Input.{Brings, Fits};
 
 use reply::Text;
 use std::io;
@@ -20,10 +20,12 @@ pub enum Input {
     Failed(io::Error),
 }
 
-// Reads until the input ends or space is full, however few bytes each read brings.
+// Reads until the input ends or space is full, however few bytes each read brings. Nothing is said
+// of what a failed read leaves in space or in the reader.
 pub fn read_all<R: Read>(reader: &mut R, space: &mut [u8]) -> Input
     requires { max_bytes < length space.old }
-    ensures { Fits result (length space.new) }
+    ensures fits { Fits result (length space.new) }
+    ensures brings { Brings (R.remaining reader.old) (R.remaining reader.new) result space.new }
 {
     let mut done = 0;
     while done < space.len() {
