@@ -1,4 +1,4 @@
-//! Links the libraries of the proved code, which `rt` makes and cargo does not.
+//! Links the libraries of the proved code, which `libraries` makes and cargo does not.
 
 use std::path::Path;
 
@@ -8,7 +8,7 @@ fn main() {
     for name in ["checker", "evaluator"] {
         if !link(&folder, name) {
             println!(
-                "cargo::error={} has no lib{name}.a: run `rt staticlib {name}` in the repository's root first",
+                "cargo::error={} has no lib{name}.a: run `./libraries {name}` in the repository's root first",
                 folder.display()
             );
         }

@@ -1,7 +1,7 @@
 /*
  * The checker of closed tableaux for region logic, as C sees it: one call, from a file's bytes to its reply.
  *
- * The library is target/staticlib/libchecker.a, which `rt staticlib checker` makes, for x86-64 Linux.
+ * The library is target/staticlib/libchecker.a, which `./libraries checker` makes, for x86-64 Linux.
  *
  * A file has at most 60,000 bytes. Each line has six fields parted by five commas, no quoting, ended by one LF. Field 1 is one of
  * the letters T, A, C, S. Field 2 is two or three small letters. Fields 3 to 6 are numbers of one to five digits, with no leading

@@ -2,7 +2,7 @@
  * The evaluator of assumptions, as C sees it: one call, from a checker file and a heap file to the first assumption that is false in
  * that heap.
  *
- * The library is target/staticlib/libevaluator.a, which `rt staticlib evaluator` makes, for x86-64 Linux.
+ * The library is target/staticlib/libevaluator.a, which `./libraries evaluator` makes, for x86-64 Linux.
  *
  * The checker file is that of tabcheck.h; its lines are read up to the first that begins S and a comma. A heap file has lines of the
  * same shape, with D as the only letter, and at most 60,000 bytes. `D,siz` comes first and gives references, fields, classes (1 to 64,

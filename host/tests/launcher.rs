@@ -12,8 +12,9 @@ use std::process::{Command, Output};
 
 const SCRIPTS: [&str; 3] = ["tabcheck", "tabeval", "tabfigures"];
 
-/// A repository with nothing but the scripts. What they call is in `tools`, and
-/// so is an `rt` with this text, if any.
+/// A repository with nothing but the scripts and the programs' folders. What the
+/// scripts call is in `tools`, and so is an `rt` with this text, if any: it runs
+/// in a program's folder, and makes the program `$made`.
 fn bare_repository(name: &str, rt: Option<&str>) -> PathBuf {
     let root = scratch(name);
     let _ = fs::remove_dir_all(&root);
@@ -22,12 +23,15 @@ fn bare_repository(name: &str, rt: Option<&str>) -> PathBuf {
     for file in SCRIPTS.into_iter().chain(["launch.sh"]) {
         fs::copy(repository().join(file), root.join(file)).unwrap();
     }
+    for script in SCRIPTS {
+        fs::create_dir_all(root.join("crates").join(script)).unwrap();
+    }
     for tool in ["dirname", "rm", "mkdir", "cat", "chmod"] {
         symlink(found(tool), tools.join(tool)).unwrap();
     }
     if let Some(text) = rt {
         let rt = tools.join("rt");
-        fs::write(&rt, format!("#!/bin/sh\n{text}\n")).unwrap();
+        fs::write(&rt, format!("#!/bin/sh\nmade=out/${{PWD##*/}}\n{text}\n")).unwrap();
         fs::set_permissions(rt, fs::Permissions::from_mode(0o755)).unwrap();
     }
     root
@@ -64,10 +68,10 @@ fn the_script_without_rt() {
     }
 }
 
-/// A program is made whose trial run fails, as `rt check` can end.
+/// A program is made whose trial run fails, as `rt run` can end.
 #[test]
 fn the_script_where_the_build_fails() {
-    let rt = "mkdir -p target/bin && : >target/bin/$2 && chmod +x target/bin/$2 && exit 1";
+    let rt = "mkdir -p out && : >$made && chmod +x $made && exit 1";
     let root = bare_repository("script_build_fails", Some(rt));
     for script in SCRIPTS {
         expect_failure(&run_script(&root, script), script, "the build failed");
@@ -87,7 +91,7 @@ fn the_script_where_nothing_is_built() {
 /// shows that they come through whole, and that the build left the input alone.
 #[test]
 fn the_script_builds_once() {
-    let rt = "echo \"rt $*\" && mkdir -p target/bin && printf '#!/bin/sh\\nprintf \"<%%s>\" \"$@\"\\ncat\\n' >target/bin/$2 && chmod +x target/bin/$2";
+    let rt = "echo \"rt $1 $made\" && mkdir -p out && printf '#!/bin/sh\\nprintf \"<%%s>\" \"$@\"\\ncat\\n' >$made && chmod +x $made";
     let root = bare_repository("script_builds_once", Some(rt));
     for script in SCRIPTS {
         let written = "<two words><><*>the file\n";
@@ -95,7 +99,7 @@ fn the_script_builds_once() {
         assert!(first.status.success());
         assert_eq!(String::from_utf8_lossy(&first.stdout), written);
         let stderr = String::from_utf8(first.stderr).unwrap();
-        let built = format!("rt check {script}\n");
+        let built = format!("rt run out/{script}\n");
         assert!(stderr.ends_with(&built), "{stderr}");
 
         let second = run_script(&root, script);
@@ -109,7 +113,7 @@ fn the_script_builds_once() {
 /// where the files are that its arguments name.
 #[test]
 fn the_script_stays_in_the_callers_folder() {
-    let rt = "mkdir -p target/bin && printf '#!/bin/sh\\npwd\\n' >target/bin/$2 && chmod +x target/bin/$2";
+    let rt = "mkdir -p out && printf '#!/bin/sh\\npwd\\n' >$made && chmod +x $made";
     let root = bare_repository("script_folder", Some(rt));
     let below = root.join("below").join("further");
     fs::create_dir_all(&below).unwrap();

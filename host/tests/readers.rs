@@ -2,7 +2,7 @@
 //! on files of every kind.
 
 #[cfg(not(reading_alone))]
-compile_error!("libreading_alone.a is missing: run `rt staticlib reading_alone` first");
+compile_error!("libreading_alone.a is missing: run `./libraries reading_alone` first");
 
 use host::generator::{batch, full_tables};
 use host::proved_reader;

@@ -45,10 +45,9 @@ fn check(file: &[u8]) -> Verdict
     }
 }
 
-// The call of a build host: the refusal number, 0 after a yes; the seven numbers in the buffer, or the buffer untouched where its
-// length is wrong.
-#[unsafe(no_mangle)]
-pub extern "C" fn tabcheck(file: &[u8], reply: &mut [u8]) -> u32
+// The call of a build host, which `checker_c` exports: the refusal number, 0 after a yes; the seven
+// numbers in the buffer, or the buffer untouched where its length is wrong.
+pub fn tabcheck(file: &[u8], reply: &mut [u8]) -> u32
     ensures value { result ≡ (specification.call file.now reply.old).returns }
     ensures reply_after { reply.new ≡ (specification.call file.now reply.old).buffer }
     ensures no_heap { result ≡ 0 → NoHeap file.now }

@@ -64,9 +64,9 @@ pub fn evaluate(file: &[u8], heap: &[u8]) -> Evaluation
     }
 }
 
-// The call of a build host: the refusal number, 0 without a refusal; the three numbers in the buffer, or the buffer untouched where its length is wrong.
-#[unsafe(no_mangle)]
-pub extern "C" fn tabeval(file: &[u8], heap: &[u8], reply: &mut [u8]) -> u32
+// The call of a build host, which `evaluator_c` exports: the refusal number, 0 without a refusal;
+// the three numbers in the buffer, or the buffer untouched where its length is wrong.
+pub fn tabeval(file: &[u8], heap: &[u8], reply: &mut [u8]) -> u32
     ensures value { result ≡ (specification.evaluation_call file.now heap.now reply.old).returns }
     ensures reply_after { reply.new ≡ (specification.evaluation_call file.now heap.now reply.old).buffer }
     ensures means { result ≡ 0 → Means file.now heap.now (specification.evaluation file.now heap.now) }

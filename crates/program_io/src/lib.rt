@@ -1,35 +1,38 @@
-// What the programs share: an input read to its end, a reply line written, a message on standard error.
+// What the programs share: an input read to its end, a reply line written, a message on standard
+// error.
 #![tactic(auto)]
 
 ghost use Rattle.std.specs.Prelude.{◌≤◌, ◌<◌, length};
 ghost use Rattle.tableau.specs.File.{max_bytes};
-ghost use Rattle.program_io.specs.Input.{Fits};
+ghost use Rattle.program_io.specs.Input.{Brings, Fits};
 
-use libc::{STDERR_FILENO, STDIN_FILENO, STDOUT_FILENO};
 use reply::Text;
+use std::io;
+use std::io::{Read, Stderr, Stdin, Stdout};
 
 // One byte more than a file may have: when it is filled, the file is too long, whatever follows.
 pub const SPACE: usize = 60001;
 
-// What came in: so many bytes, or a part that a failed read cut off.
+// What came in: so many bytes, or a part that a failed read cut off, and why it failed.
 #[derive(Clone, Copy)]
 pub enum Input {
     Read(usize),
-    Failed,
+    Failed(io::Error),
 }
 
-// Reads until the input ends or space is full, however few bytes each read brings.
-pub fn read_all(fd: i32, space: &mut [u8]) -> Input
+// Reads until the input ends or space is full, however few bytes each read brings. Nothing is said
+// of what a failed read leaves in space or in the reader.
+pub fn read_all<R: Read>(reader: &mut R, space: &mut [u8]) -> Input
     requires { max_bytes < length space.old }
-    ensures { Fits result (length space.new) }
+    ensures fits { Fits result (length space.new) }
+    ensures brings { Brings (R.remaining reader.old) (R.remaining reader.new) result space.new }
 {
     let mut done = 0;
     while done < space.len() {
-        let got = libc::read(fd, &mut space[done..]);
-        if got < 0 {
-            return Input::Failed;
-        }
-        let more = io::count(got, &space[done..]);
+        let more = match reader.read(&mut space[done..]) {
+            Ok(more) => more,
+            Err(error) => return Input::Failed(error),
+        };
         if more == 0 {
             break;
         }
@@ -38,33 +41,36 @@ pub fn read_all(fd: i32, space: &mut [u8]) -> Input
     Input::Read(done)
 }
 
-// A message begins with the program's name.
-pub fn write_message(program: &[u8], message: &[u8]) {
-    io::write_all(STDERR_FILENO, program);
-    io::write_all(STDERR_FILENO, message);
+// A message begins with the program's name. Where it can't be written there is no one to tell.
+pub fn write_message(stderr: Stderr, program: &[u8], message: &[u8]) {
+    let _ = stderr.write_all(program);
+    let _ = stderr.write_all(message);
 }
 
-// Reads standard input, or says that it can't be read. After a failed read there is no reply: the bytes before it are not the whole input, and a yes to them
-// would be read as a yes to all of it. A program can't set its exit status, so an empty standard output has to say it.
-pub fn read_standard_input(program: &[u8], space: &mut [u8]) -> Input
+// Reads standard input, or says that it can't be read. After a failed read there is no reply: the
+// bytes before it are not the whole input, and a yes to them would be read as a yes to all of it.
+// The exit status stays 0, so an empty standard output has to say it.
+pub fn read_standard_input(stdin: Stdin, stderr: Stderr, program: &[u8], space: &mut [u8]) -> Input
     requires { max_bytes < length space.old }
     ensures { Fits result (length space.new) }
 {
-    let input = read_all(STDIN_FILENO, space);
-    if let Input::Failed = input {
-        write_message(program, b": standard input can't be read\n");
+    let mut stdin = stdin;
+    let input = read_all(&mut stdin, space);
+    if let Input::Failed(_) = input {
+        write_message(stderr, program, b": standard input can't be read\n");
     }
     input
 }
 
 // Standard output has the whole line, or standard error says that it may not.
-pub fn write_reply(program: &[u8], text: Text)
+pub fn write_reply(stdout: Stdout, stderr: Stderr, program: &[u8], text: Text)
     requires { text.len ≤ length text.bytes }
 {
     let bytes = text.bytes;
     let len = text.len;
-    if !io::write_all(STDOUT_FILENO, &bytes[..len]) {
+    if stdout.write_all(&bytes[..len]).is_err() {
         write_message(
+            stderr,
             program,
             b": the reply can't be written to standard output\n",
         );

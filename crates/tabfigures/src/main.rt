@@ -1,13 +1,19 @@
-// The program: reads a night's replies from standard input and writes the line of figures, and nothing else, to standard output.
+// The program: reads a night's replies from standard input and writes the line of figures, and
+// nothing else, to standard output.
 #![tactic(auto)]
 
 use program_io::{Input, SPACE};
 
-fn main() {
+fn main(rt: HostRuntime) {
     let mut space: [u8; SPACE] = [0; SPACE];
-    let input = program_io::read_standard_input(b"tabfigures", &mut space);
+    let input = program_io::read_standard_input(rt.stdin(), rt.stderr(), b"tabfigures", &mut space);
     let Input::Read(n) = input else {
         return;
     };
-    program_io::write_reply(b"tabfigures", figures::figures(&space[..n]));
+    program_io::write_reply(
+        rt.stdout(),
+        rt.stderr(),
+        b"tabfigures",
+        figures::figures(&space[..n]),
+    );
 }

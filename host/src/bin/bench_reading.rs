@@ -4,7 +4,7 @@
 //! code, and by that alone change its times.
 
 #[cfg(not(reading_alone))]
-compile_error!("libreading_alone.a is missing: run `rt staticlib reading_alone` first");
+compile_error!("libreading_alone.a is missing: run `./libraries reading_alone` first");
 
 use std::hint::black_box;
 use std::time::Instant;

@@ -5,9 +5,8 @@ use std::path::PathBuf;
 use std::process::Output;
 
 pub fn built(name: &str) -> PathBuf {
-    let program = repository().join("target/bin").join(name);
-    let missing =
-        format!("target/bin/{name} is missing: run `rt check {name}` in the repository's root");
+    let program = repository().join(format!("crates/{name}/out/{name}"));
+    let missing = format!("crates/{name}/out/{name} is missing: run `rt run` in crates/{name}");
     assert!(program.is_file(), "{missing}");
     program
 }

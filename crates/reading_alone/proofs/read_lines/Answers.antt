@@ -1,14 +1,11 @@
-use mathlib.Core.Path.{◌≡◌, refl, sym, ◌∙◌, ap}
-use Prim.Native.Nat.{◌-◌}
+use mathlib.Core.Path.{◌≡◌, sym, ◌∙◌, ap}
 use native.Mathlib.Omega.{arith}
-use lib.ListN.{length}
-use borrow.Author.Rules.{rules}
 use Rattle.lines.specs.declared.LineRead.{LineRead}
 use Rattle.lines.specs.Lines.{line_at, LFAhead}
 use Rattle.lines.proofs.FileSteps.{ahead_here, no_line_behind}
 use Rattle.running.proofs.Lines.{check_fields, line_here}
 use Rattle.reading_alone.specs.Reading.{or_all_bits, read_file}
-use Rattle.reading_alone.proofs.Mixing.{mixed_from, line_mixed, bad_mixed, end_mixed}
+use Rattle.reading_alone.proofs.Mixing.{line_mixed, bad_mixed, end_mixed}
 use Rattle.reading_alone.proofs.read_lines.Goals as goal
 use Rattle.reading_alone.proofs.read_lines.Goals.{In-Line, In-loop-at}
 
