@@ -4,8 +4,6 @@ use mathlib.Core.List.{List}
 use Prim.Native.Nat.{ℕ, suc, ◌+◌, ◌<◌, ◌≤◌}
 use native.Mathlib.Numerals.{add-one}
 use native.Mathlib.Omega.{arith}
-use types.Run.{OneOf}
-use denote.Enum.Declared as Declared
 use lib.ListN.{length, take, set, length-set}
 use Rattle.tableau.specs.declared.Sort.{Sort}
 use Rattle.tableau.specs.declared.Name.{Name}
@@ -13,8 +11,7 @@ use Rattle.tableau.specs.Terms.{TermNo, Table, Term, variable, apply, at, max_te
 use Rattle.tableau.proofs.WellFormed.{WellFormed}
 use Rattle.packing.specs.declared.TermView.{TermView}
 use Rattle.packing.specs.Packing.{Packable, name_limit}
-use Rattle.packing.specs.contracts.TermView as term-view
-use Rattle.packing.proofs.ViewLaws.{operators, variable_of}
+use Rattle.packing.proofs.ViewLaws.{variable_of}
 use Rattle.table.specs.Held.{Entries, ViewAt}
 use Rattle.facts.specs.Keys.{FactsHeld}
 use Rattle.regions.specs.declared.HeapTables.{HeapTables}
@@ -59,7 +56,7 @@ module _ {terms keys values : List ℕ} {n : ℕ} {tables : HeapTables} {numbers
     },
   )
 
-  pub with_operation : {view : TermView} → ((table : Table) → Entries table terms → ViewAt table t view) → OneOf operators (Declared.tag_of term-view.the_type view)
+  pub with_operation : {view : TermView} → ((table : Table) → Entries table terms → ViewAt table t view) → ((s : Sort) (x : Name) → view ≡ TermView.Variable s x → ⊥)
       → Computed tables view numbers rows numbers' rows' t → Lengths numbers' rows' × TermsShown terms keys values n tables numbers' rows' (t + 1)
   with_operation {view} is o C = (
     (set_size numbers numbers' t _ C.number wide, C.row.size ∙ size),

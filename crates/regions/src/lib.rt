@@ -12,7 +12,7 @@ pub const ROW: usize = 1024;
 
 // A heap that was read: the references in `all`, the classes of references and fields, for each field the references that may have it, for
 // each class the classes above it.
-#[derive(Drop)]
+#[derive(Clone, Copy)]
 pub struct HeapTables {
     pub all: u64,
     pub typ: [u8; 64],
