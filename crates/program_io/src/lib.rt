@@ -8,7 +8,7 @@ ghost use Rattle.program_io.specs.Input.{Brings, Fits};
 
 use reply::Text;
 use std::io;
-use std::io::{Read, Stderr, Stdin, Stdout};
+use std::io::{Read, Stderr, Stdout};
 
 // One byte more than a file may have: when it is filled, the file is too long, whatever follows.
 pub const SPACE: usize = 60001;
@@ -50,12 +50,17 @@ pub fn write_message(stderr: Stderr, program: &[u8], message: &[u8]) {
 // Reads standard input, or says that it can't be read. After a failed read there is no reply: the
 // bytes before it are not the whole input, and a yes to them would be read as a yes to all of it.
 // The exit status stays 0, so an empty standard output has to say it.
-pub fn read_standard_input(stdin: Stdin, stderr: Stderr, program: &[u8], space: &mut [u8]) -> Input
+pub fn read_standard_input<R: Read>(
+    stdin: &mut R,
+    stderr: Stderr,
+    program: &[u8],
+    space: &mut [u8],
+) -> Input
     requires { max_bytes < length space.old }
-    ensures { Fits result (length space.new) }
+    ensures fits { Fits result (length space.new) }
+    ensures brings { Brings (R.remaining stdin.old) (R.remaining stdin.new) result space.new }
 {
-    let mut stdin = stdin;
-    let input = read_all(&mut stdin, space);
+    let input = read_all(stdin, space);
     if let Input::Failed(_) = input {
         write_message(stderr, program, b": standard input can't be read\n");
     }

@@ -6,7 +6,12 @@ use program_io::{Input, SPACE};
 
 fn main(rt: HostRuntime) {
     let mut space: [u8; SPACE] = [0; SPACE];
-    let input = program_io::read_standard_input(rt.stdin(), rt.stderr(), b"tabcheck", &mut space);
+    let input = program_io::read_standard_input(
+        &mut rt.stdin(),
+        rt.stderr(),
+        b"tabcheck",
+        &mut space,
+    );
     let Input::Read(n) = input else {
         return;
     };
