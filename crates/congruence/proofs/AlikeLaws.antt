@@ -16,7 +16,7 @@ use Rattle.packing.proofs.CongruenceLaws.{same_low, low_takes}
 use Rattle.table.specs.Held.{Entries, Chains, Absent, hashes, hash_of}
 use Rattle.table.proofs.ChainLaws.{chains_more}
 use Rattle.table.proofs.EntryLaws.{packs}
-use Rattle.partition.specs.Blocks.{block_of, IsPartition, Sound, Fewer, Coarsened, Joined}
+use Rattle.partition.specs.Blocks.{block_of, IsPartition, Sound, Fewer, Joined}
 use Rattle.partition.proofs.Loops.{up_to}
 use Rattle.partition.proofs.JoinLaws.{unchanged, fewer_then, changed_then}
 use Rattle.congruence.specs.Signatures.{signature_of, sign_of, Earlier, MetIf, SignedFollow, JoinedSigned, CongruentIf, JoinedAlike, JoinedSome}

@@ -7,7 +7,7 @@ mod trial;
 mod values;
 
 ghost use Rattle.std.specs.Prelude.{true, ◌≡◌, ◌≤◌, length};
-ghost use Rattle.tableau.specs.Reply.{reply as replyTo};
+ghost use Rattle.tableau.specs.Reply.{reply as reply_to};
 ghost use Rattle.evaluation.specs.Evaluation as specification;
 ghost use Rattle.evaluation.specs.Claims.{Means};
 ghost use Rattle.reply.specs.Text.{text_of};
@@ -26,7 +26,7 @@ use trial::read_heap;
 pub fn evaluate(file: &[u8], heap: &[u8]) -> Evaluation
     ensures result_value { evaluation_record result ≡ specification.evaluation file.now heap.now }
     ensures means { result.number ≡ 0 → Means file.now heap.now (evaluation_record result) }
-    ensures fact { (replyTo file.now).is_yes ≡ true → evaluation_record result ≡ specification.no_refusal 0 → ⊥ }
+    ensures fact { (reply_to file.now).is_yes ≡ true → evaluation_record result ≡ specification.no_refusal 0 → ⊥ }
 {
     if FILE_BYTES < file.len() {
         return refused(Reason::TooLong, 1, 0);

@@ -10,7 +10,6 @@ use Rattle.tableau.specs.Terms as specification
 use Rattle.tableau.specs.Terms.{Table, Term, same_relation}
 use Rattle.tableau.specs.Tree.{Checked, refused, passed, answer}
 use Rattle.syntax.specs.declared.Literal.{Literal}
-use Rattle.packing.specs.declared.LiteralView.{LiteralView}
 use Rattle.packing.specs.Packing.{unpack_literal}
 pub use Rattle.packing.specs.Packing.{IsNot}
 use Rattle.table.specs.declared.Found.{Found}

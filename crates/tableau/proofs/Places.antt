@@ -1,14 +1,13 @@
 -- An enum whose variants hold nothing: its values are as many as its variants, so what a test says of each of them, it says of every value. Every rule stands
 -- at its place of the table of rules.
 use mathlib.Core.Path.{◌≡◌, refl, sym, ◌∙◌, ap}
-use mathlib.Core.Bool.{Bool, true, false, not, ◌&&◌, ◌||◌, cond, true≢false}
+use mathlib.Core.Bool.{Bool, true, false, not, ◌&&◌, ◌||◌, true≢false}
 use mathlib.Core.List.{List, [], ◌∷◌, map}
 use mathlib.Core.Logic.{inl, inr}
 use Prim.Native.Nat.{ℕ}
 use lib.Dec.{eqb}
 use lib.ListN.{get_or}
-use types.Run.{OneOf}
-use borrow.Author.Tests.{eqb-true, eqb-false, ne_eqb, not-true}
+use borrow.Author.Tests.{eqb-true, eqb-false, not-true}
 use denote.Struct.Field.{Field}
 use denote.Enum.Declared.{Choice, Record, declared, tag_of, rowss, intoss}
 use denote.Enum.Enum.{tag}
@@ -67,17 +66,6 @@ module _ (N : Record) (p : plain N.parts ≡ true) where
     where
       at : (h : N.D → A) → get_or (each N.parts (λ c. h (N.make c))) (tag_of (declared N) x) (f x) ≡ h x
       at h = at_tag N.parts p (λ c. h (N.make c)) (N.as_values x) (f x) ∙ ap h (N.eta x)
-
--- THE OTHER ARMS OF A MATCH: the keys of the other arms leave k out
-abbrev pub absent : List ℕ → ℕ → Bool
-absent [] k = true
-absent (j ∷ js) k = not (eqb j k) && absent js k
-
-pub not_among : (js : List ℕ) (k x : ℕ) → absent js k ≡ true → OneOf js x → x ≡ k → ⊥
-not_among [] k x a h e = h
-not_among (j ∷ []) k x a h e = eqb-false j k (not-true _ (both_true (not (eqb j k)) _ a).0) (sym h ∙ e)
-not_among (j ∷ i ∷ js) k x a (inl h) e = eqb-false j k (not-true _ (both_true (not (eqb j k)) _ a).0) (sym h ∙ e)
-not_among (j ∷ i ∷ js) k x a (inr h) e = not_among (i ∷ js) k x (both_true (not (eqb j k)) _ a).1 h e
 
 -- THE TABLE OF RULES: the rules in the order in which it names them
 unfoldable pub rules : List Rule

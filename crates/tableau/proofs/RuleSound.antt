@@ -1,6 +1,6 @@
 -- Each row is true of values: where its needs hold, one of its alternatives does.
 use mathlib.Core.Path.{◌≡◌, refl, sym, ◌∙◌, ap, subst}
-use mathlib.Core.Bool.{true, false, not, cond, false≢true}
+use mathlib.Core.Bool.{true, not, cond, false≢true}
 use mathlib.Core.Logic.{inl, inr}
 use Prim.Native.Nat.{ℕ}
 use borrow.Author.Tests.{not-true}
@@ -8,11 +8,11 @@ use Rattle.tableau.specs.declared.Operator.{Operator}
 use Rattle.tableau.specs.declared.Rule.{Rule}
 use Rattle.tableau.specs.Basics.{four}
 use Rattle.tableau.specs.Fields.{arguments, rule_fields}
-use Rattle.tableau.specs.Meaning.{◌and◌, same, FiniteHeap, Ref, Region, Field, Store, Value, reference, region, field, class, as_ref, as_region, as_store, as_field, as_class, within, image, operation, is_in}
+use Rattle.tableau.specs.Meaning.{◌and◌, same, FiniteHeap, Ref, Region, Field, Store, Value, reference, region, field, as_ref, as_region, as_store, as_field, within, image, operation, is_in}
 use Rattle.tableau.specs.Rules.{rule, letter_a, letter_b, letter_c, letter_f, letter_g, letter_h, letter_i, letter_r, letter_s, letter_t, letter_u, letter_v, letter_w, letter_y}
 use Rattle.tableau.proofs.Bools.{and_l, and_r, and_i, or_e, or_i1, or_i2, and_false_r, and_false_of, alike, dec, clash}
 use Rattle.tableau.proofs.Numbers.{same_eq, same_refl, any_out, any_in}
-use Rattle.tableau.proofs.Values.{region_path, union_with_part, is_ref_lem, is_class_lem, as_ref_lem, as_region_lem, as_field_lem, kind_class, le_refl, le_trans, le_anti}
+use Rattle.tableau.proofs.Values.{region_path, union_with_part, is_ref_lem, as_ref_lem, as_region_lem, as_field_lem, le_refl, le_trans, le_anti}
 use Rattle.tableau.proofs.Counting.{onto_no_more, no_more_than_part}
 use Rattle.tableau.proofs.RowMeaning.{RuleSound}
 

@@ -1,10 +1,10 @@
 -- What is computed for `bck` is what is defined: `saturate` finds exactly the two relations.
 use mathlib.Core.Path.{◌≡◌, refl, sym, ◌∙◌, ap, subst}
-use mathlib.Core.Bool.{Bool, true, false, ◌&&◌, ◌||◌, true≢false, false≢true}
+use mathlib.Core.Bool.{Bool, true, false, ◌&&◌, ◌||◌, false≢true}
 use mathlib.Core.List.{List, [], ◌∷◌, ◌++◌}
 use mathlib.Core.Option.{Option, none, some}
 use mathlib.Core.Logic.{◌⊎◌, inl, inr}
-use Prim.Native.Nat.{ℕ, zero, suc, max, ◌≤◌, ◌<◌}
+use Prim.Native.Nat.{ℕ, zero, suc, ◌≤◌, ◌<◌}
 use native.Mathlib.Nat.{not-suc-le-zero}
 use native.Mathlib.Omega.{arith}
 use lib.Dec.{eqb}
@@ -13,14 +13,14 @@ use borrow.Author.Tests.{eqb-true, eq-eqb}
 use Rattle.tableau.specs.declared.Sort.{Sort}
 use Rattle.tableau.specs.declared.Operator.{Operator}
 use Rattle.tableau.specs.declared.Relation.{Relation}
-use Rattle.tableau.specs.Basics.{Four, four, every}
+use Rattle.tableau.specs.Basics.{Four, every}
 use Rattle.tableau.specs.Fields.{arguments}
-use Rattle.tableau.specs.Terms.{TermNo, Table, Term, variable, apply, Literal, literal, at, no_term, result, sort_of, same_sort, same_operator, same_relation, relation_index, operator_index, sort_index}
+use Rattle.tableau.specs.Terms.{TermNo, Table, Term, variable, apply, Literal, literal, at, result, sort_of, same_sort, same_operator, same_relation, relation_index, operator_index, sort_index}
 use Rattle.tableau.specs.Steps.{takes_terms}
 use Rattle.tableau.specs.Background as background
 use Rattle.tableau.specs.Background.{On, Follows, Contradicted, by_ne, by_nl}
 use Rattle.tableau.specs.Claims.{ExactlyContradicted}
-use Rattle.tableau.specs.Saturation.{has, some_below, bound, equal, below, alike, between, one_step, behind, pick, next, with_right, all_below, saturate, universe, closure, denies, any_denies, contradicted}
+use Rattle.tableau.specs.Saturation.{has, some_below, bound, equal, below, alike, between, one_step, pick, next, with_right, all_below, saturate, universe, closure, denies, any_denies, contradicted}
 use Rattle.tableau.proofs.Bools.{dec, clash, both_true, both_i, one_true, or_l, or_r, every_true, eqb_same, none≢some, some_inj}
 use Rattle.tableau.proofs.TableGrowth.{inside}
 use Rattle.tableau.proofs.Match.{same_operator_lem, same_relation_lem, same_sort_lem}

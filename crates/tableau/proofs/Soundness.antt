@@ -16,7 +16,7 @@ use Rattle.tableau.specs.Basics.{Four, every, is_some, lookup}
 use Rattle.tableau.specs.File.{rank, in_order, shape, letters}
 use Rattle.tableau.specs.Words.{rule_names, Command, make, assume, disjoin, infer, command_of}
 use Rattle.tableau.specs.Fields.{Argument, unused, of, argument_use, arguments, word_fields}
-use Rattle.tableau.specs.Terms.{Table, Literal, Clauses, at, result, sort_of, written}
+use Rattle.tableau.specs.Terms.{Table, Literal, at, result, sort_of, written}
 use Rattle.tableau.specs.Meaning.{FiniteHeap, Values, AllTrue, EveryClauseTrue}
 use Rattle.tableau.specs.Tree.{Tree, is_open, is_closed}
 use Rattle.tableau.specs.Reply.{State, term_or_name, of_sort, reply}

@@ -15,7 +15,7 @@ use Rattle.tableau.specs.declared.Operator.{Operator}
 use Rattle.tableau.specs.declared.Relation.{Relation}
 use Rattle.tableau.specs.declared.Rule.{Rule}
 use Rattle.tableau.specs.Basics.{is_some, Four, four}
-use Rattle.tableau.specs.Fields.{Use, Argument, unused, clause, of, arguments, if_argument, rule_uses}
+use Rattle.tableau.specs.Fields.{Use, Argument, unused, of, arguments, if_argument, rule_uses}
 use Rattle.tableau.specs.Terms.{TermNo, Table, Term, variable, apply, Literal, literal, at, number_from, number_of, same_term, same_sort, same_operator, same_relation, mentions, first_place, mentioned, Clauses, disjuncts, clause_of}
 use Rattle.tableau.specs.Meaning.{FiniteHeap, Ref, Value, reference, operation, Values, value, Holds, True, AllTrue, AnyTrue, EveryClauseTrue}
 use Rattle.tableau.specs.Rules.{Pattern, letter, operator, –, LiteralPattern, pattern, Need, Row, Kind, rows, congruence, replacement, disjunction, background, rule, letter_t, letter_w}

@@ -1,6 +1,5 @@
 -- An operation that is computed from arguments that are shown is shown.
 use mathlib.Core.Path.{◌≡◌, refl, sym, ◌∙◌, ap, subst, subst₂}
-use mathlib.Core.Bool.{false}
 use mathlib.Core.List.{List}
 use mathlib.Core.Logic.{◌⊎◌, inl, inr}
 use Prim.Native.Nat.{ℕ, suc, ◌+◌, ◌*◌, ◌%◌, ◌<◌, ◌≤◌}
@@ -27,7 +26,7 @@ use Rattle.regions.specs.Shown.{HoldHeap, ShowsAs, Shows}
 use Rattle.regions.proofs.MaskMeaning.{mask_emp, mask_cup, mask_cap, mask_dif, mask_sin, mask_img}
 use Rattle.regions.proofs.RowMeaning.{row_wri}
 use Rattle.regions.proofs.LiteralLaws.{shown_as}
-use Rattle.term_values.specs.Values.{number_at, row_of, rows_length, operation_number, written_row, RowComputed, Computed}
+use Rattle.term_values.specs.Values.{number_at, row_of, rows_length, operation_number, RowComputed, Computed}
 use Rattle.term_values.specs.Shown.{ShownBelow}
 use Rattle.term_values.proofs.RowLaws.{earlier_row}
 

@@ -1,9 +1,4 @@
-use Prim.Native.Nat.{◌+◌}
-use borrow.Author.Rules.{rules}
-use Rattle.tree.specs.State.{branch_of}
-use Rattle.partition.specs.Blocks.{one_if, roots}
-use Rattle.background.specs.Closure.{joined}
-use Rattle.background.proofs.RoundLaws.{Running, run_first, run_more, run_less, answered}
+use Rattle.background.proofs.RoundLaws.{run_first, run_more, run_less, answered}
 use Rattle.background.proofs.contradicted.Goals as goal
 
 pub round-last-requires : goal.round-last-requires

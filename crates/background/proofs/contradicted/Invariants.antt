@@ -1,10 +1,9 @@
 -- The invariant: what is in one block follows to be equal, and where the last round joined nothing, all that follows is there.
 use Prim.Native.Nat.{◌+◌}
-use borrow.Author.Rules.{rules}
 use Rattle.tree.specs.State.{branch_of}
 use Rattle.partition.specs.Blocks.{one_if, roots}
 use Rattle.background.specs.Closure.{joined}
-use Rattle.background.proofs.RoundLaws.{Running, run_first, run_more, run_less, answered}
+use Rattle.background.proofs.RoundLaws.{Running}
 use Rattle.background.proofs.contradicted.Given as goal
 
 abbrev pub invariant-loop-last : goal.invariant-loop-last

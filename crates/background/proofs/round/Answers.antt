@@ -1,5 +1,4 @@
 use mathlib.Core.Path.{refl}
-use borrow.Author.Rules.{rules}
 use Rattle.class_order.proofs.WordLaws.{no_bits}
 use Rattle.background.proofs.RoundLaws.{round_alike, none_alike, round_mutual, round_saturated}
 use Rattle.background.proofs.round.Goals as goal

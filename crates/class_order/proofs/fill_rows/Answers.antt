@@ -1,8 +1,4 @@
-use Prim.Native.Nat.{◌+◌}
-use borrow.Author.Rules.{rules}
-use Rattle.partition.specs.Blocks.{one_if}
-use Rattle.class_order.specs.Rows.{room}
-use Rattle.class_order.proofs.FillLaws.{FillPart, fill_none, fill_more, fill_composed, fill_less, fill_all}
+use Rattle.class_order.proofs.FillLaws.{fill_none, fill_more, fill_composed, fill_less, fill_all}
 use Rattle.class_order.proofs.fill_rows.Goals as goal
 
 pub pass-requires : goal.pass-requires

@@ -1,9 +1,8 @@
 -- The invariant: the rows hold the class terms, and nothing but paths; where the last pass changed nothing, the literals have nothing to add.
 use Prim.Native.Nat.{◌+◌}
-use borrow.Author.Rules.{rules}
 use Rattle.partition.specs.Blocks.{one_if}
 use Rattle.class_order.specs.Rows.{room}
-use Rattle.class_order.proofs.FillLaws.{FillPart, fill_none, fill_more, fill_composed, fill_less, fill_all}
+use Rattle.class_order.proofs.FillLaws.{FillPart}
 use Rattle.class_order.proofs.fill_rows.Given as goal
 
 abbrev pub invariant-loop-more : goal.invariant-loop-more

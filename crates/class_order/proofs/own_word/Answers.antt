@@ -1,5 +1,4 @@
 use native.Mathlib.Omega.{arith}
-use borrow.Author.Rules.{rules}
 use Rattle.mentions.proofs.BitLaws.{own_here}
 use Rattle.class_order.proofs.WordLaws.{own_elsewhere}
 use Rattle.class_order.proofs.own_word.Goals as goal

@@ -1,7 +1,5 @@
-use Prim.Native.Nat.{◌-◌}
 use native.Mathlib.Omega.{arith}
-use borrow.Author.Rules.{rules}
-use Rattle.class_order.proofs.FillLaws.{PassPart, pass_none, pass_more, pass_all}
+use Rattle.class_order.proofs.FillLaws.{pass_none, pass_more, pass_all}
 use Rattle.class_order.proofs.pass.Goals as goal
 
 pub raise_literal-new-requires : goal.raise_literal-new-requires

@@ -1,8 +1,6 @@
 -- The invariant: the literals before i are in the rows, and have nothing to add where nothing has changed.
 use Prim.Native.Nat.{◌-◌}
-use native.Mathlib.Omega.{arith}
-use borrow.Author.Rules.{rules}
-use Rattle.class_order.proofs.FillLaws.{PassPart, pass_none, pass_more, pass_all}
+use Rattle.class_order.proofs.FillLaws.{PassPart}
 use Rattle.class_order.proofs.pass.Given as goal
 
 abbrev pub invariant-loop-i : goal.invariant-loop-i

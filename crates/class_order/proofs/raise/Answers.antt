@@ -1,7 +1,5 @@
-use Prim.Native.Nat.{◌-◌}
 use native.Mathlib.Omega.{arith}
-use borrow.Author.Rules.{rules}
-use Rattle.class_order.proofs.WordLaws.{RaisedPart, raised_none, raised_more, raised_all}
+use Rattle.class_order.proofs.WordLaws.{raised_none, raised_more, raised_all}
 use Rattle.class_order.proofs.raise.Goals as goal
 
 pub loop-i-preserved : goal.loop-i-preserved

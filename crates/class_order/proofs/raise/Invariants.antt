@@ -1,8 +1,6 @@
 -- The invariant: the words before i of the row are joined, and the others as they were.
 use Prim.Native.Nat.{◌-◌}
-use native.Mathlib.Omega.{arith}
-use borrow.Author.Rules.{rules}
-use Rattle.class_order.proofs.WordLaws.{RaisedPart, raised_none, raised_more, raised_all}
+use Rattle.class_order.proofs.WordLaws.{RaisedPart}
 use Rattle.class_order.proofs.raise.Given as goal
 
 abbrev pub invariant-loop-i : goal.invariant-loop-i

@@ -1,6 +1,4 @@
 use mathlib.Core.Path.{◌≡◌}
-use borrow.Author.Rules.{rules}
-use borrow.Author.Tests.{not-true, not-false}
 use Rattle.tableau.specs.declared.Sort.{Sort}
 use Rattle.tableau.specs.Terms.{Table, at, sort_of, same_sort}
 use Rattle.packing.specs.Packing.{Packs}

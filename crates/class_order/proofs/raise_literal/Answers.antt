@@ -1,6 +1,5 @@
 use mathlib.Core.Path.{◌∙◌, ap, subst}
 use native.Mathlib.Omega.{arith}
-use borrow.Author.Rules.{rules}
 use Rattle.tableau.specs.declared.Relation.{Relation}
 use Rattle.tableau.specs.Terms.{relation_index}
 use Rattle.packing.specs.Packing.{literal_of, Small, SmallLiteral}

@@ -1,5 +1,4 @@
 use mathlib.Core.Path.{sym, ◌∙◌}
-use borrow.Author.Rules.{rules}
 use Rattle.class_order.proofs.RowLaws.{unchanged, raised_composed}
 use Rattle.class_order.proofs.raise_pair.Goals as goal
 

@@ -1,8 +1,5 @@
 use mathlib.Core.List.{[]}
-use Prim.Native.Nat.{◌-◌}
 use native.Mathlib.Omega.{arith}
-use borrow.Author.Rules.{rules}
-use Rattle.class_order.specs.Rows.{Words, Composed}
 use Rattle.class_order.proofs.RowLaws.{unchanged, extended_then}
 use Rattle.class_order.proofs.raise_pairs.Goals as goal
 

@@ -1,10 +1,6 @@
 -- The invariant: the rows have what they had, and what follows from it.
-use mathlib.Core.List.{[]}
 use Prim.Native.Nat.{◌-◌}
-use native.Mathlib.Omega.{arith}
-use borrow.Author.Rules.{rules}
 use Rattle.class_order.specs.Rows.{Words, Composed}
-use Rattle.class_order.proofs.RowLaws.{unchanged, extended_then}
 use Rattle.class_order.proofs.raise_pairs.Given as goal
 
 abbrev pub invariant-loop-i : goal.invariant-loop-i

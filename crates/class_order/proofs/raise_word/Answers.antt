@@ -1,4 +1,3 @@
-use borrow.Author.Rules.{rules}
 use Rattle.class_order.proofs.WordLaws.{word_same, word_new}
 use Rattle.class_order.proofs.raise_word.Goals as goal
 

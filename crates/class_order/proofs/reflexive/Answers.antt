@@ -1,7 +1,5 @@
-use Prim.Native.Nat.{◌+◌, ◌-◌}
 use native.Mathlib.Omega.{arith}
-use borrow.Author.Rules.{rules}
-use Rattle.class_order.proofs.FillLaws.{ClassPart, class_none, class_more, class_all}
+use Rattle.class_order.proofs.FillLaws.{class_none, class_more, class_all}
 use Rattle.class_order.proofs.reflexive.Goals as goal
 
 pub raise_class-requires : goal.raise_class-requires

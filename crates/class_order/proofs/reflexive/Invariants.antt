@@ -1,8 +1,6 @@
 -- The invariant: the class terms before t are under themselves.
 use Prim.Native.Nat.{◌+◌, ◌-◌}
-use native.Mathlib.Omega.{arith}
-use borrow.Author.Rules.{rules}
-use Rattle.class_order.proofs.FillLaws.{ClassPart, class_none, class_more, class_all}
+use Rattle.class_order.proofs.FillLaws.{ClassPart}
 use Rattle.class_order.proofs.reflexive.Given as goal
 
 abbrev pub invariant-loop-t : goal.invariant-loop-t

@@ -1,5 +1,4 @@
 use mathlib.Core.Path.{◌∙◌}
-use borrow.Author.Rules.{rules}
 use Rattle.class_order.proofs.terms_under.Goals as goal
 
 pub is_under-requires : goal.is_under-requires

@@ -1,7 +1,6 @@
 -- A clause stands between the end of the one before and its own.
 use Prim.Native.Nat.{◌≤◌}
 use native.Mathlib.Omega.{arith}
-use borrow.Author.Rules.{rules}
 use Rattle.clauses.proofs.Laws.{last_few, span_of}
 use Rattle.clauses.proofs.span_of.Goals as goal
 use Rattle.clauses.proofs.span_of.Goals.{Start}

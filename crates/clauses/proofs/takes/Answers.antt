@@ -3,9 +3,8 @@ use mathlib.Core.Path.{sym}
 use mathlib.Core.Logic.{inl, inr}
 use Prim.Native.Nat.{◌≤◌}
 use native.Mathlib.Omega.{arith}
-use borrow.Author.Rules.{rules}
 use borrow.Author.Tests.{lt-ltb, le-ltb}
-use Rattle.clauses.proofs.Laws.{last_few, span_of, takes_next, takes_neither, takes_last}
+use Rattle.clauses.proofs.Laws.{last_few, takes_next, takes_neither, takes_last}
 use Rattle.clauses.proofs.takes.Goals as goal
 use Rattle.clauses.proofs.takes.Goals.{Start}
 

@@ -1,5 +1,5 @@
 -- Each arm is the function of its rule.
-use mathlib.Core.Path.{◌≡◌, refl}
+use mathlib.Core.Path.{refl}
 use Rattle.tableau.specs.declared.Reason.{Reason}
 use Rattle.tableau.specs.declared.Rule.{Rule}
 use Rattle.tableau.specs.Fields.{rule_fields}
@@ -7,9 +7,8 @@ use Rattle.tableau.specs.Rules.{rule}
 use Rattle.tableau.specs.Terms.{Table}
 use Rattle.table.specs.Held.{Entries}
 use Rattle.rules.specs.declared.outcome.Outcome.{Outcome}
-use Rattle.conclusions.specs.Infers.{Given, Infers}
+use Rattle.conclusions.specs.Infers.{Infers}
 use Rattle.conclusions.proofs.Laws.{given_as, infers, infers_fresh, infers_background, not_rep, not_cla}
-use borrow.Author.Rules.{rules}
 use Rattle.conclusions.proofs.by_rule.Goals as goal
 use Rattle.conclusions.proofs.by_rule.Goals.{After-all, After-bck, After-cls, After-cpe, After-cpi, After-cue, After-cui, After-cut, After-dfe, After-dfi, After-emp, After-eql, After-eqr, After-ext, After-fin, After-img, After-lea, After-ler, After-nul, After-rdh, After-rdm, After-reflexive, After-sep, After-sge, After-sgi, After-sub, After-sym, After-transitive, After-trn, After-wit, In-Cla, In-Rep, Start}
 

@@ -2,14 +2,12 @@
 use mathlib.Core.Path.{◌≡◌, refl, sym, subst}
 use Rattle.tableau.specs.Fields.{rule_fields}
 use Rattle.tableau.specs.Rules.{rule}
-use Rattle.rules.specs.declared.outcome.Outcome.{Outcome}
 use Rattle.syntax.specs.declared.ThirdField as declared
 use Rattle.syntax.specs.Syntax.{ThirdFits, third_in, kind_in}
 use Rattle.conclusions.specs.Infers.{Given, Infers}
 use Rattle.conclusions.proofs.Laws.{infers, is_rep}
 use Prim.Native.Nat.{◌<◌}
 use native.Mathlib.Omega.{arith}
-use borrow.Author.Rules.{rules}
 use Rattle.conclusions.proofs.conclude.Goals as goal
 use Rattle.conclusions.proofs.conclude.Goals.{Start}
 

@@ -1,4 +1,3 @@
-use borrow.Author.Rules.{rules}
 use Rattle.tableau.specs.Basics.{four}
 use Rattle.congruence.proofs.blocks_of.Goals as goal
 

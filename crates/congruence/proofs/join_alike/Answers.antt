@@ -1,9 +1,7 @@
 use mathlib.Core.Path.{refl}
-use Prim.Native.Nat.{◌-◌}
 use native.Mathlib.Omega.{arith}
-use borrow.Author.Rules.{rules}
 use Rattle.table.proofs.GrowthLaws.{chains_empty}
-use Rattle.congruence.proofs.AlikeLaws.{Part, part_none, part_step, part_all}
+use Rattle.congruence.proofs.AlikeLaws.{part_none, part_step, part_all}
 use Rattle.congruence.proofs.join_alike.Goals as goal
 
 pub loop-m-init : goal.loop-m-init

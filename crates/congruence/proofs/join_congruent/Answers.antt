@@ -1,5 +1,3 @@
-use borrow.Author.Rules.{rules}
-use borrow.Author.Tests.{not-true, not-false}
 use Rattle.congruence.proofs.AlikeLaws.{alike_more, alike_as}
 use Rattle.congruence.proofs.join_congruent.Goals as goal
 

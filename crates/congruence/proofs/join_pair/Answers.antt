@@ -1,6 +1,4 @@
 use mathlib.Core.Path.{sym, ◌∙◌}
-use borrow.Author.Rules.{rules}
-use borrow.Author.Tests.{not-false}
 use Rattle.partition.proofs.JoinLaws.{unchanged}
 use Rattle.congruence.proofs.SignatureLaws.{signed_follow}
 use Rattle.congruence.proofs.join_pair.Goals as goal

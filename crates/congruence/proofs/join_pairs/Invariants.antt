@@ -1,8 +1,5 @@
 -- The invariant: what the first i pairs have joined.
 use Prim.Native.Nat.{◌-◌}
-use native.Mathlib.Omega.{arith}
-use borrow.Author.Rules.{rules}
-use Rattle.partition.proofs.JoinLaws.{unchanged, changed_then}
 use Rattle.congruence.specs.Signatures.{JoinedSome}
 use Rattle.congruence.proofs.join_pairs.Given as goal
 

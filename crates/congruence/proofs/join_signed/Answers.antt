@@ -1,7 +1,5 @@
 use mathlib.Core.Path.{sym, ◌∙◌, subst}
 use native.Mathlib.Omega.{arith}
-use borrow.Author.Rules.{rules}
-use borrow.Author.Tests.{not-true, not-false}
 use Rattle.table.specs.Held.{Sought}
 use Rattle.congruence.proofs.AlikeLaws.{signed_not, signed_new, signed_met}
 use Rattle.congruence.proofs.join_signed.Goals as goal

@@ -1,5 +1,4 @@
 use mathlib.Core.Path.{sym, ◌∙◌}
-use borrow.Author.Rules.{rules}
 use Rattle.congruence.proofs.sign.Goals as goal
 
 pub returns-then-takes_terms : goal.returns-then-takes_terms

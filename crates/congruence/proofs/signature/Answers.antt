@@ -1,5 +1,4 @@
 use mathlib.Core.Path.{sym, ◌∙◌, ap, subst}
-use borrow.Author.Rules.{rules}
 use Rattle.tableau.specs.Basics.{map_four}
 use Rattle.packing.specs.Packing.{AllSmall, with_fields}
 use Rattle.partition.specs.Blocks.{block_of}

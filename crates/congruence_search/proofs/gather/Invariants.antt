@@ -1,5 +1,4 @@
 use Prim.Native.Nat.{◌+◌, ◌-◌}
-use borrow.Author.Rules.{rules}
 use Rattle.congruence_search.proofs.gather.Given as goal
 
 abbrev pub invariant-loop-x : goal.invariant-loop-x

@@ -1,4 +1,3 @@
-use borrow.Author.Rules.{rules}
 use Rattle.congruence_search.specs.Search.{Within}
 use Rattle.congruence_search.proofs.plan.Given as goal
 

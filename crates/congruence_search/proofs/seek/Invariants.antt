@@ -1,5 +1,4 @@
 use Prim.Native.Nat.{◌-◌}
-use borrow.Author.Rules.{rules}
 use Rattle.congruence_search.proofs.seek.Given as goal
 
 abbrev pub invariant-loop-hops : goal.invariant-loop-hops

@@ -1,5 +1,4 @@
 use Prim.Native.Nat.{◌<◌}
-use borrow.Author.Rules.{rules}
 use Rattle.congruence_search.specs.Search.{Within}
 use Rattle.congruence_search.proofs.wake.Given as goal
 

@@ -1,5 +1,4 @@
 -- The number is that of the reason.
-use borrow.Author.Rules.{rules}
 use Rattle.evaluation_reply.proofs.refused.Goals as goal
 
 pub returns : goal.returns

@@ -1,5 +1,4 @@
 -- The file and the line are put behind the number.
-use borrow.Author.Rules.{rules}
 use Rattle.evaluation.specs.Evaluation.{evaluation_line}
 use Rattle.reply.proofs.NumberFields.{two_texts}
 use Rattle.evaluation_reply.proofs.write_line.Goals as goal

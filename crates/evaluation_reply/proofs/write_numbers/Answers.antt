@@ -1,5 +1,4 @@
 -- The three numbers fill the buffer.
-use borrow.Author.Rules.{rules}
 use Rattle.evaluation.specs.Evaluation.{evaluation_bytes}
 use Rattle.evaluation_reply.proofs.write_numbers.Goals as goal
 

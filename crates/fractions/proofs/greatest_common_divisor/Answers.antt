@@ -1,7 +1,6 @@
 use mathlib.Core.Path.{◌≡◌}
 use mathlib.Core.Logic.Iff
-use mathlib.Core.Logic.{◌↔◌}
-use Prim.Native.Nat.{ℕ, ◌%◌, ◌∣◌}
+use Prim.Native.Nat.{ℕ, ◌%◌}
 use native.Mathlib.Nat.{mod-lt, dvd-mod_iff, dvd-zero}
 use native.Mathlib.Omega.{arith}
 use Rattle.statistics.proofs.LowestTerms.{DivisorsOfBoth, common_divisor_unique}

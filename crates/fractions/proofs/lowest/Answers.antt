@@ -1,5 +1,4 @@
 -- The divisor is the specification's, so it is not 0, and the quotients are the specification's.
-use borrow.Author.Rules.{rules}
 use Prim.Native.Nat.{◌/◌}
 use mathlib.Core.Path.{ap}
 use Rattle.statistics.specs.Fractions.{◌over◌, lowest}

@@ -1,12 +1,7 @@
-use mathlib.Core.Path.{◌≡◌, refl}
-use Prim.Native.Nat.{◌-◌}
+use mathlib.Core.Path.{refl}
 use native.Mathlib.Omega.{arith}
-use borrow.Author.Rules.{rules}
-use lib.ListN.{length}
-use Rattle.mentions.specs.Mentions.{Filled}
 use Rattle.mentions.proofs.RowLaws.{filled_none, filled_more, filled_all}
-use Rattle.freshness.specs.Prefixes.{prefix_length, next_bits}
-use Rattle.freshness.proofs.PrefixLaws.{Ahead, ahead_more, next_bits_lem}
+use Rattle.freshness.proofs.PrefixLaws.{ahead_more, next_bits_lem}
 use Rattle.freshness.proofs.fill.Goals as goal
 
 pub loop-k-preserved : goal.loop-k-preserved

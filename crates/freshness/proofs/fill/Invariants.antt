@@ -1,13 +1,10 @@
 -- The invariant: the words before k are filled, and no row before i is changed, nor its words from k on.
-use mathlib.Core.Path.{◌≡◌, refl}
+use mathlib.Core.Path.{◌≡◌}
 use Prim.Native.Nat.{◌-◌}
-use native.Mathlib.Omega.{arith}
-use borrow.Author.Rules.{rules}
 use lib.ListN.{length}
 use Rattle.mentions.specs.Mentions.{Filled}
-use Rattle.mentions.proofs.RowLaws.{filled_none, filled_more, filled_all}
 use Rattle.freshness.specs.Prefixes.{prefix_length, next_bits}
-use Rattle.freshness.proofs.PrefixLaws.{Ahead, ahead_more, next_bits_lem}
+use Rattle.freshness.proofs.PrefixLaws.{Ahead}
 use Rattle.freshness.proofs.fill.Given as goal
 
 abbrev pub invariant-loop-k : goal.invariant-loop-k

@@ -1,15 +1,13 @@
 use mathlib.Core.Path.{◌≡◌, sym, ◌∙◌, ap}
-use mathlib.Core.Bool.{false, ◌||◌}
+use mathlib.Core.Bool.{◌||◌}
 use mathlib.Core.List.{map}
-use Prim.Native.Nat.{◌+◌, ◌<◌, ◌≤◌, ◌-◌}
+use Prim.Native.Nat.{◌+◌}
 use native.Mathlib.Numerals.{add-one}
 use native.Mathlib.Omega.{arith}
-use borrow.Author.Rules.{rules}
-use lib.ListN.{length, take}
-use Rattle.tableau.specs.Terms.{Table, at, first_place, mentioned}
+use lib.ListN.{take}
+use Rattle.tableau.specs.Terms.{at, first_place}
 use Rattle.tableau.proofs.FirstPlace.{mentioned_none}
 use Rattle.packing.specs.Packing.{unpack_literal}
-use Rattle.mentions.specs.Mentions.{MentionRows}
 use Rattle.freshness.specs.Prefixes.{place_or_zero}
 use Rattle.freshness.proofs.Laws.{mentioned_one_more, first_at, no_place}
 use Rattle.freshness.proofs.first_place.Goals as goal
@@ -21,12 +19,11 @@ returns-then-literal_mentions c table R e first =
     (c.loop-i.invariant.1 table R e first) (sym (c.literal_mentions.ensures table R e first) ∙ c.if-literal_mentions.true)))
 
 pub loop-i-preserved : goal.loop-i-preserved
-loop-i-preserved c =
-    (
-      omega arith,
-      λ table R e first. rw (add-one c.loop-i.i) (mentioned_one_more unpack_literal (at table) c.args.w.0 c.args.branch.now c.loop-i.i (omega (arith, c.requires))
-          ∙ (λ p. c.loop-i.invariant.1 table R e first p || (sym (c.literal_mentions.ensures table R e first) ∙ c.if-literal_mentions.false) p)),
-    )
+loop-i-preserved c = (
+  omega arith,
+  λ table R e first. rw (add-one c.loop-i.i) (mentioned_one_more unpack_literal (at table) c.args.w.0 c.args.branch.now c.loop-i.i (omega (arith, c.requires))
+      ∙ (λ p. c.loop-i.invariant.1 table R e first p || (sym (c.literal_mentions.ensures table R e first) ∙ c.if-literal_mentions.false) p)),
+)
 
 pub returns : goal.returns
 returns c table R e first =

@@ -2,7 +2,6 @@
 use mathlib.Core.Path.{sym, ◌∙◌, ap}
 use mathlib.Core.Bool.{false≢true}
 use native.Mathlib.Omega.{arith}
-use borrow.Author.Rules.{rules}
 use Rattle.tableau.specs.declared.Sort.{Sort}
 use Rattle.tableau.specs.Terms.{at, same_sort, sort_index}
 use Rattle.tableau.proofs.TableGrowth.{at_beyond}
@@ -21,5 +20,8 @@ returns-in_default-sort c = record { w_le_n = (λ e. absurd (false≢true e)); v
 pub returns : goal.returns
 unfolding sort_index
 returns c =
-    record { w_le_n = (λ e. omega arith); value = λ table E e. sym (view_variable (at table c.args.w.0) _ _ (sym c.in-Variable.is ∙ sym (c.view.ensures table E).is)
-          ∙ ap (same_sort Sort.Reference) c.in-Reference.is) }
+    record {
+      w_le_n = (λ e. omega arith);
+      value = λ table E e. sym (view_variable (at table c.args.w.0) _ _ (sym c.in-Variable.is ∙ sym (c.view.ensures table E).is)
+          ∙ ap (same_sort Sort.Reference) c.in-Reference.is);
+    }

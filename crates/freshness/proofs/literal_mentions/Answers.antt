@@ -1,7 +1,6 @@
 -- The bit of w in the rows of the two sides.
 use mathlib.Core.Path.{◌∙◌}
 use native.Mathlib.Omega.{arith}
-use borrow.Author.Rules.{rules}
 use lib.ListN.{length}
 use Rattle.packing.specs.Packing.{unpack_literal, left_in, right_in}
 use Rattle.freshness.specs.Prefixes.{SideRow}

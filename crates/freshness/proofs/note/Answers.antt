@@ -1,11 +1,4 @@
-use mathlib.Core.Path.{◌≡◌}
-use Prim.Native.Nat.{◌≤◌, ◌-◌}
 use native.Mathlib.Omega.{arith}
-use borrow.Author.Rules.{rules}
-use lib.ListN.{length}
-use Rattle.tableau.specs.Terms.{Table, Clauses}
-use Rattle.mentions.specs.Mentions.{MentionRows}
-use Rattle.freshness.specs.Prefixes.{PrefixRows}
 use Rattle.freshness.proofs.PrefixLaws.{prefix_less, prefix_more}
 use Rattle.freshness.proofs.note.Goals as goal
 
@@ -13,13 +6,12 @@ pub fill-requires : goal.fill-requires
 fill-requires c = (omega arith, omega (arith, c.requires), omega (arith, c.side_row-left.ensures.made, c.requires), omega (arith, c.side_row-right.ensures.made, c.requires))
 
 pub loop-i-preserved : goal.loop-i-preserved
-loop-i-preserved c =
-    (
-      omega arith,
-      λ table C R e P. let Q = c.loop-i.invariant.1 table C R e P in
-          prefix_more table C _ _ _ _ _ R (omega (arith, c.requires)) (rw (e, ← c.packed_left.ensures.0) c.side_row-left.ensures)
-          (rw (e, ← c.packed_right.ensures.0) c.side_row-right.ensures) _ _ Q (c.fill.ensures Q.size),
-    )
+loop-i-preserved c = (
+  omega arith,
+  λ table C R e P. let Q = c.loop-i.invariant.1 table C R e P in
+      prefix_more table C _ _ _ _ _ R (omega (arith, c.requires)) (rw (e, ← c.packed_left.ensures.0) c.side_row-left.ensures)
+      (rw (e, ← c.packed_right.ensures.0) c.side_row-right.ensures) _ _ Q (c.fill.ensures Q.size),
+)
 
 pub returns : goal.returns
 returns c table C R e P = prefix_less (omega arith) (c.loop-i.invariant.1 table C R e P)

@@ -1,13 +1,10 @@
 -- The invariant: the rows up to i are filled.
 use mathlib.Core.Path.{◌≡◌}
 use Prim.Native.Nat.{◌≤◌, ◌-◌}
-use native.Mathlib.Omega.{arith}
-use borrow.Author.Rules.{rules}
 use lib.ListN.{length}
 use Rattle.tableau.specs.Terms.{Table, Clauses}
 use Rattle.mentions.specs.Mentions.{MentionRows}
 use Rattle.freshness.specs.Prefixes.{PrefixRows}
-use Rattle.freshness.proofs.PrefixLaws.{prefix_less, prefix_more}
 use Rattle.freshness.proofs.note.Given as goal
 
 abbrev pub invariant-loop-i : goal.invariant-loop-i

@@ -4,10 +4,8 @@ use mathlib.Core.Bool.{true, ◌||◌}
 use mathlib.Core.List.{map}
 use Prim.Native.Nat.{◌≤◌}
 use native.Mathlib.Omega.{arith}
-use borrow.Author.Rules.{rules}
-use borrow.Author.Tests.{not-true, not-false}
 use lib.ListN.{length, take}
-use Rattle.tableau.specs.Terms.{TermNo, Table, Clauses, at, disjuncts, mentioned}
+use Rattle.tableau.specs.Terms.{Table, Clauses, at, disjuncts, mentioned}
 use Rattle.tableau.specs.Steps.{is_rfv, not_fresh}
 use Rattle.packing.specs.Packing.{unpack_literal}
 use Rattle.table.specs.Held.{Entries}

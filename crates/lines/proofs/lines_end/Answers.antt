@@ -1,7 +1,5 @@
-use Prim.Native.Nat.{◌≤◌}
-use lib.ListN.{length}
 use borrow.Author.Rules.{rules}
-use Rattle.lines.proofs.FileSteps.{NoneBehind, none_at_end, none_before_lem, last_here, no_last}
+use Rattle.lines.proofs.FileSteps.{none_at_end, none_before_lem, last_here, no_last}
 use Rattle.lines.proofs.lines_end.Goals as goal
 
 pub loop-end-init : goal.loop-end-init

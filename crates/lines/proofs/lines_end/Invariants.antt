@@ -1,8 +1,7 @@
 -- The loop's invariant: there is no LF from end on. The measure is what is left before it.
 use Prim.Native.Nat.{◌≤◌}
 use lib.ListN.{length}
-use borrow.Author.Rules.{rules}
-use Rattle.lines.proofs.FileSteps.{NoneBehind, none_at_end, none_before_lem, last_here, no_last}
+use Rattle.lines.proofs.FileSteps.{NoneBehind}
 use Rattle.lines.proofs.lines_end.Given as goal
 
 abbrev pub invariant-loop-end : goal.invariant-loop-end

@@ -1,10 +1,6 @@
-use Prim.Native.Nat.{◌-◌}
-use lib.ListN.{length}
 use borrow.Author.Rules.{rules}
-use Rattle.lines.specs.Lines.{LFAhead}
-use Rattle.lines.specs.ByteSteps.{DigitsFit}
 use Rattle.lines.proofs.FileSteps.{ahead_here}
-use Rattle.lines.proofs.Bytes.{DigitsSoFar, digits_start, digits-read}
+use Rattle.lines.proofs.Bytes.{digits_start, digits-read}
 use Rattle.lines.proofs.read_digits.Goals as goal
 
 pub loop-next-init : goal.loop-next-init

@@ -2,11 +2,9 @@
 -- what is left of the file.
 use Prim.Native.Nat.{◌-◌}
 use lib.ListN.{length}
-use borrow.Author.Rules.{rules}
 use Rattle.lines.specs.Lines.{LFAhead}
 use Rattle.lines.specs.ByteSteps.{DigitsFit}
-use Rattle.lines.proofs.FileSteps.{ahead_here}
-use Rattle.lines.proofs.Bytes.{DigitsSoFar, digits_start, digits-read}
+use Rattle.lines.proofs.Bytes.{DigitsSoFar}
 use Rattle.lines.proofs.read_digits.Given as goal
 
 abbrev pub invariant-loop-next : goal.invariant-loop-next

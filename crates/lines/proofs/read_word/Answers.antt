@@ -1,11 +1,7 @@
-use Prim.Native.Nat.{◌-◌}
 use native.Mathlib.Omega.{arith}
-use lib.ListN.{length}
 use borrow.Author.Rules.{rules}
-use Rattle.lines.specs.Lines.{LFAhead}
-use Rattle.lines.specs.ByteSteps.{LettersFit}
 use Rattle.lines.proofs.FileSteps.{ahead_here}
-use Rattle.lines.proofs.Bytes.{WordSoFar, word_starts, word_read}
+use Rattle.lines.proofs.Bytes.{word_starts, word_read}
 use Rattle.lines.proofs.read_word.Goals as goal
 
 pub loop-next-init : goal.loop-next-init

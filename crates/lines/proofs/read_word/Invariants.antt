@@ -1,13 +1,10 @@
 -- The loop's invariant: the steps from i on, with value and count, come to what they come to from the word's first byte on, and an LF is ahead. The measure is
 -- what is left of the file.
 use Prim.Native.Nat.{◌-◌}
-use native.Mathlib.Omega.{arith}
 use lib.ListN.{length}
-use borrow.Author.Rules.{rules}
 use Rattle.lines.specs.Lines.{LFAhead}
 use Rattle.lines.specs.ByteSteps.{LettersFit}
-use Rattle.lines.proofs.FileSteps.{ahead_here}
-use Rattle.lines.proofs.Bytes.{WordSoFar, word_starts, word_read}
+use Rattle.lines.proofs.Bytes.{WordSoFar}
 use Rattle.lines.proofs.read_word.Given as goal
 
 abbrev pub invariant-loop-next : goal.invariant-loop-next

@@ -1,8 +1,4 @@
-use mathlib.Core.Bool.{false}
-use Prim.Native.Nat.{◌-◌}
 use native.Mathlib.Omega.{arith}
-use borrow.Author.Rules.{rules}
-use Rattle.mentions.specs.Mentions.{Filled}
 use Rattle.mentions.proofs.BitLaws.{bit_zero}
 use Rattle.mentions.proofs.RowLaws.{filled_none, filled_more, filled_all}
 use Rattle.mentions.proofs.clear.Goals as goal

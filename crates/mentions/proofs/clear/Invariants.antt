@@ -1,11 +1,7 @@
 -- The invariant: the words before i are 0, and no row below is changed.
 use mathlib.Core.Bool.{false}
 use Prim.Native.Nat.{◌-◌}
-use native.Mathlib.Omega.{arith}
-use borrow.Author.Rules.{rules}
 use Rattle.mentions.specs.Mentions.{Filled}
-use Rattle.mentions.proofs.BitLaws.{bit_zero}
-use Rattle.mentions.proofs.RowLaws.{filled_none, filled_more, filled_all}
 use Rattle.mentions.proofs.clear.Given as goal
 
 abbrev pub invariant-loop-i : goal.invariant-loop-i

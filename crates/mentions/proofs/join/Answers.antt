@@ -1,8 +1,4 @@
-use Prim.Native.Nat.{◌-◌}
 use native.Mathlib.Omega.{arith}
-use borrow.Author.Rules.{rules}
-use Rattle.syntax.specs.Syntax.{arguments_in}
-use Rattle.mentions.specs.Mentions.{joined_bit, Filled}
 use Rattle.mentions.proofs.RowLaws.{filled_none, joined_more, filled_all}
 use Rattle.mentions.proofs.join.Goals as goal
 

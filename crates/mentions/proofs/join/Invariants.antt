@@ -1,10 +1,7 @@
 -- The invariant: the words before i are joined, and no row below is changed.
 use Prim.Native.Nat.{◌-◌}
-use native.Mathlib.Omega.{arith}
-use borrow.Author.Rules.{rules}
 use Rattle.syntax.specs.Syntax.{arguments_in}
 use Rattle.mentions.specs.Mentions.{joined_bit, Filled}
-use Rattle.mentions.proofs.RowLaws.{filled_none, joined_more, filled_all}
 use Rattle.mentions.proofs.join.Given as goal
 
 abbrev pub invariant-loop-i : goal.invariant-loop-i

@@ -1,5 +1,4 @@
 -- Each arm knows the term.
-use borrow.Author.Rules.{rules}
 use Rattle.mentions.proofs.note.Goals as goal
 
 pub join-requires : goal.join-requires

@@ -1,6 +1,5 @@
 -- The word with the term's own bit has that bit beside its others; no other word is changed.
 use native.Mathlib.Omega.{arith}
-use borrow.Author.Rules.{rules}
 use Rattle.mentions.proofs.RowLaws.{own_set}
 use Rattle.mentions.proofs.set_own.Goals as goal
 

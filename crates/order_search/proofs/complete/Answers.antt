@@ -1,7 +1,5 @@
-use Prim.Native.Nat.{◌-◌, ◌≤◌}
 use native.Mathlib.Omega.{arith}
 use borrow.Author.Rules.{rules}
-use Rattle.order_search.specs.Search.{Within}
 use Rattle.order_search.proofs.complete.Goals as goal
 
 pub loop-i-init : goal.loop-i-init

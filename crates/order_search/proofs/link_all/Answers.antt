@@ -1,6 +1,4 @@
-use Prim.Native.Nat.{◌-◌, ◌≤◌}
 use native.Mathlib.Omega.{arith}
-use borrow.Author.Rules.{rules}
 use Rattle.order_search.proofs.link_all.Goals as goal
 
 pub bounds-branch-i : goal.bounds-branch-i

@@ -1,5 +1,3 @@
-use native.Mathlib.Omega.{arith}
-use borrow.Author.Rules.{rules}
 use Rattle.order_search.specs.Search.{Within}
 use Rattle.order_search.proofs.search_from.Given as goal
 

@@ -1,6 +1,5 @@
 -- A C line uses three fields, any other two.
 use mathlib.Core.Path.{◌≡◌, refl}
-use borrow.Author.Rules.{rules}
 use Rattle.tableau.specs.declared.Letter.{Letter}
 use Rattle.tableau.specs.declared.Relation.{Relation}
 use Rattle.syntax.specs.Syntax.{mask_of}

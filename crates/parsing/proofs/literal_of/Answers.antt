@@ -1,6 +1,5 @@
 -- Check 6 passes where the fields outside the mask are 0.
 use mathlib.Core.Path.{refl, sym, ◌∙◌}
-use borrow.Author.Tests.{not-true, not-false}
 use Rattle.parsing.specs.Taken.{literal_fields}
 use Rattle.parsing.proofs.literal_of.Goals as goal
 

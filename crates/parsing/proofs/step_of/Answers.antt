@@ -1,6 +1,5 @@
 -- The step has the row's rule and mask, and the line's fields.
 use mathlib.Core.Path.{refl, sym, ◌∙◌}
-use borrow.Author.Tests.{not-true, not-false}
 use Rattle.tableau.specs.Fields.{rule_uses}
 use Rattle.parsing.proofs.step_of.Goals as goal
 

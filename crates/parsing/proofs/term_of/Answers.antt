@@ -1,7 +1,5 @@
 -- A variable uses its first field alone, and the others are 0 where check 6 passes.
 use mathlib.Core.Path.{refl, sym, ◌∙◌}
-use borrow.Author.Rules.{rules}
-use borrow.Author.Tests.{not-true, not-false}
 use Rattle.tableau.specs.declared.Word.{Word}
 use Rattle.tableau.specs.Fields.{word_fields}
 use Rattle.lines.specs.Lines.{numbers_of}

@@ -1,6 +1,5 @@
 -- The first field that fails its test decides; else the last field does.
 use mathlib.Core.Path.{◌∙◌, sym}
-use borrow.Author.Tests.{not-true, not-false}
 use Rattle.parsing.proofs.Masks.{tests}
 use Rattle.parsing.proofs.unused_zero.Goals as goal
 

@@ -1,4 +1,3 @@
-use borrow.Author.Rules.{rules}
 use Rattle.partition.proofs.JoinLaws.{joined, joined_already}
 use Rattle.partition.proofs.join.Goals as goal
 

@@ -1,7 +1,5 @@
-use Prim.Native.Nat.{◌-◌}
 use native.Mathlib.Omega.{arith}
-use borrow.Author.Rules.{rules}
-use Rattle.partition.proofs.ArrayLaws.{Part, part_none, part_more, part_all}
+use Rattle.partition.proofs.ArrayLaws.{part_none, part_more, part_all}
 use Rattle.partition.proofs.merge.Goals as goal
 
 pub loop-i-preserved : goal.loop-i-preserved

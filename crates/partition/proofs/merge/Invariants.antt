@@ -1,8 +1,6 @@
 -- The invariant: the entries before i are renamed, and the others as they were.
 use Prim.Native.Nat.{◌-◌}
-use native.Mathlib.Omega.{arith}
-use borrow.Author.Rules.{rules}
-use Rattle.partition.proofs.ArrayLaws.{Part, part_none, part_more, part_all}
+use Rattle.partition.proofs.ArrayLaws.{Part}
 use Rattle.partition.proofs.merge.Given as goal
 
 abbrev pub invariant-loop-i : goal.invariant-loop-i

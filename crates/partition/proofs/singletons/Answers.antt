@@ -1,9 +1,7 @@
 use mathlib.Core.Path.{refl}
-use Prim.Native.Nat.{◌-◌}
 use native.Mathlib.Omega.{arith}
-use borrow.Author.Rules.{rules}
 use Rattle.partition.proofs.Loops.{nothing_yet}
-use Rattle.partition.proofs.ArrayLaws.{Numbered, numbered_more, numbered_all}
+use Rattle.partition.proofs.ArrayLaws.{numbered_more, numbered_all}
 use Rattle.partition.proofs.singletons.Goals as goal
 
 pub loop-i-init : goal.loop-i-init

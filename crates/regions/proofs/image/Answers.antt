@@ -1,6 +1,5 @@
 use mathlib.Core.Path.{ap}
 use lib.Bits.{bit_and}
-use borrow.Author.Rules.{rules}
 use Rattle.regions.proofs.image.Goals as goal
 
 pub returns : goal.returns

@@ -1,10 +1,7 @@
 -- The invariant: `out` is what the row gives for the members below x.
-use mathlib.Core.Path.{◌≡◌, ◌∙◌, ap}
-use Prim.Native.Nat.{ℕ, ◌-◌, ◌≤◌}
-use native.Mathlib.Omega.{arith}
-use borrow.Author.Rules.{rules}
+use mathlib.Core.Path.{◌≡◌}
+use Prim.Native.Nat.{◌-◌, ◌≤◌}
 use Rattle.regions.specs.Masks.{reached_below}
-use Rattle.regions.proofs.MaskLaws.{reach_more}
 use Rattle.regions.proofs.reached.Given as goal
 
 abbrev pub invariant-loop-x : goal.invariant-loop-x

@@ -1,6 +1,5 @@
-use Prim.Native.Nat.{◌-◌}
 use borrow.Author.Rules.{rules}
-use Rattle.regions.proofs.RowLaws.{Compared, compare_start, compare_more, compare_end}
+use Rattle.regions.proofs.RowLaws.{compare_start, compare_more, compare_end}
 use Rattle.regions.proofs.same_rows.Goals as goal
 
 pub loop-i-init : goal.loop-i-init

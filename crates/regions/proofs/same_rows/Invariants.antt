@@ -1,7 +1,6 @@
 -- The invariant: nothing differs so far just where the rows agree below i.
 use Prim.Native.Nat.{◌-◌}
-use borrow.Author.Rules.{rules}
-use Rattle.regions.proofs.RowLaws.{Compared, compare_start, compare_more, compare_end}
+use Rattle.regions.proofs.RowLaws.{Compared}
 use Rattle.regions.proofs.same_rows.Given as goal
 
 abbrev pub invariant-loop-i : goal.invariant-loop-i

@@ -1,7 +1,6 @@
 -- Each arm knows the test.
 use mathlib.Core.Path.{sym, ap}
 use mathlib.Core.Bool.{Bool}
-use borrow.Author.Rules.{rules}
 use Rattle.regions.specs.Masks.{single_if}
 use Rattle.regions.proofs.single_if.Goals as goal
 

@@ -1,5 +1,4 @@
 -- Each arm is the number of its reason.
-use borrow.Author.Rules.{rules}
 use Rattle.tableau.specs.Reply.{refusal_of}
 use Rattle.reply.proofs.reason_number.Goals as goal
 

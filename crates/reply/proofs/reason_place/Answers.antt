@@ -1,5 +1,5 @@
 -- A reason other than that w is not fresh has no place.
-use mathlib.Core.Path.{refl, sym}
+use mathlib.Core.Path.{sym}
 use mathlib.Core.Logic.{⊎_elim}
 use Rattle.tableau.specs.Reply.{refusal_of}
 use Rattle.tableau.proofs.Refusals.{reason_fits}

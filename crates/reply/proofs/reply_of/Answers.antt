@@ -1,5 +1,4 @@
 -- Each arm has the numbers of its verdict.
-use borrow.Author.Rules.{rules}
 use Rattle.tableau.specs.Reply.{reply_of}
 use Rattle.reply.proofs.reply_of.Goals as goal
 

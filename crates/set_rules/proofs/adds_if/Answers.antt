@@ -1,5 +1,4 @@
 -- `adds_if` adds the literal where the test holds.
-use borrow.Author.Tests.{not-true, not-false}
 use Rattle.set_rules.proofs.adds_if.Goals as goal
 
 pub returns-then-not-holds : goal.returns-then-not-holds
@@ -10,6 +9,6 @@ adds_one-requires c = c.requires
 
 pub returns : goal.returns
 returns c = record {
-      room = c.adds_one.ensures.room;
-      answers = rw c.if-not-holds.false c.adds_one.ensures.adds;
-    }
+  room = c.adds_one.ensures.room;
+  answers = rw c.if-not-holds.false c.adds_one.ensures.adds;
+}

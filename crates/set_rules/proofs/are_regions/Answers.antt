@@ -1,5 +1,4 @@
 -- The first is no region, or the second decides.
-use borrow.Author.Rules.{rules}
 use mathlib.Core.Path.{sym, ◌∙◌}
 use Rattle.set_rules.proofs.are_regions.Goals as goal
 

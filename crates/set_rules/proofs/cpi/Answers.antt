@@ -32,7 +32,8 @@ returns c =
     elim c.if-u-v.branch [ then-u-v w ↦ and_holds w.t-19-is (eq-eqb _ _ w.if-u-v.true) | else-u-v w ↦ and_fails _ w.t-19-is (ne_eqb _ _ w.if-u-v.false) ] in
     let three : c.if-r-a.adds_if ≡ (c.if-u-v.t-19 && eqb c.in-In-q.s.0 c.in-Cap.b.0) =
     elim c.if-r-a.branch [
-      then-r-a w ↦ and_holds w.adds_if-is (both ∙ both_equal w.if-r-a.true) | else-r-a w ↦ and_fails _ w.adds_if-is (both ∙ not_both_equal w.if-r-a.either)
+      | then-r-a w ↦ and_holds w.adds_if-is (both ∙ both_equal w.if-r-a.true)
+      | else-r-a w ↦ and_fails _ w.adds_if-is (both ∙ not_both_equal w.if-r-a.either)
     ] in
     joins refl refl (ap literal_of c.in-In.is) (ap literal_of c.in-In-q.is) (λ e. is_cap e _ _) c.in-Cap.is c.view.ensures both three
     (rw c.literal.ensures at c.adds_if.ensures)

@@ -38,7 +38,8 @@ pub returns : goal.returns
 returns c =
     let told : c.if-x-r.adds_if ≡ (eqb c.in-In.x.0 c.in-Cup.r.0 || eqb c.in-In.x.0 c.in-Cup.s.0) =
     elim c.if-x-r.branch [
-      then-x-r w ↦ or_holds _ w.adds_if-is (eq-eqb _ _ w.if-x-r.true) | else-x-r w ↦ or_fails w.adds_if-is (ne_eqb _ _ w.if-x-r.false)
+      | then-x-r w ↦ or_holds _ w.adds_if-is (eq-eqb _ _ w.if-x-r.true)
+      | else-x-r w ↦ or_fails w.adds_if-is (ne_eqb _ _ w.if-x-r.false)
     ] in
     united c.in-In.is c.in-Cup.is c.view.ensures told (rw c.literal.ensures at c.adds_if.ensures)
 

@@ -2,7 +2,6 @@ use mathlib.Core.Path.{refl}
 use Prim.Native.Nat.{◌+◌}
 use native.Mathlib.Omega.{arith}
 use Rattle.table.proofs.EntryLaws.{absent_none, absent_more}
-use borrow.Author.Rules.{rules}
 use Rattle.table.proofs.among_four.Goals as goal
 
 -- each test that holds shows a term that is there; where none does, none is

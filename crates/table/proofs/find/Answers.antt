@@ -1,7 +1,6 @@
 use mathlib.Core.Path.{sym, subst}
 use Rattle.table.specs.Held.{SmallFound}
 use Rattle.table.proofs.EntryLaws.{found_small}
-use borrow.Author.Rules.{rules}
 use Rattle.table.proofs.find.Goals as goal
 
 pub returns : goal.returns

@@ -1,4 +1,3 @@
-use borrow.Author.Rules.{rules}
 use Rattle.table.proofs.packed.Goals as goal
 
 pub returns : goal.returns

@@ -1,9 +1,7 @@
-use Prim.Native.Nat.{◌+◌, ◌-◌, ◌<◌, ◌≤◌}
 use native.Mathlib.Omega.{arith}
 use mathlib.Core.Path.{subst}
-use Rattle.table.specs.Held.{AmongFour, Absent}
+use Rattle.table.specs.Held.{AmongFour}
 use Rattle.table.proofs.EntryLaws.{absent_none, absent_both}
-use borrow.Author.Rules.{rules}
 use Rattle.table.proofs.scan.Goals as goal
 
 pub loop-t-preserved : goal.loop-t-preserved

@@ -1,10 +1,6 @@
 -- The invariant: no term before t is the one that is looked for.
 use Prim.Native.Nat.{◌+◌, ◌-◌, ◌<◌, ◌≤◌}
-use native.Mathlib.Omega.{arith}
-use mathlib.Core.Path.{subst}
-use Rattle.table.specs.Held.{AmongFour, Absent}
-use Rattle.table.proofs.EntryLaws.{absent_none, absent_both}
-use borrow.Author.Rules.{rules}
+use Rattle.table.specs.Held.{Absent}
 use Rattle.table.proofs.scan.Given as goal
 
 abbrev pub invariant-loop-t : goal.invariant-loop-t

@@ -1,12 +1,9 @@
 use mathlib.Core.Path.{refl}
 use mathlib.Core.Logic.{inl, inr}
-use Prim.Native.Nat.{◌+◌, ◌-◌, ◌<◌}
 use native.Mathlib.Omega.{arith}
 use lib.Dec.{ltb}
-use borrow.Author.Rules.{rules}
 use borrow.Author.Tests.{ltb-true, ltb-false}
 use Rattle.tableau.proofs.Bools.{dec}
-use Rattle.table.specs.Held.{Absent}
 use Rattle.table.proofs.EntryLaws.{absent_more}
 use Rattle.table.proofs.scan_from.Goals as goal
 

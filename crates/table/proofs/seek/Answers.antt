@@ -1,10 +1,8 @@
 use mathlib.Core.Path.{◌∙◌, ap}
-use Prim.Native.Nat.{ℕ, ◌-◌, ◌≤◌}
+use Prim.Native.Nat.{ℕ}
 use native.Mathlib.Omega.{arith}
-use borrow.Author.Rules.{rules}
 use lib.ListN.{get_or}
-use Rattle.tableau.specs.Terms.{max_terms}
-use Rattle.table.proofs.ChainLaws.{AllSeeking, seek_start, seek_next, seek_within}
+use Rattle.table.proofs.ChainLaws.{seek_start, seek_next, seek_within}
 use Rattle.table.proofs.seek.Goals as goal
 
 pub loop-t-init : goal.loop-t-init

@@ -1,11 +1,7 @@
 -- The invariant: the chain has passed no entry that is the term, and stands at one with its hash. The measure is what is left of the hops.
-use mathlib.Core.Path.{◌∙◌, ap}
-use Prim.Native.Nat.{ℕ, ◌-◌, ◌≤◌}
-use native.Mathlib.Omega.{arith}
-use borrow.Author.Rules.{rules}
-use lib.ListN.{get_or}
+use Prim.Native.Nat.{◌-◌, ◌≤◌}
 use Rattle.tableau.specs.Terms.{max_terms}
-use Rattle.table.proofs.ChainLaws.{AllSeeking, seek_start, seek_next, seek_within}
+use Rattle.table.proofs.ChainLaws.{AllSeeking}
 use Rattle.table.proofs.seek.Given as goal
 
 abbrev pub invariant-loop-t : goal.invariant-loop-t

@@ -2,7 +2,6 @@ use mathlib.Core.Path.{◌∙◌, ap, sym, subst}
 use Rattle.tableau.specs.Terms.{at}
 use Rattle.packing.specs.Packing.{view_of, unpack_term, SmallView}
 use Rattle.packing.proofs.PackingLaws.{unpack_pack, packable_small}
-use borrow.Author.Rules.{rules}
 use Rattle.table.proofs.view.Goals as goal
 
 pub returns : goal.returns

@@ -2,7 +2,6 @@
 use mathlib.Core.Path.{◌≡◌, refl, sym, ◌∙◌, ap}
 use mathlib.Core.Bool.{true}
 use lib.ListN.{length}
-use borrow.Author.Tests.{not-true, not-false}
 use Rattle.tableau.specs.Basics.{every}
 use Rattle.tableau.specs.Fields.{sides}
 use Rattle.tableau.specs.Terms.{Table}
@@ -24,25 +23,34 @@ packable c = let p = c.requires in sides_packable p.0 c.args.literal p.1.few (ei
 
 pub returns-then-not-are_made : goal.returns-then-not-are_made
 returns-then-not-are_made c =
-    record { value = λ table E q.
-      sym (ap assumption_of (literal_line_lem table c.args.literal
-      (sym (c.are_made.ensures table q) ∙ c.if-not-are_made.true) refl)); small_code = tt }
+    record {
+      value = λ table E q.
+          sym (ap assumption_of (literal_line_lem table c.args.literal
+          (sym (c.are_made.ensures table q) ∙ c.if-not-are_made.true) refl));
+      small_code = tt;
+    }
 
 pub have_sorts-requires : goal.have_sorts-requires
 have_sorts-requires c = let p = c.requires in record { entries = (p.0, p.1); packable_literal = packable (goal.at.have_sorts-requires c).Else-not-are_made }
 
 pub returns-then-not-have_sorts : goal.returns-then-not-have_sorts
 returns-then-not-have_sorts c =
-    record { value = λ table E q.
-      sym (ap assumption_of (literal_line_lem table c.args.literal (eight (goal.at.returns-then-not-have_sorts c).Else-not-are_made table q)
-      (sym (c.have_sorts.ensures table E) ∙ c.if-not-have_sorts.true))); small_code = tt }
+    record {
+      value = λ table E q.
+          sym (ap assumption_of (literal_line_lem table c.args.literal (eight (goal.at.returns-then-not-have_sorts c).Else-not-are_made table q)
+          (sym (c.have_sorts.ensures table E) ∙ c.if-not-have_sorts.true)));
+      small_code = tt;
+    }
 
 pub pack-requires : goal.pack-requires
 pack-requires c = packable (goal.at.pack-requires c).Else-not-are_made
 
 pub returns : goal.returns
 returns c =
-    record { value = λ table E q.
-      ap Assumption.Assumed c.pack.ensures.0
-      ∙ sym (ap assumption_of (literal_line_lem table c.args.literal (eight (goal.at.returns c).Else-not-are_made table q)
-      (sym (c.have_sorts.ensures table E) ∙ c.if-not-have_sorts.false))); small_code = c.pack.ensures.1 }
+    record {
+      value = λ table E q.
+          ap Assumption.Assumed c.pack.ensures.0
+          ∙ sym (ap assumption_of (literal_line_lem table c.args.literal (eight (goal.at.returns c).Else-not-are_made table q)
+          (sym (c.have_sorts.ensures table E) ∙ c.if-not-have_sorts.false)));
+      small_code = c.pack.ensures.1;
+    }

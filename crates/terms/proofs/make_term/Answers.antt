@@ -6,13 +6,11 @@ use mathlib.Core.Option.{Option}
 use native.Mathlib.Omega.{arith}
 use lib.Dec.{ltb}
 use lib.ListN.{length}
-use borrow.Author.Rules.{rules}
-use borrow.Author.Tests.{lt-ltb, le-ltb, not-true, not-false}
+use borrow.Author.Tests.{lt-ltb, le-ltb}
 use Rattle.tableau.specs.Basics.{is_some, every}
 use Rattle.tableau.specs.Fields.{word_fields}
 use Rattle.tableau.specs.Terms.{TermNo, Table, number_of, max_terms}
 use Rattle.tableau.specs.Reply.{of_sort, is_new, term_line}
-use Rattle.syntax.specs.declared.Term.{Term}
 use Rattle.syntax.specs.Syntax.{word_in, fields_in, term_in}
 use Rattle.packing.specs.Packing.{Packable}
 use Rattle.table.specs.Held.{found_of}
@@ -44,10 +42,13 @@ nine c table H = sym (c.have_sorts.ensures table H.searchable.entries) ∙ c.if-
 found : (c : goal.After-search) (table : Table) → (Held table (arrays c.args.terms.now c.args.chains.now c.args.rows.now) c.args.n)
     → found_of (number_of table (term_in (c.args.term))) ≡ c.search.result
 found c table H = sym (c.search.ensures table H.searchable _
-    (record { is = c.pack-packed.ensures; packable = (term_packable table c.args.term ((record {
-  unused_zero = c.requires.term_value.0;
-  made = sym (c.are_made.ensures table H.count) ∙ c.if-not-are_made.false;
-})) H.searchable.entries.few c.requires.term_value.1) }))
+    (record {
+      is = c.pack-packed.ensures;
+      packable = (term_packable table c.args.term ((record {
+        unused_zero = c.requires.term_value.0;
+        made = sym (c.are_made.ensures table H.count) ∙ c.if-not-are_made.false;
+      })) H.searchable.entries.few c.requires.term_value.1);
+    }))
 
 -- so check 10 decides
 line : (c : goal.After-search) (table : Table) → (Held table (arrays c.args.terms.now c.args.chains.now c.args.rows.now) c.args.n) → {ten : Bool} → is_new table (term_in (c.args.term)) ≡ ten

@@ -1,5 +1,4 @@
 -- The byte string has the words of the table, and the rows are those of the table: antt computes both.
-use borrow.Author.Rules.{rules}
 use Rattle.tableau.specs.Basics.{bytes}
 use Rattle.tableau.specs.Fields.{rule_fields, rule_uses}
 use Rattle.tableau.specs.Words.{rule_names}

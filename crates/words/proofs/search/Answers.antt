@@ -1,9 +1,5 @@
-use mathlib.Core.Path.{◌≡◌, sym, ◌∙◌}
-use Prim.Native.Nat.{◌+◌, ◌-◌, ◌≤◌}
+use mathlib.Core.Path.{sym, ◌∙◌}
 use native.Mathlib.Omega.{arith}
-use lib.ListN.{length, drop}
-use borrow.Author.Rules.{rules}
-use Rattle.words.specs.Words.{words_of, index_of}
 use Rattle.words.proofs.TableLaws.{index_here, index_later, index_end}
 use Rattle.words.proofs.search.Goals as goal
 

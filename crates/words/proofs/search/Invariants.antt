@@ -1,11 +1,8 @@
 -- The loop's invariant: the words passed and the index among the words from i on make the index. The measure is what is left of the string.
-use mathlib.Core.Path.{◌≡◌, sym, ◌∙◌}
+use mathlib.Core.Path.{◌≡◌}
 use Prim.Native.Nat.{◌+◌, ◌-◌, ◌≤◌}
-use native.Mathlib.Omega.{arith}
 use lib.ListN.{length, drop}
-use borrow.Author.Rules.{rules}
 use Rattle.words.specs.Words.{words_of, index_of}
-use Rattle.words.proofs.TableLaws.{index_here, index_later, index_end}
 use Rattle.words.proofs.search.Given as goal
 
 abbrev pub invariant-loop-i : goal.invariant-loop-i

@@ -1,7 +1,5 @@
-use Prim.Native.Nat.{◌-◌}
 use native.Mathlib.Omega.{arith}
-use borrow.Author.Rules.{rules}
-use Rattle.background.proofs.LiteralLaws.{Part, part_none, part_more, part_all}
+use Rattle.background.proofs.LiteralLaws.{part_none, part_more, part_all}
 use Rattle.background.proofs.literals.join_literals.Goals as goal
 
 pub join_literal-joined-requires : goal.join_literal-joined-requires

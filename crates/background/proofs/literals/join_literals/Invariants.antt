@@ -1,8 +1,6 @@
 -- The invariant: the sides of the eq literals before i are in one block.
 use Prim.Native.Nat.{◌-◌}
-use native.Mathlib.Omega.{arith}
-use borrow.Author.Rules.{rules}
-use Rattle.background.proofs.LiteralLaws.{Part, part_none, part_more, part_all}
+use Rattle.background.proofs.LiteralLaws.{Part}
 use Rattle.background.proofs.literals.join_literals.Given as goal
 
 abbrev pub invariant-loop-i : goal.invariant-loop-i

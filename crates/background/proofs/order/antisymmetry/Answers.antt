@@ -1,7 +1,5 @@
-use Prim.Native.Nat.{◌-◌}
 use native.Mathlib.Omega.{arith}
-use borrow.Author.Rules.{rules}
-use Rattle.background.proofs.OrderLaws.{Part, part_none, part_more, part_all}
+use Rattle.background.proofs.OrderLaws.{part_none, part_more, part_all}
 use Rattle.background.proofs.order.antisymmetry.Goals as goal
 
 pub join_mutual-joined-requires : goal.join_mutual-joined-requires

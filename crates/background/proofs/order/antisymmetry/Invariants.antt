@@ -1,8 +1,6 @@
 -- The invariant: the le literals before i whose sides are under each other have them in one block, where nothing has changed.
 use Prim.Native.Nat.{◌-◌}
-use native.Mathlib.Omega.{arith}
-use borrow.Author.Rules.{rules}
-use Rattle.background.proofs.OrderLaws.{Part, part_none, part_more, part_all}
+use Rattle.background.proofs.OrderLaws.{Part}
 use Rattle.background.proofs.order.antisymmetry.Given as goal
 
 abbrev pub invariant-loop-i : goal.invariant-loop-i

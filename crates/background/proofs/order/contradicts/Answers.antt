@@ -1,8 +1,6 @@
 use mathlib.Core.Path.{sym, ◌∙◌}
-use Prim.Native.Nat.{◌-◌}
 use native.Mathlib.Omega.{arith}
-use borrow.Author.Rules.{rules}
-use Rattle.background.proofs.OrderLaws.{DeniedPart, denied_none, denied_more, denied_all, denied_here}
+use Rattle.background.proofs.OrderLaws.{denied_none, denied_more, denied_all, denied_here}
 use Rattle.background.proofs.order.contradicts.Goals as goal
 
 pub returns-then-denies_literal : goal.returns-then-denies_literal

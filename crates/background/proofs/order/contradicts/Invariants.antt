@@ -1,9 +1,6 @@
 -- The invariant: no literal before i denies what the blocks and rows say.
-use mathlib.Core.Path.{sym, ◌∙◌}
 use Prim.Native.Nat.{◌-◌}
-use native.Mathlib.Omega.{arith}
-use borrow.Author.Rules.{rules}
-use Rattle.background.proofs.OrderLaws.{DeniedPart, denied_none, denied_more, denied_all, denied_here}
+use Rattle.background.proofs.OrderLaws.{DeniedPart}
 use Rattle.background.proofs.order.contradicts.Given as goal
 
 abbrev pub invariant-loop-i : goal.invariant-loop-i

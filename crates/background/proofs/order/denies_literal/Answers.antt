@@ -1,5 +1,4 @@
 use mathlib.Core.Path.{sym, ◌∙◌, ap, subst}
-use borrow.Author.Rules.{rules}
 use Rattle.packing.specs.Packing.{literal_of, SmallLiteral}
 use Rattle.packing.proofs.PackingLaws.{literal_read_lem, literal_view_small}
 use Rattle.background.specs.Closure.{denies}

@@ -1,4 +1,3 @@
-
 use Rattle.equality_rules.proofs.closing.bck.Goals as goal
 
 pub returns-then-contradicted : goal.returns-then-contradicted

@@ -26,10 +26,10 @@ pub returns-in_default-view : goal.returns-in_default-view
 unfolding computing
 returns-in_default-view c =
     record {
-  room = tt;
-  answers = λ table h fresh.
-      rw (c.in-Eq.is, no_arguments Operator.Cup (at table _) (c.view.ensures table h.entries).is c.in_default-view.not-Cup);
-}
+      room = tt;
+      answers = λ table h fresh.
+          rw (c.in-Eq.is, no_arguments Operator.Cup (at table _) (c.view.ensures table h.entries).is c.in_default-view.not-Cup);
+    }
 
 -- i is not the right side
 pub returns-then-i-image : goal.returns-then-i-image

@@ -1,7 +1,6 @@
 -- `packing::literals::pack` meets its contract.
 use native.Mathlib.Omega.{arith}
 use Rattle.packing.specs.Packing.{pack_literal}
-use borrow.Author.Rules.{rules}
 use Rattle.packing.proofs.literals.pack.Goals as goal
 
 pub returns : goal.returns

@@ -2,7 +2,6 @@
 use native.Mathlib.Omega.{arith}
 use Rattle.packing.specs.Packing.{relation_at, literal_view_as}
 use Rattle.packing.proofs.PackingLaws.{literal_coded, literal_coded_last}
-use borrow.Author.Rules.{rules}
 use Rattle.packing.proofs.literals.view.Goals as goal
 
 pub returns-in-0 : goal.returns-in-0

@@ -1,7 +1,4 @@
 -- The first two arguments that do not agree, or the last two, decide.
-use mathlib.Core.Bool.{Bool}
-use borrow.Author.Rules.{rules}
-use Rattle.tableau.specs.Terms.{TermNo}
 use Rattle.tableau.specs.Steps.{agree}
 use Rattle.tableau.proofs.Bools.{first_fails, second_fails, third_fails, three_hold}
 use Rattle.syntax.specs.Syntax.{arguments_in}

@@ -3,8 +3,7 @@ use mathlib.Core.Path.{sym, ◌∙◌, ap₂}
 use Prim.Native.Nat.{ℕ}
 use Rattle.tableau.specs.Basics.{Four, every}
 use Rattle.tableau.specs.Steps.{agree}
-use borrow.Author.Rules.{rules}
-use borrow.Author.Tests.{eq-eqb, ne_eqb, not-true, not-false}
+use borrow.Author.Tests.{eq-eqb, ne_eqb}
 use Rattle.packing.proofs.CongruenceLaws.{congruent_packed}
 use Rattle.packing.proofs.term_codes.congruent.Goals as goal
 

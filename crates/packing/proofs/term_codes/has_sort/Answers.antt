@@ -2,7 +2,6 @@
 use mathlib.Core.Path.{◌∙◌, ap, ap₂}
 use Prim.Native.Nat.{ℕ, ◌%◌}
 use lib.Dec.{eqb}
-use borrow.Author.Rules.{rules}
 use Rattle.packing.proofs.PackingLaws.{pack_sort}
 use Rattle.packing.proofs.term_codes.has_sort.Goals as goal
 

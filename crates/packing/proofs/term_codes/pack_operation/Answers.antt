@@ -1,6 +1,5 @@
 -- The low bits are the word's.
 use native.Mathlib.Omega.{arith}
-use borrow.Author.Rules.{rules}
 use Rattle.packing.specs.Packing.{pack_term}
 use Rattle.packing.proofs.term_codes.pack_operation.Goals as goal
 

@@ -4,7 +4,6 @@ use mathlib.Core.List.{[], ◌∷◌, append-nil}
 use Prim.Native.Nat.{◌+◌, ◌/◌, ◌%◌}
 use native.Mathlib.Omega.{arith}
 use lib.ListN.{take, set, length-set}
-use borrow.Author.Rules.{rules}
 use Rattle.reply.proofs.Stores.{stored}
 use Rattle.reply.proofs.buffer.put_number.Goals as goal
 

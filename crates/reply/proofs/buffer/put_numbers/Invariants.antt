@@ -1,16 +1,13 @@
 -- The loop's invariant: the bytes written, and behind them those of the numbers that are left, are the bytes of all. The measure is how many are left.
-use Prim.Native.Nat.{◌+◌, ◌*◌, ◌-◌, ◌≤◌}
-use mathlib.Core.Path.{◌≡◌, refl, sym, ◌∙◌}
-use mathlib.Core.List.{◌++◌, append-nil}
-use native.Mathlib.Omega.{arith}
+use Prim.Native.Nat.{◌*◌, ◌-◌, ◌≤◌}
+use mathlib.Core.Path.{◌≡◌}
+use mathlib.Core.List.{◌++◌}
 use lib.ListN.{length, take, drop}
-use lib.Seq.{take_all}
-use Rattle.tableau.specs.Reply.{four_bytes, number_bytes}
-use Rattle.reply.proofs.NumberFields.{number_written, none_left}
+use Rattle.tableau.specs.Reply.{number_bytes}
 use Rattle.reply.proofs.buffer.put_numbers.Given as goal
 
 abbrev pub invariant-loop-i : goal.invariant-loop-i
-invariant-loop-i l =     (l.i ≤ length l.numbers) × (length l.buffer ≡ 4 * length l.numbers)
+invariant-loop-i l = (l.i ≤ length l.numbers) × (length l.buffer ≡ 4 * length l.numbers)
     × (take (4 * l.i) l.buffer ++ number_bytes (drop l.i l.numbers) ≡ number_bytes l.numbers)
 
 abbrev pub decreases-loop-i : goal.decreases-loop-i

@@ -1,6 +1,5 @@
 -- The numbers fill the buffer.
 use mathlib.Core.Path.{◌∙◌, ap}
-use borrow.Author.Rules.{rules}
 use Rattle.tableau.specs.Reply.{number_bytes, reply_bytes}
 use Rattle.reply.proofs.buffer.write_numbers.Goals as goal
 

@@ -1,6 +1,5 @@
 -- The byte strings are those of the specification, which antt computes.
 use native.Mathlib.Omega.{arith}
-use borrow.Author.Rules.{rules}
 use Rattle.tableau.specs.Basics.{bytes}
 use Rattle.tableau.specs.Reply.{yes_or_no}
 use Rattle.reply.proofs.line.put_answer.Goals as goal

@@ -1,10 +1,9 @@
 use mathlib.Core.Path.{◌≡◌, refl, sym, ◌∙◌}
-use Prim.Native.Nat.{suc, ◌%◌, ◌+◌, ◌-◌, ◌≤◌, ◌<◌, ◌^◌}
+use Prim.Native.Nat.{◌%◌, ◌+◌, ◌-◌, ◌≤◌}
 use native.Mathlib.Omega.{arith}
 use lib.ListN.{length, take, drop, set, length-set, length-drop, length-take}
 use lib.Seq.{take_all}
-use borrow.Author.Rules.{rules}
-use Rattle.tableau.specs.Reply.{decimal_from, decimal}
+use Rattle.tableau.specs.Reply.{decimal}
 use Rattle.tableau.proofs.Decimals.{next_digit_lem, last_digit}
 use Rattle.reply.specs.Line.{number_digits}
 use Rattle.reply.proofs.Stores.{stored_before}

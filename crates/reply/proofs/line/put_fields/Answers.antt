@@ -1,11 +1,9 @@
-use Prim.Native.Nat.{◌+◌, ◌*◌, ◌-◌, ◌≤◌}
-use mathlib.Core.Path.{◌≡◌, refl, ◌∙◌}
-use mathlib.Core.List.{◌∷◌, ◌++◌}
+use mathlib.Core.Path.{refl, ◌∙◌}
+use mathlib.Core.List.{◌∷◌}
 use native.Mathlib.Omega.{arith}
-use lib.ListN.{length, take, drop, length-set}
+use lib.ListN.{take, length-set}
 use Rattle.tableau.specs.File.{LF, comma}
 use Rattle.tableau.specs.Reply.{decimal, comma_numbers}
-use Rattle.reply.specs.Line.{line_bytes, field_bytes}
 use Rattle.reply.proofs.NumberFields.{number_written, none_left}
 use Rattle.reply.proofs.Stores.{stored_behind}
 use Rattle.reply.proofs.line.put_fields.Goals as goal

@@ -1,13 +1,9 @@
 -- The loop's invariant: the bytes passed stand behind the first len. The measure is what is left of the text.
-use mathlib.Core.Path.{◌≡◌, sym, ◌∙◌}
-use mathlib.Core.List.{◌++◌, append-nil}
-use Prim.Native.Nat.{◌+◌, ◌-◌, ◌≤◌, ◌<◌}
-use native.Mathlib.Numerals.{add-one}
-use native.Mathlib.Omega.{arith}
-use lib.ListN.{length, take, length-set}
-use lib.Seq.{take-suc, take-length}
+use mathlib.Core.Path.{◌≡◌}
+use mathlib.Core.List.{◌++◌}
+use Prim.Native.Nat.{◌+◌, ◌-◌, ◌≤◌}
+use lib.ListN.{length, take}
 use Rattle.reply.specs.Line.{line_bytes}
-use Rattle.reply.proofs.Stores.{stored}
 use Rattle.reply.proofs.line.put_text.Given as goal
 
 abbrev pub invariant-loop-i : goal.invariant-loop-i

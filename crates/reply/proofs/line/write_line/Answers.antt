@@ -1,6 +1,5 @@
 -- The numbers are put behind the answer.
 use mathlib.Core.Path.{◌∙◌}
-use borrow.Author.Rules.{rules}
 use Rattle.tableau.specs.Reply.{reply_line}
 use Rattle.reply.proofs.NumberFields.{two_texts}
 use Rattle.reply.proofs.line.write_line.Goals as goal

@@ -8,9 +8,9 @@ use Rattle.rules.proofs.outcome.one.Goals as goal
 pub returns : goal.returns
 returns c =
     record {
-  at_most = c.one.ensures.0;
-  is = ap (λ k. map unpack_literal (codes_of k)) c.one.ensures.1 ∙ ap (λ l. l ∷ []) (packed_back _ c.requires c.pack.ensures.0);
-}
+      at_most = c.one.ensures.0;
+      is = ap (λ k. map unpack_literal (codes_of k)) c.one.ensures.1 ∙ ap (λ l. l ∷ []) (packed_back _ c.requires c.pack.ensures.0);
+    }
 
 pub pack-requires : goal.pack-requires
 pack-requires c = c.requires

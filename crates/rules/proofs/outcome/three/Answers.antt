@@ -2,7 +2,6 @@ use mathlib.Core.Path.{◌∙◌, ap}
 use mathlib.Core.List.{[], ◌∷◌, map}
 use Rattle.packing.specs.Packing.{unpack_literal}
 use Rattle.rules.proofs.Laws.{packed_back}
-use borrow.Author.Rules.{rules}
 use Rattle.rules.proofs.outcome.three.Goals as goal
 
 pub returns : goal.returns

@@ -1,4 +1,3 @@
-use borrow.Author.Rules.{rules}
 use Rattle.rules.proofs.searches.on_three.Goals as goal
 
 -- some table has the terms, so that what is found is small

@@ -1,6 +1,5 @@
 -- Check 11 speaks of p and q, where the rule uses them, and of no clause.
 use mathlib.Core.Path.{refl, sym, ◌∙◌}
-use borrow.Author.Rules.{rules}
 use Rattle.steps.proofs.CheckLaws.{eleven_by}
 use Rattle.steps.proofs.checks.places_there.Goals as goal
 

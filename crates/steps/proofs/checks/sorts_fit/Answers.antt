@@ -7,7 +7,6 @@ use Rattle.syntax.specs.Syntax.{kind_of, step_fields, third_in, ThirdFits}
 use Rattle.syntax.specs.declared.ThirdField as declared
 use Rattle.conclusions.specs.Infers.{ThirdGiven}
 use Rattle.steps.proofs.CheckLaws.{no_term_lem, nine, step_given, third_small, fourth_small, unsorted_unless_term}
-use borrow.Author.Rules.{rules}
 use Rattle.steps.proofs.checks.sorts_fit.Goals as goal
 
 pub returns-in_default : goal.returns-in_default

@@ -14,7 +14,6 @@ use Rattle.syntax.specs.declared.Step.{Step}
 use Rattle.syntax.specs.declared.ThirdField as declared
 use Rattle.syntax.specs.Syntax.{kind_of, step_fields, ThirdFits, WellTaken}
 use Rattle.steps.proofs.CheckLaws.{no_term_lem, eight, third_made, third_unmade, fourth_made, unset_t, unset_w}
-use borrow.Author.Rules.{rules}
 use Rattle.steps.proofs.checks.terms_made.Goals as goal
 
 -- t is a term: both are asked for where the mask says so

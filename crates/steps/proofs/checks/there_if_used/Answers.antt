@@ -1,6 +1,5 @@
 -- The bit decides, or the field.
 use borrow.Author.Tests.{eq-eqb, ne_eqb}
-use borrow.Author.Rules.{rules}
 use Rattle.steps.proofs.checks.there_if_used.Goals as goal
 
 -- the bit is not set

@@ -1,14 +1,12 @@
 -- `cla`; else check 11, then the rule on what it is given.
 use mathlib.Core.Path.{◌≡◌, sym, ◌∙◌, subst}
 use mathlib.Core.Bool.{true}
-use mathlib.Core.List.{List, []}
+use mathlib.Core.List.{[]}
 use Prim.Native.Nat.{◌≤◌}
 use native.Mathlib.Omega.{arith}
-use borrow.Author.Rules.{rules}
-use borrow.Author.Tests.{not-true, not-false}
 use Rattle.tableau.specs.Basics.{every}
 use Rattle.tableau.specs.Fields.{rule_fields, rule_uses}
-use Rattle.tableau.specs.Terms.{Literal, Clauses}
+use Rattle.tableau.specs.Terms.{Clauses}
 use Rattle.tableau.specs.Tree.{is_there, alternatives}
 use Rattle.tableau.specs.Reply.{zero_if_unused}
 use Rattle.tableau.proofs.Bools.{every_true}
@@ -62,13 +60,16 @@ literal-q-requires c = (c.requires.branch.0, (within (goal.at.literal-q-requires
 pub conclude-requires : goal.conclude-requires
 conclude-requires c =
     let p = c.requires.searchable in
-    let W = c.requires.branch.1 in record { searchable = (p.0, p.1); small_literal = (
+    let W = c.requires.branch.1 in record {
+      searchable = (p.0, p.1);
+      small_literal = (
         c.literal-p.ensures.small,
         c.literal-q.ensures.small,
         step_given p.0 p.1.entries.few c.args.step W p.2,
         W.third,
         no_clause c.args.step.t c.in_default.not-Clause,
-      ) }
+      );
+    }
 
 pub returns : goal.returns
 unfolding alternatives
@@ -79,5 +80,8 @@ returns c =
     let h = every_true (is_there [] ((branch_of c.args.branch.now c.args.len))) (rule_uses x) (step_fields c.args.step) (eleven_held [] (goal.at.returns c).Else-not-places_there) in
     let read-p = place_read c.args.branch.now c.args.len c.requires.branch.0 [] (rule_fields x).p _ _ z.0 h.0 c.literal-p.ensures in
     let read-q = place_read c.args.branch.now c.args.len c.requires.branch.0 [] (rule_fields x).q _ _ z.1 h.1 c.literal-q.ensures in
-    let other = no_clause c.args.step.t c.in_default.not-Clause in record { room_for = I.room; result_value = λ table C H q e F. sym (rw (eleven_held C (goal.at.returns c).Else-not-places_there, read-p, read-q)
-          (sym (F _ _ _ _) ∙ no_clause_asked table _ _ _ _ _ _ _ x (omega (arith, other, c.requires.branch.1.third)) ∙ I.answers table H)) }
+    let other = no_clause c.args.step.t c.in_default.not-Clause in record {
+      room_for = I.room;
+      result_value = λ table C H q e F. sym (rw (eleven_held C (goal.at.returns c).Else-not-places_there, read-p, read-q)
+          (sym (F _ _ _ _) ∙ no_clause_asked table _ _ _ _ _ _ _ x (omega (arith, other, c.requires.branch.1.third)) ∙ I.answers table H));
+    }

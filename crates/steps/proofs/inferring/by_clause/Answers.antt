@@ -1,7 +1,5 @@
 -- The clause is one of those up to the last, or not.
 use mathlib.Core.Path.{sym, ◌∙◌}
-use borrow.Author.Rules.{rules}
-use borrow.Author.Tests.{not-true, not-false}
 use Rattle.steps.proofs.inferring.by_clause.Goals as goal
 
 pub returns-then-not-is_clause : goal.returns-then-not-is_clause

@@ -1,7 +1,6 @@
 -- Each return knows the checks that held and the one that failed.
 use mathlib.Core.Path.{◌≡◌, sym, ◌∙◌}
 use lib.ListN.{length}
-use borrow.Author.Tests.{not-true, not-false}
 use Rattle.tableau.specs.Terms.{Table}
 use Rattle.tableau.specs.Reply.{step_line}
 use Rattle.steps.specs.Asking.{TermsNamed}
@@ -35,8 +34,11 @@ added-requires c =
 pub returns : goal.returns
 unfolding step_line
 returns c =
-    let W = c.requires.branch.1 in record { room_for = c.added.ensures.room_for; result_value = λ table C H q s l F. rw (W.unused_zero, eight_held (goal.at.returns c).Else-not-terms_made table q, sym (c.sorts_fit.ensures table H.entries) ∙ c.if-not-sorts_fit.false)
-          (c.added.ensures.result_value table C H s l F) }
+    let W = c.requires.branch.1 in record {
+      room_for = c.added.ensures.room_for;
+      result_value = λ table C H q s l F. rw (W.unused_zero, eight_held (goal.at.returns c).Else-not-terms_made table q, sym (c.sorts_fit.ensures table H.entries) ∙ c.if-not-sorts_fit.false)
+          (c.added.ensures.result_value table C H s l F);
+    }
 
 pub terms_made-requires : goal.terms_made-requires
 terms_made-requires c = c.requires.branch.1

@@ -5,7 +5,6 @@ use native.Mathlib.Omega.{arith}
 use Rattle.packing.specs.Packing.{unpack_literal, literal_of}
 use Rattle.packing.proofs.PackingLaws.{literal_of_view, literal_view_small}
 use Rattle.steps.proofs.Laws.{has_place_lem}
-use borrow.Author.Rules.{rules}
 use Rattle.steps.proofs.reading.literal.Goals as goal
 
 pub returns-then-place-eq0 : goal.returns-then-place-eq0

@@ -9,11 +9,10 @@ use Rattle.term_values.proofs.LiteralLaws.{rows_equal, numbers_equal}
 use Rattle.term_values.proofs.literals.is_equal.Goals as goal
 
 pub same_rows-requires : goal.same_rows-requires
-same_rows-requires c =
-    (
-      ap length c.row.ensures ∙ row_length_lem c.args.rows.now c.args.m.0 c.requires.m_le_max_terms.0 (search rules),
-      ap length c.row-then-has_sort.ensures ∙ row_length_lem c.args.rows.now c.args.n.0 c.requires.m_le_max_terms.1 (search rules),
-    )
+same_rows-requires c = (
+  ap length c.row.ensures ∙ row_length_lem c.args.rows.now c.args.m.0 c.requires.m_le_max_terms.0 (search rules),
+  ap length c.row-then-has_sort.ensures ∙ row_length_lem c.args.rows.now c.args.n.0 c.requires.m_le_max_terms.1 (search rules),
+)
 
 pub returns-then-has_sort : goal.returns-then-has_sort
 returns-then-has_sort c =

@@ -1,4 +1,3 @@
-use borrow.Author.Rules.{rules}
 use Rattle.term_values.proofs.literals.is_member.Goals as goal
 
 pub returns : goal.returns

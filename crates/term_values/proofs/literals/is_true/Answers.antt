@@ -1,4 +1,3 @@
-use borrow.Author.Rules.{rules}
 use Rattle.packing.specs.Packing.{unpack_literal}
 use Rattle.packing.proofs.PackingLaws.{literal_of_view}
 use Rattle.term_values.proofs.LiteralLaws.{assumption_sides, test_true}

@@ -1,4 +1,3 @@
-use borrow.Author.Rules.{rules}
 use Rattle.term_values.proofs.literals.is_under.Goals as goal
 
 pub returns : goal.returns

@@ -2,7 +2,6 @@
 use mathlib.Core.Bool.{not}
 use mathlib.Core.Path.{ap}
 use native.Mathlib.Omega.{arith}
-use borrow.Author.Rules.{rules}
 use Rattle.term_values.specs.Literals.{literal_test}
 use Rattle.term_values.proofs.LiteralLaws.{sides_of}
 use Rattle.term_values.proofs.literals.test.Goals as goal

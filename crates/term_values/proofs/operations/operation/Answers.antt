@@ -1,4 +1,3 @@
-use borrow.Author.Rules.{rules}
 use native.Mathlib.Omega.{arith}
 use Rattle.term_values.specs.Values.{view_arguments}
 use Rattle.term_values.proofs.ViewLaws.{below_more}

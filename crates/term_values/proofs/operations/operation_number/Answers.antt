@@ -1,7 +1,5 @@
 -- Each arm knows the view.
-use mathlib.Core.Path.{◌≡◌, refl}
 use native.Mathlib.Omega.{arith}
-use borrow.Author.Rules.{rules}
 use Rattle.term_values.specs.Values.{operation_number}
 use Rattle.term_values.proofs.ViewLaws.{arguments_of_lem}
 use Rattle.term_values.proofs.operations.operation_number.Goals as goal

@@ -1,7 +1,6 @@
 use mathlib.Core.Path.{sym, ◌∙◌, ap}
-use Prim.Native.Nat.{ℕ, ◌+◌, ◌*◌}
+use Prim.Native.Nat.{ℕ}
 use lib.ListN.{get_or}
-use borrow.Author.Rules.{rules}
 use Rattle.term_values.specs.Values.{row_of}
 use Rattle.term_values.proofs.RowLaws.{row_entry}
 use Rattle.term_values.proofs.operations.read.Goals as goal

@@ -1,6 +1,5 @@
 use mathlib.Core.Path.{refl}
 use native.Mathlib.Omega.{arith}
-use borrow.Author.Rules.{rules}
 use Rattle.term_values.proofs.ViewLaws.{arguments_of_lem, row_written, row_kept}
 use Rattle.term_values.proofs.operations.write.Goals as goal
 

@@ -1,6 +1,5 @@
-use Prim.Native.Nat.{◌-◌}
 use borrow.Author.Rules.{rules}
-use Rattle.term_values.proofs.CopyLaws.{Copied, copy_start, copy_more, copy_end}
+use Rattle.term_values.proofs.CopyLaws.{copy_start, copy_more, copy_end}
 use Rattle.term_values.proofs.operations.write_row.Goals as goal
 
 pub loop-i-init : goal.loop-i-init

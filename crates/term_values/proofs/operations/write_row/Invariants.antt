@@ -1,7 +1,6 @@
 -- The invariant: i bytes are copied.
 use Prim.Native.Nat.{◌-◌}
-use borrow.Author.Rules.{rules}
-use Rattle.term_values.proofs.CopyLaws.{Copied, copy_start, copy_more, copy_end}
+use Rattle.term_values.proofs.CopyLaws.{Copied}
 use Rattle.term_values.proofs.operations.write_row.Given as goal
 
 abbrev pub invariant-loop-i : goal.invariant-loop-i

@@ -1,5 +1,4 @@
 -- The lesser of the recorded length and the length is what two cuts in a row come to.
-use borrow.Author.Rules.{rules}
 use native.Mathlib.Omega.{arith}
 use Prim.Native.Nat.{min}
 use mathlib.Core.Path.{◌≡◌}

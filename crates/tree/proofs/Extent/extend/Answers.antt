@@ -1,5 +1,4 @@
 -- Nothing begins to wait.
-use borrow.Author.Rules.{rules}
 use native.Mathlib.Omega.{arith}
 use mathlib.Core.List.{[]}
 use Rattle.tree.proofs.Waiting.{begins_none}

@@ -1,5 +1,4 @@
 -- The second and the third alternative begin to wait, the second to be taken first.
-use borrow.Author.Rules.{rules}
 use native.Mathlib.Omega.{arith}
 use mathlib.Core.List.{[], ◌∷◌}
 use Rattle.tree.proofs.Waiting.{begins_two}

@@ -1,9 +1,6 @@
 use mathlib.Core.Path.{◌≡◌, refl}
-use mathlib.Core.List.{map}
 use Prim.Native.Nat.{suc, ◌+◌, ◌-◌, ◌≤◌, ◌<◌}
 use native.Mathlib.Omega.{arith}
-use Rattle.clauses.specs.Held.{codes_at}
-use Rattle.tree.specs.State.{packed_one, Pushed}
 use Rattle.tree.proofs.Waiting.{push_none, one_code_lem, push_literal}
 use Rattle.tree.proofs.Tree.push_rest.Goals as goal
 use Rattle.tree.proofs.Tree.push_rest.Goals.{In-loop-i}

@@ -1,11 +1,9 @@
 -- The invariant: those from i on are stored. The measure is what is left of them.
-use mathlib.Core.Path.{◌≡◌, refl}
+use mathlib.Core.Path.{◌≡◌}
 use mathlib.Core.List.{map}
-use Prim.Native.Nat.{suc, ◌+◌, ◌-◌, ◌≤◌, ◌<◌}
-use native.Mathlib.Omega.{arith}
+use Prim.Native.Nat.{◌+◌, ◌-◌, ◌≤◌}
 use Rattle.clauses.specs.Held.{codes_at}
 use Rattle.tree.specs.State.{packed_one, Pushed}
-use Rattle.tree.proofs.Waiting.{push_none, one_code_lem, push_literal}
 use Rattle.tree.proofs.Tree.push_rest.Given as goal
 
 abbrev pub invariant-loop-i : goal.invariant-loop-i
