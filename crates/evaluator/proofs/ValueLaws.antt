@@ -1,19 +1,16 @@
 -- A further term shown: an operation or a variable.
-use mathlib.Core.Path.{◌≡◌, refl, sym, ◌∙◌, ap, subst}
+use mathlib.Core.Path.{◌≡◌, sym, ◌∙◌, ap, subst}
 use mathlib.Core.List.{List}
-use Prim.Native.Nat.{ℕ, suc, ◌+◌, ◌<◌, ◌≤◌}
+use Prim.Native.Nat.{ℕ, ◌+◌, ◌<◌, ◌≤◌}
 use native.Mathlib.Numerals.{add-one}
-use native.Mathlib.Omega.{arith}
 use lib.ListN.{length, take, set, length-set}
 use Rattle.tableau.specs.declared.Sort.{Sort}
 use Rattle.tableau.specs.declared.Name.{Name}
-use Rattle.tableau.specs.Terms.{TermNo, Table, Term, variable, apply, at, max_terms}
-use Rattle.tableau.proofs.WellFormed.{WellFormed}
+use Rattle.tableau.specs.Terms.{TermNo, Table, variable, at, max_terms}
 use Rattle.packing.specs.declared.TermView.{TermView}
 use Rattle.packing.specs.Packing.{Packable, name_limit}
 use Rattle.packing.proofs.ViewLaws.{variable_of}
 use Rattle.table.specs.Held.{Entries, ViewAt}
-use Rattle.facts.specs.Keys.{FactsHeld}
 use Rattle.regions.specs.declared.HeapTables.{HeapTables}
 use Rattle.term_values.specs.Values.{rows_length, Computed}
 use Rattle.term_values.proofs.OperationLaws.{shown_none, operation_shown}

@@ -1,6 +1,6 @@
 -- The run over a heap file: its start, a bad line, a line refused, a line more, the end.
 use mathlib.Core.Path.{◌≡◌, refl, sym, ◌∙◌, ap, subst}
-use mathlib.Core.Bool.{Bool, true, false, beq}
+use mathlib.Core.Bool.{true}
 use mathlib.Core.List.{List, [], ◌∷◌, ◌++◌, map}
 use Prim.Native.Nat.{ℕ, suc, ◌+◌, ◌*◌, ◌<◌, ◌≤◌}
 use native.Mathlib.Numerals.{add-one}
@@ -25,10 +25,8 @@ use Rattle.running.proofs.Lines.{line_here, bad_line, refused_here, at_end_lem}
 use Rattle.facts.specs.declared.Sizes.{Sizes}
 use Rattle.facts.specs.declared.checks.NewFact.{NewFact}
 use Rattle.facts.specs.declared.checks.FactResult.{FactResult}
-use Rattle.facts.specs.declared.reading.FactsRead.{FactsRead}
-use Rattle.facts.specs.declared.reading.FactsEnd.{FactsEnd}
 use Rattle.facts.specs.Keys.{sizes_of, fact_key, fact_value, facts_length, Fits, AllFit, FactsHeld}
-use Rattle.facts.specs.Reading.{run_fact_fields, SizesFit, sizes_after, Added, FactDone, Finished, FactsTo}
+use Rattle.facts.specs.Reading.{SizesFit, sizes_after, Added, FactDone, Finished}
 use Rattle.facts.proofs.Ranges.{subject_fits}
 use Rattle.facts.proofs.LineChecks.{fact_fields_lem}
 

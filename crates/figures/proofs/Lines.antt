@@ -10,7 +10,7 @@ use lib.ListN.{length, length-append}
 use borrow.Author.Tests.{le-leb}
 use Rattle.tableau.specs.declared.Reason.{Reason}
 use Rattle.tableau.specs.Basics.{then}
-use Rattle.tableau.specs.File.{LF, max_bytes}
+use Rattle.tableau.specs.File.{max_bytes}
 use Rattle.tableau.specs.Tree.{Checked, passed, ◌>>◌, require}
 use Rattle.tableau.specs.Reply.{Reply, stopped, run_lines}
 use Rattle.tableau.proofs.Bools.{none≢some, some_inj, then_inv}

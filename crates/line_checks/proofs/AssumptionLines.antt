@@ -1,5 +1,5 @@
 -- A lines in the specification's run.
-use mathlib.Core.Path.{◌≡◌, refl, sym, ◌∙◌, ap, ap₂}
+use mathlib.Core.Path.{◌≡◌, refl, sym, ◌∙◌, ap}
 use mathlib.Core.Bool.{Bool, true, false, ◌&&◌}
 use mathlib.Core.List.{[], ◌∷◌, ◌++◌, map}
 use mathlib.Core.Option.{some}
@@ -28,7 +28,6 @@ use Rattle.tree.specs.declared.Growth.{Growth}
 use Rattle.tree.specs.State.{tree_of}
 use Rattle.tree.specs.Change.{grown_by, Gives}
 use Rattle.tree.proofs.Waiting.{stack_length}
-use Rattle.reply.specs.Verdict.{counts_of}
 use Rattle.growth.specs.declared.Progress.{Progress}
 use Rattle.growth.specs.declared.LineResult.{LineResult}
 use Rattle.growth.specs.Progress.{state_at, after_literal, result_of}

@@ -15,7 +15,6 @@ use Rattle.tableau.specs.Basics.{Four, every, lookup}
 use Rattle.tableau.specs.File.{letters, rank, in_order}
 use Rattle.tableau.specs.Words.{rule_names, infer, some_of}
 use Rattle.tableau.specs.Fields.{rule_uses}
-use Rattle.tableau.specs.Rules.{rule}
 use Rattle.tableau.specs.Terms.{Table, Literal, Clauses, clause_of}
 use Rattle.tableau.specs.Tree as specification
 use Rattle.tableau.specs.Tree.{Checked, refused, passed, ◌>>=◌, Status, is_open, max_places, max_waiting, grown}
@@ -34,7 +33,7 @@ use Rattle.tree.specs.declared.Tree.{Tree}
 use Rattle.tree.specs.declared.Extent.{Extent}
 use Rattle.tree.specs.declared.Growth.{Growth}
 use Rattle.tree.specs.State.{branch_of, tree_of, Within}
-use Rattle.tree.specs.Change.{extent_of, grown_by, split_by, SplitFits}
+use Rattle.tree.specs.Change.{extent_of, split_by}
 use Rattle.tree.proofs.Splits.{each_alone, split_full, split_crowded, split_grown}
 use Rattle.rules.specs.declared.outcome.Outcome.{Outcome}
 use Rattle.rules.specs.Answer.{answer_of}
@@ -46,11 +45,11 @@ use Rattle.reply.specs.Verdict.{counts_of}
 use Rattle.growth.specs.declared.Progress.{Progress}
 use Rattle.growth.specs.declared.LineResult.{LineResult}
 use Rattle.growth.specs.Growth.{Grows}
-use Rattle.growth.specs.Progress.{Counted, status_of, state_at, after_step, result_of, split_of, state_after, Follows}
+use Rattle.growth.specs.Progress.{Counted, status_of, state_at, after_step, result_of, split_of}
 use Rattle.growth.proofs.Laws.{closings_most}
 use Rattle.running.specs.Running.{packed_command, run_fields}
 use Rattle.running.proofs.Lines.{run_unknown, run_known}
-use Rattle.line_checks.specs.Checks.{Ready, RowsAfter, Taken, StepTakes, HeldBy, HeldAfter, LineDone}
+use Rattle.line_checks.specs.Checks.{Ready, RowsAfter, Taken, StepTakes, HeldAfter, LineDone}
 use Rattle.line_checks.proofs.Results.{with, result_state, result_follows}
 
 -- an S line is never out of order

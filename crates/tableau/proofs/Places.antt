@@ -1,13 +1,13 @@
 -- An enum whose variants hold nothing: its values are as many as its variants, so what a test says of each of them, it says of every value. Every rule stands
 -- at its place of the table of rules.
 use mathlib.Core.Path.{◌≡◌, refl, sym, ◌∙◌, ap}
-use mathlib.Core.Bool.{Bool, true, false, not, ◌&&◌, ◌||◌, true≢false}
+use mathlib.Core.Bool.{Bool, true, false, ◌&&◌, ◌||◌, true≢false}
 use mathlib.Core.List.{List, [], ◌∷◌, map}
 use mathlib.Core.Logic.{inl, inr}
 use Prim.Native.Nat.{ℕ}
 use lib.Dec.{eqb}
 use lib.ListN.{get_or}
-use borrow.Author.Tests.{eqb-true, eqb-false, not-true}
+use borrow.Author.Tests.{eqb-true}
 use denote.Struct.Field.{Field}
 use denote.Enum.Declared.{Choice, Record, declared, tag_of, rowss, intoss}
 use denote.Enum.Enum.{tag}

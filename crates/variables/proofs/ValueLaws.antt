@@ -13,7 +13,7 @@ use borrow.Author.Tests.{eqb-true, ltb-true}
 use Rattle.tableau.specs.declared.Sort.{Sort}
 use Rattle.tableau.specs.Basics.{Four, four}
 use Rattle.tableau.specs.Terms.{Name, TermNo, Table, variable, at, max_terms}
-use Rattle.tableau.specs.Meaning.{FiniteHeap, Value, Values, value_of, value}
+use Rattle.tableau.specs.Meaning.{FiniteHeap, Value, Values, value_of}
 use Rattle.tableau.proofs.Bools.{every_true}
 use Rattle.tableau.proofs.Match.{value_variable}
 use Rattle.tableau.proofs.WellFormed.{WellFormed}

@@ -7,7 +7,6 @@ use Rattle.freshness.proofs.PrefixLaws.{prefix_zeros}
 use Rattle.clauses.proofs.Laws.{none_held}
 use Rattle.file_run.specs.Reached.{RunsTo}
 use Rattle.checker.proofs.Whole.{too_long, lines_stop, lines_end}
-use borrow.Author.Rules.{rules}
 use Rattle.checker.proofs.check.Goals as goal
 
 -- check 1

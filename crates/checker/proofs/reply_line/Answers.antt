@@ -4,7 +4,6 @@ use native.Mathlib.Omega.{arith}
 use Rattle.tableau.specs.Claims.{BeginsWithYes}
 use Rattle.tableau.specs.Reply.{reply_line}
 use Rattle.checker.proofs.Whole.{replied, line_no_heap}
-use borrow.Author.Rules.{rules}
 use Rattle.checker.proofs.reply_line.Goals as goal
 
 pub returns : goal.returns

@@ -4,7 +4,6 @@ use native.Mathlib.Omega.{arith}
 use Rattle.tableau.specs.Reply.{Reply, reply, refusal_of, Call, reply_bytes}
 use Rattle.reply.specs.Verdict.{reply_record}
 use Rattle.checker.proofs.Whole.{replied, number_small, no_heap, buffer_right, buffer_wrong}
-use borrow.Author.Rules.{rules}
 use Rattle.checker.proofs.tabcheck.Goals as goal
 use Rattle.checker.proofs.tabcheck.Goals.{After-slice_known-2-1}
 

@@ -1,11 +1,9 @@
 -- Check 1, then the lines before the first S line, then the heap file.
-use mathlib.Core.Path.{◌≡◌, refl, sym, ◌∙◌, subst}
-use mathlib.Core.List.{List}
-use Prim.Native.Nat.{ℕ, ◌≤◌}
+use mathlib.Core.Path.{refl, sym, ◌∙◌, subst}
+use Prim.Native.Nat.{◌≤◌}
 use native.Mathlib.Omega.{arith}
 use lib.ListN.{length}
 use lib.Seq.{length-take-le}
-use borrow.Author.Rules.{rules}
 use Rattle.tableau.specs.File.{max_bytes}
 use Rattle.packing.specs.Packing.{unpack_literal}
 use Rattle.terms.proofs.GrowthLaws.{held_empty}

@@ -1,7 +1,6 @@
 -- The line of the reply to both files.
 use mathlib.Core.Path.{◌∙◌, ap}
 use native.Mathlib.Omega.{arith}
-use borrow.Author.Rules.{rules}
 use Rattle.evaluation.specs.Evaluation.{evaluation_line}
 use Rattle.evaluator.proofs.evaluation_line.Goals as goal
 

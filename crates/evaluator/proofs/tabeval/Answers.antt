@@ -5,7 +5,6 @@ use Rattle.tableau.specs.Reply.{refusal_of, Call}
 use Rattle.evaluation.specs.Evaluation.{Evaluation, evaluation, evaluation_bytes}
 use Rattle.evaluation_reply.specs.Evaluation.{evaluation_record}
 use Rattle.evaluator.proofs.CallLaws.{number_small, buffer_right, buffer_wrong, means}
-use borrow.Author.Rules.{rules}
 use Rattle.evaluator.proofs.tabeval.Goals as goal
 use Rattle.evaluator.proofs.tabeval.Goals.{After-slice_known-2-1}
 

@@ -3,7 +3,6 @@ use Prim.Native.Nat.{ℕ}
 use mathlib.Core.List.{List}
 use mathlib.Core.Path.{refl}
 use native.Mathlib.Omega.{arith}
-use borrow.Author.Rules.{rules}
 use Rattle.figures.specs.declared.night.NightRead.{NightRead}
 use Rattle.figures.specs.Night.{ReadSome, ReadTo}
 use Rattle.figures.proofs.figures.Goals as goal

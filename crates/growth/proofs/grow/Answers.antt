@@ -9,7 +9,6 @@ use Rattle.tree.specs.declared.Growth.{Growth}
 use Rattle.rules.specs.declared.outcome.Outcome.{Outcome}
 use Rattle.rules.specs.Answer.{Room}
 use Rattle.growth.specs.Growth.{Grows}
-use borrow.Author.Rules.{rules}
 use Rattle.growth.proofs.grow.Goals as goal
 
 -- equal outcomes make the same of a tree

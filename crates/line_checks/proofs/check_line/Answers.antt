@@ -9,7 +9,6 @@ use Rattle.tableau.specs.File.{letters, in_order}
 use Rattle.words.specs.Words.{LetterKnown}
 use Rattle.line_checks.proofs.AnyLine.{ordered, disordered, no_letter, out_of_order, of_term, of_assumption, of_disjunct, clause_letter}
 use Rattle.line_checks.proofs.Results.{before_assumption}
-use borrow.Author.Rules.{rules}
 use Rattle.line_checks.proofs.check_line.Goals as goal
 use Rattle.line_checks.proofs.check_line.Goals.{Else-rank, In-Known}
 

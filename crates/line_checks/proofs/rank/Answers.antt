@@ -1,6 +1,5 @@
 use mathlib.Core.Path.{sym, ap}
 use Rattle.tableau.specs.File.{rank}
-use borrow.Author.Rules.{rules}
 use Rattle.line_checks.proofs.rank.Goals as goal
 
 pub returns-in-T : goal.returns-in-T

@@ -1,7 +1,6 @@
 -- The byte string has the words of the table, and the answers are those of the table: antt computes both.
 use mathlib.Core.Option.{some}
 use mathlib.Core.Path.{◌≡◌, refl}
-use borrow.Author.Rules.{rules}
 use Rattle.tableau.specs.Basics.{bytes}
 use Rattle.words.specs.Words.{words_of}
 use Rattle.words.proofs.TableLaws.{packed_texts, rows_of, found, not_found}

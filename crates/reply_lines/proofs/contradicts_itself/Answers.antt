@@ -1,6 +1,5 @@
 -- A yes and a no.
 use mathlib.Core.Path.{◌∙◌}
-use borrow.Author.Rules.{rules}
 use Rattle.statistics.specs.ReplyLines.{contradictory}
 use Rattle.reply_lines.proofs.contradicts_itself.Goals as goal
 

@@ -2,7 +2,6 @@
 use mathlib.Core.Path.{◌≡◌, sym}
 use Prim.Native.Nat.{◌-◌}
 use native.Mathlib.Omega.{arith}
-use borrow.Author.Rules.{rules}
 use Rattle.reply_lines.proofs.Numbers.{not_last}
 use Rattle.reply_lines.proofs.end_of.Goals as goal
 

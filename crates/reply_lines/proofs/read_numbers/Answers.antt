@@ -1,13 +1,10 @@
-use Prim.Native.Nat.{◌-◌, ◌≤◌, ◌<◌}
-use mathlib.Core.Path.{◌≡◌}
+use Prim.Native.Nat.{◌-◌}
 use native.Mathlib.Omega.{arith}
-use lib.ListN.{length, length-set}
-use borrow.Author.Rules.{rules}
-use Rattle.lines.specs.Lines.{LFAhead}
+use lib.ListN.{length-set}
 use Rattle.lines.specs.ByteSteps.{NumberSteps, end_of}
 use Rattle.statistics.specs.ReplyLines.{reply_digits}
 use Rattle.reply_lines.specs.Reading.{number_count}
-use Rattle.reply_lines.proofs.Numbers.{end_low, NumbersSoFar, numbers_start, numbers_end, number_bad, number_more, number_ahead}
+use Rattle.reply_lines.proofs.Numbers.{end_low, numbers_start, numbers_end, number_bad, number_more, number_ahead}
 use Rattle.reply_lines.proofs.read_numbers.Goals as goal
 use Rattle.reply_lines.proofs.read_numbers.Goals.{After-read_number}
 

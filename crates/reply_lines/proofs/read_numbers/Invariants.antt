@@ -1,14 +1,10 @@
 -- The loop's invariant: the steps behind i numbers come to what they come to from the first on, and an LF is ahead. The measure is how many numbers are left.
 use Prim.Native.Nat.{◌-◌, ◌≤◌, ◌<◌}
 use mathlib.Core.Path.{◌≡◌}
-use native.Mathlib.Omega.{arith}
-use lib.ListN.{length, length-set}
-use borrow.Author.Rules.{rules}
+use lib.ListN.{length}
 use Rattle.lines.specs.Lines.{LFAhead}
-use Rattle.lines.specs.ByteSteps.{NumberSteps, end_of}
-use Rattle.statistics.specs.ReplyLines.{reply_digits}
 use Rattle.reply_lines.specs.Reading.{number_count}
-use Rattle.reply_lines.proofs.Numbers.{end_low, NumbersSoFar, numbers_start, numbers_end, number_bad, number_more, number_ahead}
+use Rattle.reply_lines.proofs.Numbers.{NumbersSoFar}
 use Rattle.reply_lines.proofs.read_numbers.Given as goal
 
 abbrev pub invariant-loop-i : goal.invariant-loop-i

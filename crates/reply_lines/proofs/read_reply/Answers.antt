@@ -1,6 +1,5 @@
 -- The word, the numbers, the answer; the first that is not there ends the line.
 use mathlib.Core.Path.{refl, subst}
-use borrow.Author.Rules.{rules}
 use Rattle.reply_lines.specs.Reading.{AnswerKnown}
 use Rattle.reply_lines.proofs.Shapes.{no_word, word_ahead, no_numbers, seven, no_answer, answered}
 use Rattle.reply_lines.proofs.read_reply.Goals as goal

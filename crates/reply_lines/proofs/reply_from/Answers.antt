@@ -1,5 +1,4 @@
 -- There are seven numbers.
-use borrow.Author.Rules.{rules}
 use Rattle.reply_lines.proofs.reply_from.Goals as goal
 
 pub returns : goal.returns

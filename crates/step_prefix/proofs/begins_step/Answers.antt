@@ -5,8 +5,7 @@ use Prim.Native.Nat.{ℕ, ◌+◌}
 use mathlib.Core.List.{List}
 use lib.Dec.{eqb}
 use lib.ListN.{drop, get_or, get_or-eq_default}
-use borrow.Author.Rules.{rules}
-use borrow.Author.Tests.{not-true, not-false, eq-eqb, ne_eqb, eqb-true, eqb-false}
+use borrow.Author.Tests.{eq-eqb, ne_eqb, eqb-true, eqb-false}
 use Rattle.evaluation.specs.Evaluation.{begins_step}
 use Rattle.evaluation.proofs.StepPrefix.{begins_bytes}
 use Rattle.step_prefix.proofs.begins_step.Goals as goal

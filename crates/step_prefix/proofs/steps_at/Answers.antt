@@ -1,9 +1,5 @@
-use Prim.Native.Nat.{◌-◌, ◌≤◌}
 use native.Mathlib.Omega.{arith}
-use lib.ListN.{length}
 use mathlib.Core.Path.{sym, ◌∙◌}
-use borrow.Author.Rules.{rules}
-use Rattle.evaluation.specs.Parts.{StepsAhead}
 use Rattle.evaluation.proofs.StepPrefix.{ahead_start, step_here, step_behind, no_step}
 use Rattle.step_prefix.proofs.steps_at.Goals as goal
 

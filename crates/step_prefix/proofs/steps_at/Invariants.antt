@@ -1,11 +1,7 @@
 -- The loop's invariant: no line that begins `S,` begins before the position. The measure is what is left of the file.
 use Prim.Native.Nat.{◌-◌, ◌≤◌}
-use native.Mathlib.Omega.{arith}
 use lib.ListN.{length}
-use mathlib.Core.Path.{sym, ◌∙◌}
-use borrow.Author.Rules.{rules}
 use Rattle.evaluation.specs.Parts.{StepsAhead}
-use Rattle.evaluation.proofs.StepPrefix.{ahead_start, step_here, step_behind, no_step}
 use Rattle.step_prefix.proofs.steps_at.Given as goal
 
 abbrev pub invariant-loop-at : goal.invariant-loop-at

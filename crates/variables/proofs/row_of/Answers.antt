@@ -1,5 +1,4 @@
 use lib.ListN.{take}
-use borrow.Author.Rules.{rules}
 use Rattle.variables.proofs.VariableLaws.{row_kept}
 use Rattle.variables.proofs.row_of.Goals as goal
 

@@ -1,6 +1,5 @@
 use mathlib.Core.Path.{◌∙◌, ap}
 use lib.ListN.{take}
-use borrow.Author.Rules.{rules}
 use Rattle.facts.specs.Keys.{value_at}
 use Rattle.variables.proofs.single_value.Goals as goal
 

@@ -1,13 +1,11 @@
-use mathlib.Core.Path.{◌≡◌, refl, sym, ◌∙◌}
+use mathlib.Core.Path.{◌≡◌}
 use mathlib.Core.List.{◌∷◌}
-use Prim.Native.Nat.{◌+◌, ◌-◌, ◌<◌, ◌≤◌}
+use Prim.Native.Nat.{◌+◌, ◌<◌, ◌≤◌}
 use native.Mathlib.Omega.{arith}
 use lib.ListN.{length, drop, get_or}
-use borrow.Author.Rules.{rules}
-use borrow.Author.Tests.{not-true, not-false}
 use Rattle.packing.specs.Packing.{unpack_literal}
 use Rattle.evaluator.specs.Assumptions.{literals_of}
-use Rattle.evaluator.proofs.AssumptionLaws.{literal_first, no_literal, assumption_at, TrueBefore, none_before_lem, all_true, false_here, true_here}
+use Rattle.evaluator.proofs.AssumptionLaws.{literal_first, no_literal, assumption_at, none_before_lem, all_true, false_here, true_here}
 use Rattle.evaluator.proofs.assumptions.first_false.Goals as goal
 use Rattle.evaluator.proofs.assumptions.first_false.Goals.{In-loop-i, Start}
 

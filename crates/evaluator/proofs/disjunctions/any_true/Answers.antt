@@ -1,7 +1,7 @@
 use mathlib.Core.Path.{◌≡◌}
-use Prim.Native.Nat.{◌+◌, ◌-◌, ◌<◌, ◌≤◌}
+use Prim.Native.Nat.{◌+◌, ◌-◌, ◌<◌}
 use native.Mathlib.Omega.{arith}
-use Rattle.evaluator.proofs.DisjunctionLaws.{checked_at, NoneBefore, none_looked_at, none_true, one_true_here, not_here}
+use Rattle.evaluator.proofs.DisjunctionLaws.{checked_at, none_looked_at, none_true, one_true_here, not_here}
 use Rattle.evaluator.proofs.disjunctions.any_true.Goals as goal
 use Rattle.evaluator.proofs.disjunctions.any_true.Goals.{In-loop-i, Start}
 

@@ -1,8 +1,6 @@
 -- The loop's invariant: none of the literals before i is true. The measure is what is left of them.
-use mathlib.Core.Path.{◌≡◌}
-use Prim.Native.Nat.{◌+◌, ◌-◌, ◌<◌, ◌≤◌}
-use native.Mathlib.Omega.{arith}
-use Rattle.evaluator.proofs.DisjunctionLaws.{checked_at, NoneBefore, none_looked_at, none_true, one_true_here, not_here}
+use Prim.Native.Nat.{◌-◌, ◌≤◌}
+use Rattle.evaluator.proofs.DisjunctionLaws.{NoneBefore}
 use Rattle.evaluator.proofs.disjunctions.any_true.Given as goal
 
 abbrev pub invariant-loop-i : goal.invariant-loop-i

@@ -1,12 +1,9 @@
 use mathlib.Core.Path.{sym, subst}
-use Prim.Native.Nat.{suc, ◌+◌, ◌-◌, ◌≤◌}
+use Prim.Native.Nat.{◌+◌, ◌≤◌}
 use native.Mathlib.Omega.{arith}
-use borrow.Author.Tests.{not-true, not-false}
-use Rattle.tableau.specs.Terms.{Clauses}
-use Rattle.clauses.specs.Held.{ClausesHeld}
 use Rattle.clauses.proofs.Laws.{last_few}
 use Rattle.evaluator.specs.Assumptions.{AllAssumptions}
-use Rattle.evaluator.proofs.DisjunctionLaws.{clause_checked, MetBefore, none_before_lem, all_met, false_clause_here, met_here}
+use Rattle.evaluator.proofs.DisjunctionLaws.{clause_checked, none_before_lem, all_met, false_clause_here, met_here}
 use Rattle.evaluator.proofs.disjunctions.first_false_clause.Goals as goal
 use Rattle.evaluator.proofs.disjunctions.first_false_clause.Goals.{After-any_true, Start}
 

@@ -1,13 +1,8 @@
 -- The loop's invariant: every clause before k has a true literal. The measure is what is left of them.
-use mathlib.Core.Path.{sym, subst}
-use Prim.Native.Nat.{suc, ◌+◌, ◌-◌, ◌≤◌}
-use native.Mathlib.Omega.{arith}
-use borrow.Author.Tests.{not-true, not-false}
+use Prim.Native.Nat.{suc, ◌-◌, ◌≤◌}
 use Rattle.tableau.specs.Terms.{Clauses}
 use Rattle.clauses.specs.Held.{ClausesHeld}
-use Rattle.clauses.proofs.Laws.{last_few}
-use Rattle.evaluator.specs.Assumptions.{AllAssumptions}
-use Rattle.evaluator.proofs.DisjunctionLaws.{clause_checked, MetBefore, none_before_lem, all_met, false_clause_here, met_here}
+use Rattle.evaluator.proofs.DisjunctionLaws.{MetBefore}
 use Rattle.evaluator.proofs.disjunctions.first_false_clause.Given as goal
 
 abbrev pub invariant-loop-k : goal.invariant-loop-k

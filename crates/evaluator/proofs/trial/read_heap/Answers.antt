@@ -1,10 +1,8 @@
 -- Check 1, the lines, none at all; else the heap is tried.
-use mathlib.Core.Path.{◌≡◌, sym, ◌∙◌, ap, subst}
-use mathlib.Core.List.{List}
+use mathlib.Core.Path.{sym, ◌∙◌, subst}
 use Prim.Native.Nat.{ℕ, ◌≤◌}
 use native.Mathlib.Omega.{arith}
 use lib.ListN.{length, length-replicate}
-use borrow.Author.Rules.{rules}
 use Rattle.tableau.specs.File.{max_bytes}
 use Rattle.facts.specs.Reading.{Finished, FactsTo}
 use Rattle.evaluator.proofs.TrialLaws.{heap_too_long, heap_stops, heap_empty, heap_passable, heap_tried}

@@ -1,11 +1,8 @@
 -- Check 20; else the first false literal; else the first clause with no true one.
-use mathlib.Core.Path.{◌≡◌, sym, ◌∙◌, ap}
-use mathlib.Core.Bool.{true}
+use mathlib.Core.Path.{sym, ◌∙◌, ap}
 use native.Mathlib.Omega.{arith}
 use lib.ListN.{length-replicate}
 use Prim.Native.Nat.{ℕ}
-use borrow.Author.Rules.{rules}
-use borrow.Author.Tests.{not-true, not-false}
 use Rattle.tableau.specs.Basics.{Four}
 use Rattle.evaluation.specs.Evaluation.{no_refusal}
 use Rattle.heap_tables.proofs.HeapLaws.{sizes_high}

@@ -1,7 +1,6 @@
 -- A variable, or an operation.
 use mathlib.Core.Path.{◌≡◌}
 use Prim.Native.Nat.{◌<◌}
-use borrow.Author.Rules.{rules}
 use Rattle.tableau.specs.Terms.{Table, variable, at}
 use Rattle.packing.specs.Packing.{name_limit}
 use Rattle.table.specs.Held.{Entries}

@@ -1,10 +1,4 @@
-use mathlib.Core.Path.{◌≡◌}
-use Prim.Native.Nat.{suc, ◌-◌, ◌≤◌}
 use native.Mathlib.Omega.{arith}
-use lib.ListN.{length}
-use borrow.Author.Rules.{rules}
-use Rattle.term_values.specs.Values.{rows_length}
-use Rattle.evaluator.specs.Values.{TermsShown}
 use Rattle.evaluator.proofs.ValueLaws.{none_shown, shown_at}
 use Rattle.evaluator.proofs.values.term_values.Goals as goal
 

@@ -1,12 +1,9 @@
 -- The loop's invariant: the terms below t are shown. The measure is how many are left.
 use mathlib.Core.Path.{◌≡◌}
 use Prim.Native.Nat.{suc, ◌-◌, ◌≤◌}
-use native.Mathlib.Omega.{arith}
 use lib.ListN.{length}
-use borrow.Author.Rules.{rules}
 use Rattle.term_values.specs.Values.{rows_length}
 use Rattle.evaluator.specs.Values.{TermsShown}
-use Rattle.evaluator.proofs.ValueLaws.{none_shown, shown_at}
 use Rattle.evaluator.proofs.values.term_values.Given as goal
 
 abbrev pub invariant-loop-t : goal.invariant-loop-t

@@ -1,8 +1,7 @@
 -- Each arm is the test of its word; a member is looked for among the `alc` lines.
-use mathlib.Core.Path.{sym, ◌∙◌, ap}
+use mathlib.Core.Path.{◌∙◌, ap}
 use native.Mathlib.Omega.{arith}
 use lib.ListN.{take}
-use borrow.Author.Rules.{rules}
 use Rattle.tableau.specs.Basics.{four}
 use Rattle.evaluation.specs.declared.FactWord.{FactWord}
 use Rattle.evaluation.specs.Facts.{fact_fields, subject_of, allowed}

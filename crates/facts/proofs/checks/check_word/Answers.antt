@@ -1,12 +1,10 @@
 -- The first check that fails decides; else the line passes with its key and its value.
 use mathlib.Core.Path.{◌≡◌, sym, ◌∙◌, ap}
-use mathlib.Core.Bool.{Bool, true, false}
+use mathlib.Core.Bool.{Bool, true}
 use lib.ListN.{take}
-use borrow.Author.Rules.{rules}
-use borrow.Author.Tests.{not-true, not-false}
 use Rattle.tableau.specs.Basics.{Four, every}
 use Rattle.evaluation.specs.declared.FactField.{FactField}
-use Rattle.evaluation.specs.Facts.{fact_fields, Facts, sizes, said, zero_unless_used, in_range}
+use Rattle.evaluation.specs.Facts.{fact_fields, Facts, said, zero_unless_used, in_range}
 use Rattle.lines.specs.Lines.{numbers_of}
 use Rattle.facts.specs.Keys.{sizes_of, has_key, FactsHeld}
 use Rattle.facts.proofs.Ranges.{subject_fits, values_fit}

@@ -1,7 +1,6 @@
 -- The subject's parts are no greater than the numbers.
 use native.Mathlib.Omega.{arith}
-use borrow.Author.Rules.{rules}
-use Rattle.facts.specs.Keys.{pack_key, key_of}
+use Rattle.facts.specs.Keys.{key_of}
 use Rattle.evaluation.specs.Facts.{subject_of}
 use Rattle.evaluation.proofs.Finding.{index_small}
 use Rattle.facts.proofs.Ranges.{subject_small}

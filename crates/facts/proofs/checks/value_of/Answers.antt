@@ -1,7 +1,6 @@
 -- The parts, each below 64, fit a byte.
 use Prim.Native.Nat.{◌+◌, ◌<◌}
 use native.Mathlib.Omega.{arith}
-use borrow.Author.Rules.{rules}
 use Rattle.facts.specs.Keys.{value_of}
 use Rattle.facts.proofs.checks.value_of.Goals as goal
 use Rattle.facts.proofs.checks.value_of.Goals.{After-value_part-4}

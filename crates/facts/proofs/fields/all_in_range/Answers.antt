@@ -1,6 +1,5 @@
 -- The first field that fails its test decides; else the last field does.
 use mathlib.Core.Path.{sym, ◌∙◌}
-use borrow.Author.Tests.{not-true, not-false}
 use Rattle.facts.proofs.fields.all_in_range.Goals as goal
 
 pub returns-then-not-in_range : goal.returns-then-not-in_range

@@ -1,5 +1,4 @@
 -- Each arm is the test of its domain.
-use borrow.Author.Rules.{rules}
 use Rattle.facts.proofs.fields.in_domain.Goals as goal
 
 pub returns-in-Reference : goal.returns-in-Reference

@@ -1,5 +1,4 @@
 -- Each arm is the test of its field.
-use borrow.Author.Rules.{rules}
 use borrow.Author.Tests.{le-leb, lt-leb}
 use Rattle.facts.proofs.fields.in_range.Goals as goal
 

@@ -1,5 +1,4 @@
 -- Each arm is the index of its word.
-use borrow.Author.Rules.{rules}
 use Rattle.evaluation.specs.Facts.{fact_index}
 use Rattle.facts.proofs.fields.index_of.Goals as goal
 

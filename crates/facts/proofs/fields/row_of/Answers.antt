@@ -1,5 +1,4 @@
 -- Each arm is the row of its word.
-use borrow.Author.Rules.{rules}
 use Rattle.evaluation.specs.Facts.{fact_fields}
 use Rattle.facts.proofs.fields.row_of.Goals as goal
 

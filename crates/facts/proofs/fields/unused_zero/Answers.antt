@@ -1,6 +1,5 @@
 -- The first field that fails its test decides; else the last field does.
 use mathlib.Core.Path.{sym, ◌∙◌}
-use borrow.Author.Tests.{not-true, not-false}
 use Rattle.facts.proofs.fields.unused_zero.Goals as goal
 
 pub returns-then-not-zero_unless_used : goal.returns-then-not-zero_unless_used

@@ -1,7 +1,6 @@
 -- The byte string has the words of the table, and the words are those of the table: antt computes both.
 use mathlib.Core.Option.{some}
 use mathlib.Core.Path.{◌≡◌, refl}
-use borrow.Author.Rules.{rules}
 use Rattle.tableau.specs.Basics.{bytes}
 use Rattle.evaluation.specs.Facts.{fact_words}
 use Rattle.words.specs.Words.{words_of}

@@ -1,5 +1,4 @@
 -- Only a field that is not used is asked for its number.
-use borrow.Author.Rules.{rules}
 use Rattle.facts.proofs.fields.zero_unless_used.Goals as goal
 
 pub returns-in-Unused : goal.returns-in-Unused

@@ -1,6 +1,5 @@
 -- The key is among them where its index is below their count.
 use native.Mathlib.Omega.{arith}
-use borrow.Author.Rules.{rules}
 use Rattle.facts.proofs.Searches.{first_has}
 use Rattle.facts.proofs.keys.has.Goals as goal
 

@@ -1,7 +1,6 @@
 -- Each of the four is compared.
 use mathlib.Core.Bool.{false≢true}
 use native.Mathlib.Omega.{arith}
-use borrow.Author.Rules.{rules}
 use borrow.Author.Tests.{not-true, eqb-false}
 use Rattle.facts.proofs.Searches.{index_fours}
 use Rattle.facts.proofs.keys.none_of_four.Goals as goal

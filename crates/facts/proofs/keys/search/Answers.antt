@@ -1,10 +1,4 @@
-use mathlib.Core.Path.{◌≡◌}
-use Prim.Native.Nat.{◌+◌, ◌-◌, ◌≤◌}
 use native.Mathlib.Omega.{arith}
-use lib.ListN.{take, drop}
-use borrow.Author.Rules.{rules}
-use Rattle.words.specs.Words.{index_of}
-use Rattle.facts.specs.Keys.{SearchedTo}
 use Rattle.facts.proofs.Searches.{index_here, index_later, index_end}
 use Rattle.facts.proofs.keys.search.Goals as goal
 

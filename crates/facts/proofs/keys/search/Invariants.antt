@@ -1,12 +1,7 @@
 -- The loop's invariant: i and the index among the entries from i on make the index. The measure is what is left of them.
-use mathlib.Core.Path.{◌≡◌}
-use Prim.Native.Nat.{◌+◌, ◌-◌, ◌≤◌}
-use native.Mathlib.Omega.{arith}
-use lib.ListN.{take, drop}
-use borrow.Author.Rules.{rules}
-use Rattle.words.specs.Words.{index_of}
+use Prim.Native.Nat.{◌-◌, ◌≤◌}
+use lib.ListN.{take}
 use Rattle.facts.specs.Keys.{SearchedTo}
-use Rattle.facts.proofs.Searches.{index_here, index_later, index_end}
 use Rattle.facts.proofs.keys.search.Given as goal
 
 abbrev pub invariant-loop-i : goal.invariant-loop-i

@@ -1,10 +1,4 @@
-use mathlib.Core.Path.{◌≡◌}
-use Prim.Native.Nat.{◌-◌, ◌≤◌}
 use native.Mathlib.Omega.{arith}
-use lib.ListN.{take}
-use borrow.Author.Rules.{rules}
-use borrow.Author.Tests.{not-false}
-use Rattle.facts.specs.Keys.{SearchedTo}
 use Rattle.facts.proofs.keys.skip_fours.Goals as goal
 
 pub loop-i-preserved : goal.loop-i-preserved

@@ -1,10 +1,6 @@
 -- The loop's invariant: the key is not among the first i. The measure is what is left of them.
-use mathlib.Core.Path.{◌≡◌}
 use Prim.Native.Nat.{◌-◌, ◌≤◌}
-use native.Mathlib.Omega.{arith}
 use lib.ListN.{take}
-use borrow.Author.Rules.{rules}
-use borrow.Author.Tests.{not-false}
 use Rattle.facts.specs.Keys.{SearchedTo}
 use Rattle.facts.proofs.keys.skip_fours.Given as goal
 

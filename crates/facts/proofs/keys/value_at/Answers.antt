@@ -1,6 +1,5 @@
 -- The value at the key's index; 0 where the index is the count.
 use native.Mathlib.Omega.{arith}
-use borrow.Author.Rules.{rules}
 use Rattle.facts.proofs.Searches.{first_value, no_value}
 use Rattle.facts.proofs.keys.value_at.Goals as goal
 

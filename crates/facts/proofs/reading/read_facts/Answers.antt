@@ -1,8 +1,6 @@
 use mathlib.Core.Path.{◌≡◌, sym, ◌∙◌, subst}
-use mathlib.Core.List.{List}
-use Prim.Native.Nat.{ℕ, ◌+◌, ◌-◌, ◌<◌}
+use Prim.Native.Nat.{◌+◌, ◌<◌}
 use native.Mathlib.Omega.{arith}
-use lib.ListN.{length}
 use Rattle.lines.specs.declared.LineRead.{LineRead}
 use Rattle.lines.specs.Lines.{line_at, LFAhead}
 use Rattle.lines.proofs.FileSteps.{ahead_here, no_line_behind}
@@ -10,8 +8,7 @@ use Rattle.running.proofs.Lines.{line_here}
 use Rattle.facts.specs.Keys.{facts_length}
 use Rattle.facts.specs.Reading.{FactDone}
 use Rattle.facts.proofs.LineChecks.{fact_fields_lem}
-use Rattle.facts.proofs.Reached.{Reached, reached_start, room, bad, finished, refused_line, more}
-use borrow.Author.Rules.{rules}
+use Rattle.facts.proofs.Reached.{reached_start, room, bad, finished, refused_line, more}
 use Rattle.facts.proofs.reading.read_facts.Goals as goal
 use Rattle.facts.proofs.reading.read_facts.Goals.{After-check_fact, In-Line, In-Passed, In-loop-at}
 

@@ -1,6 +1,5 @@
 -- The figures, or a refusal.
 use mathlib.Core.Path.{subst, ◌∙◌}
-use borrow.Author.Rules.{rules}
 use Rattle.statistics.specs.Figures.{figures_line}
 use Rattle.figures.specs.Night.{ReadSome, ReadTo}
 use Rattle.figures.proofs.line.write_line.Goals as goal

@@ -1,5 +1,4 @@
 -- The line is put behind the number.
-use borrow.Author.Rules.{rules}
 use Rattle.reply.proofs.NumberFields.{two_texts}
 use Rattle.figures.proofs.line.write_refusal.Goals as goal
 

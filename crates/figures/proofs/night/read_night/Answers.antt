@@ -1,14 +1,11 @@
 use mathlib.Core.Path.{sym, ap, ◌∙◌}
-use Prim.Native.Nat.{◌-◌}
 use native.Mathlib.Omega.{arith}
-use lib.ListN.{length}
-use borrow.Author.Rules.{rules}
 use Rattle.lines.specs.Lines.{LFAhead}
 use Rattle.lines.proofs.FileSteps.{ahead_here}
 use Rattle.reply.specs.Verdict.{reply_record}
 use Rattle.reply_lines.specs.Reading.{read_as}
 use Rattle.statistics.proofs.Nights.{too_long}
-use Rattle.figures.proofs.Lines.{ReplyHere, reply_here, no_reply_behind, SoFar, none_so_far, bad_so_far, all_so_far, refused_so_far, room_for_one, one_more}
+use Rattle.figures.proofs.Lines.{ReplyHere, reply_here, no_reply_behind, none_so_far, bad_so_far, all_so_far, refused_so_far, room_for_one, one_more}
 use Rattle.figures.proofs.night.read_night.Goals as goal
 use Rattle.figures.proofs.night.read_night.Goals.{In-Line, In-loop-at}
 

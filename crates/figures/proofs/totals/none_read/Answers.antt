@@ -6,8 +6,7 @@ use Rattle.figures.proofs.totals.none_read.Goals as goal
 
 pub returns : goal.returns
 unfolding step_counts sum
-returns c =
-    (
+returns c = (
   record { files = refl; accepted = refl; sum = refl; squares = refl },
   record { files = omega arith; accepted = omega arith; sum = omega arith; squares = omega arith },
 )

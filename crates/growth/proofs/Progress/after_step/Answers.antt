@@ -1,6 +1,5 @@
 use native.Mathlib.Omega.{arith}
 use Rattle.growth.proofs.Laws.{closings_most}
-use borrow.Author.Rules.{rules}
 use Rattle.growth.proofs.Progress.after_step.Goals as goal
 
 pub overflow_add-result-3 : goal.overflow_add-result-3

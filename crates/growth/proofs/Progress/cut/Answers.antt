@@ -1,4 +1,3 @@
-use borrow.Author.Rules.{rules}
 use Rattle.growth.proofs.Progress.cut.Goals as goal
 
 pub returns : goal.returns

@@ -1,9 +1,7 @@
-use mathlib.Core.Bool.{Bool}
 use mathlib.Core.Path.{sym, ◌∙◌, ap}
-use Rattle.tableau.specs.Reply.{Verdict, accept}
+use Rattle.tableau.specs.Reply.{accept}
 use Rattle.reply.specs.Verdict.{counts_of}
 use Rattle.growth.specs.Progress.{verdict_if}
-use borrow.Author.Rules.{rules}
 use Rattle.growth.proofs.Progress.end.Goals as goal
 
 pub returns-then-self : goal.returns-then-self

@@ -1,6 +1,5 @@
 use mathlib.Core.Path.{sym, ap}
 use Rattle.growth.specs.Progress.{result_of}
-use borrow.Author.Rules.{rules}
 use Rattle.growth.proofs.Progress.result.Goals as goal
 
 pub returns-in-Refused : goal.returns-in-Refused

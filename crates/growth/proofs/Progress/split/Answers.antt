@@ -1,5 +1,4 @@
 -- Checks 15 and 16 decide.
-use borrow.Author.Rules.{rules}
 use borrow.Author.Tests.{lt-ltb, le-ltb}
 use native.Mathlib.Omega.{arith}
 use Rattle.growth.proofs.Progress.split.Goals as goal

@@ -1,6 +1,5 @@
-use Rattle.std.proofs.Common.{◌-◌, ◌≤◌, rules}
-use Rattle.heap_tables.specs.Order.{keeps_order_from}
-use Rattle.heap_tables.proofs.OrderLaws.{HoldsBelow, holds_start, holds_more, order_false, order_true}
+use Rattle.std.proofs.Common.{rules}
+use Rattle.heap_tables.proofs.OrderLaws.{holds_start, holds_more, order_false, order_true}
 use Rattle.heap_tables.proofs.order.is_order.Goals as goal
 
 pub returns-then-not-keeps_order_from : goal.returns-then-not-keeps_order_from

@@ -1,7 +1,7 @@
 -- The invariant: no class below b breaks the order.
-use Rattle.std.proofs.Common.{◌-◌, ◌≤◌, rules}
+use Rattle.std.proofs.Common.{◌-◌, ◌≤◌}
 use Rattle.heap_tables.specs.Order.{keeps_order_from}
-use Rattle.heap_tables.proofs.OrderLaws.{HoldsBelow, holds_start, holds_more, order_false, order_true}
+use Rattle.heap_tables.proofs.OrderLaws.{HoldsBelow}
 use Rattle.heap_tables.proofs.order.is_order.Given as goal
 
 abbrev pub invariant-loop-b : goal.invariant-loop-b

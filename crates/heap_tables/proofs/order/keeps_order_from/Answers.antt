@@ -1,6 +1,5 @@
-use Rattle.std.proofs.Common.{◌-◌, ◌≤◌, rules}
-use Rattle.heap_tables.specs.Order.{keeps_order}
-use Rattle.heap_tables.proofs.OrderLaws.{HoldsBelow, holds_start, holds_more, from_false, from_true}
+use Rattle.std.proofs.Common.{rules}
+use Rattle.heap_tables.proofs.OrderLaws.{holds_start, holds_more, from_false, from_true}
 use Rattle.heap_tables.proofs.order.keeps_order_from.Goals as goal
 
 pub returns-then-not-keeps_order : goal.returns-then-not-keeps_order

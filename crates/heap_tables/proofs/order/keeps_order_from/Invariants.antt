@@ -1,7 +1,7 @@
 -- The invariant: no class below c breaks the order.
-use Rattle.std.proofs.Common.{◌-◌, ◌≤◌, rules}
+use Rattle.std.proofs.Common.{◌-◌, ◌≤◌}
 use Rattle.heap_tables.specs.Order.{keeps_order}
-use Rattle.heap_tables.proofs.OrderLaws.{HoldsBelow, holds_start, holds_more, from_false, from_true}
+use Rattle.heap_tables.proofs.OrderLaws.{HoldsBelow}
 use Rattle.heap_tables.proofs.order.keeps_order_from.Given as goal
 
 abbrev pub invariant-loop-c : goal.invariant-loop-c

@@ -1,5 +1,5 @@
-use Rattle.std.proofs.Common.{◌-◌, length, arith, rules}
-use Rattle.heap_tables.proofs.ScanLaws.{ClearedTo, clear_start, clear_more, clear_end}
+use Rattle.std.proofs.Common.{arith, rules}
+use Rattle.heap_tables.proofs.ScanLaws.{clear_start, clear_more, clear_end}
 use Rattle.heap_tables.proofs.scans.clear.Goals as goal
 
 pub loop-p-smaller : goal.loop-p-smaller

@@ -1,6 +1,6 @@
 -- The invariant: the bytes below p are 0.
-use Rattle.std.proofs.Common.{◌-◌, length, arith, rules}
-use Rattle.heap_tables.proofs.ScanLaws.{ClearedTo, clear_start, clear_more, clear_end}
+use Rattle.std.proofs.Common.{◌-◌, length}
+use Rattle.heap_tables.proofs.ScanLaws.{ClearedTo}
 use Rattle.heap_tables.proofs.scans.clear.Given as goal
 
 abbrev pub invariant-loop-p : goal.invariant-loop-p

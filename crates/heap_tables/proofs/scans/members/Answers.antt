@@ -1,5 +1,4 @@
-use Rattle.std.proofs.Common.{◌≤◌, take, drop, rules}
-use Rattle.heap_tables.specs.Scans.{IsMembers}
+use Rattle.std.proofs.Common.{rules}
 use Rattle.heap_tables.proofs.ScanLaws.{members_start, members_more, members_same, members_end}
 use Rattle.heap_tables.proofs.scans.members.Goals as goal
 

@@ -1,7 +1,6 @@
 -- The invariant: the bits are those of the keys from i on.
-use Rattle.std.proofs.Common.{◌≤◌, take, drop, rules}
+use Rattle.std.proofs.Common.{◌≤◌, take, drop}
 use Rattle.heap_tables.specs.Scans.{IsMembers}
-use Rattle.heap_tables.proofs.ScanLaws.{members_start, members_more, members_same, members_end}
 use Rattle.heap_tables.proofs.scans.members.Given as goal
 
 abbrev pub invariant-loop-i : goal.invariant-loop-i

@@ -1,5 +1,5 @@
-use Rattle.std.proofs.Common.{◌≡◌, ◌≤◌, length, take, drop, sym, subst, rules}
-use Rattle.heap_tables.specs.Scans.{Scannable, IsScattered}
+use Rattle.std.proofs.Common.{sym, subst, rules}
+use Rattle.heap_tables.specs.Scans.{Scannable}
 use Rattle.heap_tables.proofs.ScanLaws.{scatter_start, scatter_more, scatter_same, scatter_end}
 use Rattle.heap_tables.proofs.scans.scatter.Goals as goal
 

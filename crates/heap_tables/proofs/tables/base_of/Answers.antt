@@ -1,4 +1,4 @@
-use Rattle.std.proofs.Common.{ℕ, ap, ◌∙◌, arith, rules}
+use Rattle.std.proofs.Common.{ℕ, ap, ◌∙◌, arith}
 use Rattle.facts.specs.Keys.{pack_key}
 use Rattle.evaluation.proofs.Finding.{index_small}
 use Rattle.heap_tables.proofs.tables.base_of.Goals as goal

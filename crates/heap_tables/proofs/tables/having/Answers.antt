@@ -1,5 +1,5 @@
-use Rattle.std.proofs.Common.{◌≤◌, rules}
-use Rattle.heap_tables.proofs.TableLaws.{HavingFrom, having_start, having_set, having_skip, having_end}
+use Rattle.std.proofs.Common.{rules}
+use Rattle.heap_tables.proofs.TableLaws.{having_start, having_set, having_skip, having_end}
 use Rattle.heap_tables.proofs.tables.having.Goals as goal
 
 pub loop-x-preserved-then-has : goal.loop-x-preserved-then-has

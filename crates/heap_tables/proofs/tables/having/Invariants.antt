@@ -1,6 +1,6 @@
 -- The invariant: the bits from x on are right, and no other is set.
-use Rattle.std.proofs.Common.{◌≤◌, rules}
-use Rattle.heap_tables.proofs.TableLaws.{HavingFrom, having_start, having_set, having_skip, having_end}
+use Rattle.std.proofs.Common.{◌≤◌}
+use Rattle.heap_tables.proofs.TableLaws.{HavingFrom}
 use Rattle.heap_tables.proofs.tables.having.Given as goal
 
 abbrev pub invariant-loop-x : goal.invariant-loop-x

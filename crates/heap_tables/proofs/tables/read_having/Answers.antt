@@ -1,6 +1,5 @@
-use Rattle.std.proofs.Common.{ℕ, ◌-◌, ◌≤◌, get_or, arith, rules}
-use Rattle.heap_tables.specs.Tables.{Having}
-use Rattle.heap_tables.proofs.TableLaws.{RowsBelow, rows_start, rows_more}
+use Rattle.std.proofs.Common.{arith, rules}
+use Rattle.heap_tables.proofs.TableLaws.{rows_start, rows_more}
 use Rattle.heap_tables.proofs.tables.read_having.Goals as goal
 
 pub returns : goal.returns

@@ -1,7 +1,7 @@
 -- The invariant: the rows below f are those of their fields.
-use Rattle.std.proofs.Common.{ℕ, ◌-◌, ◌≤◌, get_or, arith, rules}
+use Rattle.std.proofs.Common.{ℕ, ◌-◌, ◌≤◌, get_or}
 use Rattle.heap_tables.specs.Tables.{Having}
-use Rattle.heap_tables.proofs.TableLaws.{RowsBelow, rows_start, rows_more}
+use Rattle.heap_tables.proofs.TableLaws.{RowsBelow}
 use Rattle.heap_tables.proofs.tables.read_having.Given as goal
 
 abbrev pub invariant-loop-f : goal.invariant-loop-f

@@ -1,6 +1,5 @@
-use Rattle.std.proofs.Common.{◌-◌, ◌≤◌, take, arith, rules}
-use Rattle.heap_tables.specs.Tables.{Above}
-use Rattle.heap_tables.proofs.TableLaws.{RowsBelow, rows_start, rows_more}
+use Rattle.std.proofs.Common.{arith, rules}
+use Rattle.heap_tables.proofs.TableLaws.{rows_start, rows_more}
 use Rattle.heap_tables.proofs.tables.read_under.Goals as goal
 
 pub returns : goal.returns

@@ -1,7 +1,7 @@
 -- The invariant: the rows below c are those of their classes.
-use Rattle.std.proofs.Common.{◌-◌, ◌≤◌, take, arith, rules}
+use Rattle.std.proofs.Common.{◌-◌, ◌≤◌, take}
 use Rattle.heap_tables.specs.Tables.{Above}
-use Rattle.heap_tables.proofs.TableLaws.{RowsBelow, rows_start, rows_more}
+use Rattle.heap_tables.proofs.TableLaws.{RowsBelow}
 use Rattle.heap_tables.proofs.tables.read_under.Given as goal
 
 abbrev pub invariant-loop-c : goal.invariant-loop-c

@@ -7,7 +7,6 @@ use Rattle.terms.specs.Lines.{SmallCode}
 use Rattle.tree.specs.State.{codes_of}
 use Rattle.tree.specs.Change.{Gives}
 use Rattle.line_checks.proofs.AssumptionLines.{assumption_refused, assumption_grown}
-use borrow.Author.Rules.{rules}
 use Rattle.line_checks.proofs.assumption_line.check.Goals as goal
 
 -- checks 4, 6, 8 and 9

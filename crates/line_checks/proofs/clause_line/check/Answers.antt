@@ -2,7 +2,6 @@
 use mathlib.Core.Path.{◌≡◌, sym, subst, ◌∙◌}
 use mathlib.Core.Bool.{true}
 use native.Mathlib.Omega.{arith}
-use borrow.Author.Tests.{not-true, not-false}
 use Rattle.tableau.specs.Terms.{Clauses}
 use Rattle.tableau.specs.Reply.{takes_disjunct}
 use Rattle.clauses.specs.Held.{ClausesHeld}
@@ -11,7 +10,6 @@ use Rattle.packing.specs.Packing.{code_limit}
 use Rattle.terms.specs.Lines.{SmallCode}
 use Rattle.freshness.proofs.PrefixLaws.{prefix_less}
 use Rattle.line_checks.proofs.ClauseLines.{disjunct_refused, disjunct_misplaced, disjunct_joined}
-use borrow.Author.Rules.{rules}
 use Rattle.line_checks.proofs.clause_line.check.Goals as goal
 use Rattle.line_checks.proofs.clause_line.check.Goals.{Else-not-takes, In-Assumed}
 

@@ -9,10 +9,9 @@ use Rattle.tableau.specs.Reply.{zero_if_unused}
 use Rattle.syntax.specs.Syntax.{literal_in}
 use Rattle.words.specs.Words.{lookup_packed, RelationKnown}
 use Rattle.lines.specs.Lines.{numbers_of}
-use Rattle.parsing.specs.Taken.{literal_fields, LiteralTakenAs}
+use Rattle.parsing.specs.Taken.{literal_fields}
 use Rattle.terms.specs.Lines.{assumption_of}
 use Rattle.line_checks.proofs.LiteralLines.{read_unknown, read_unused, read_taken}
-use borrow.Author.Rules.{rules}
 use Rattle.line_checks.proofs.literal_line.read.Goals as goal
 use Rattle.line_checks.proofs.literal_line.read.Goals.{In-Known, In-Literal}
 

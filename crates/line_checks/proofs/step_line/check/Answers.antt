@@ -5,7 +5,6 @@ use Rattle.tableau.specs.Words.{rule_names}
 use Rattle.words.specs.Words.{lookup_packed, RuleKnown, RuleFits}
 use Rattle.parsing.specs.Taken.{StepTakenAs}
 use Rattle.line_checks.proofs.StepLines.{step_unknown, step_closed, step_unused, step_takes}
-use borrow.Author.Rules.{rules}
 use Rattle.line_checks.proofs.step_line.check.Goals as goal
 use Rattle.line_checks.proofs.step_line.check.Goals.{In-Known}
 

@@ -3,7 +3,6 @@ use mathlib.Core.Path.{sym, subst, ◌∙◌, ap}
 use Prim.Native.Nat.{◌≤◌}
 use Rattle.steps.specs.Inference.{RoomFor, inferred_in}
 use Rattle.line_checks.proofs.StepLines.{rows_kept, rows_split, step_taken, clause_taken}
-use borrow.Author.Rules.{rules}
 use Rattle.line_checks.proofs.step_line.take.Goals as goal
 use Rattle.line_checks.proofs.step_line.take.Goals.{In-ByClause}
 

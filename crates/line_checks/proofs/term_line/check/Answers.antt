@@ -16,7 +16,6 @@ use Rattle.parsing.specs.Taken.{TermTakenAs}
 use Rattle.packing.specs.Packing.{name_limit}
 use Rattle.terms.specs.Lines.{MakesTerm}
 use Rattle.line_checks.proofs.TermLines.{term_unknown, term_unused, term_made, term_refused}
-use borrow.Author.Rules.{rules}
 use Rattle.line_checks.proofs.term_line.check.Goals as goal
 use Rattle.line_checks.proofs.term_line.check.Goals.{In-Known, In-Term}
 
