@@ -9,6 +9,7 @@ pub mod HeapSaid
 pub mod ClauseLines
 pub mod Evaluated
 pub mod StepPrefix
+pub mod AllTrueTold
 pub mod Computed
 pub mod Loops
 pub mod Ordered

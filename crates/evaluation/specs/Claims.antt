@@ -10,7 +10,7 @@ use Rattle.tableau.specs.Claims.{all_but_last, lines_of, line_literal, line_disj
 use Rattle.evaluation.specs.declared.FactWord.{FactWord}
 use Rattle.evaluation.specs.Facts.{heap_letters, fact_words, Facts}
 use Rattle.evaluation.specs.Heaps.{is_order, heap_of, values_of, AsSaid}
-use Rattle.evaluation.specs.Evaluation.{before_steps, Evaluation, no_refusal, evaluation_within}
+use Rattle.evaluation.specs.Evaluation.{before_steps, Evaluation, no_refusal, evaluation_within, evaluation_line, evaluation_bytes}
 
 abbrev pub Evaluator : Type 0
 Evaluator = List ℕ → List ℕ → Evaluation
@@ -59,6 +59,11 @@ EqualsMeaning evaluator = (file heap_file : List ℕ) → (evaluator file heap_f
 -- "so no accepted file's assumptions ever evaluate to all true"
 unfoldable pub NeverAllTrue : Evaluator → Type 0
 NeverAllTrue evaluator = (file heap_file : List ℕ) → (reply file).is_yes ≡ true → ¬ (evaluator file heap_file ≡ no_refusal 0)
+
+-- nor is its line ever `0,0,0`, or its three numbers in the buffer
+unfoldable pub NeverSaidAllTrue : Evaluator → Type 0
+NeverSaidAllTrue evaluator = (file heap_file : List ℕ) → (reply file).is_yes ≡ true
+    → ¬ (evaluation_line (evaluator file heap_file) ≡ evaluation_line (no_refusal 0)) × ¬ (evaluation_bytes (evaluator file heap_file) ≡ evaluation_bytes (no_refusal 0))
 
 -- "Files whose numbers have at most four digits keep their replies": both files
 unfoldable pub KeepsEvaluations : ℕ → Evaluator → Type 0

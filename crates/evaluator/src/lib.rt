@@ -70,6 +70,7 @@ pub fn tabeval(file: &[u8], heap: &[u8], reply: &mut [u8]) -> u32
     ensures value { result ≡ (specification.evaluation_call file.now heap.now reply.old).returns }
     ensures reply_after { reply.new ≡ (specification.evaluation_call file.now heap.now reply.old).buffer }
     ensures means { result ≡ 0 → Means file.now heap.now (specification.evaluation file.now heap.now) }
+    ensures never_all_true { (reply_to file.now).is_yes ≡ true → reply.new ≡ specification.evaluation_bytes (specification.no_refusal 0) → ⊥ }
 {
     if reply.len() != Evaluation::BUFFER_BYTES {
         return reply::reason_number(Reason::BufferLength) as u32;
@@ -84,6 +85,7 @@ pub fn tabeval(file: &[u8], heap: &[u8], reply: &mut [u8]) -> u32
 pub fn evaluation_line(file: &[u8], heap: &[u8]) -> Text
     ensures len_in_bounds { result.len ≤ length result.bytes }
     ensures result_value { text_of result ≡ specification.evaluation_line (specification.evaluation file.now heap.now) }
+    ensures never_all_true { (reply_to file.now).is_yes ≡ true → text_of result ≡ specification.evaluation_line (specification.no_refusal 0) → ⊥ }
 {
     let answer = evaluate(file, heap);
     let mut bytes: [u8; Reply::LINE_BYTES] = [0; Reply::LINE_BYTES];

@@ -9,21 +9,15 @@ use lib.Dec.{eqb}
 use lib.ListN.{length, get_or}
 use borrow.Author.Tests.{eqb-true}
 use Rattle.tableau.specs.Basics.{bytes, same_bytes, lookup}
-use Rattle.tableau.specs.File.{LF, comma, is_digit, number}
-use Rattle.tableau.specs.Reply.{Reply, reply_numbers, decimal, comma_numbers, yes_or_no, reply_line}
+use Rattle.tableau.specs.File.{LF, comma, number}
+use Rattle.tableau.specs.Reply.{Reply, reply_numbers, decimal, yes_or_no, reply_line}
 use Rattle.tableau.specs.Claims.{AllBelow}
 use Rattle.tableau.proofs.Bools.{some_inj, then_inv, guard_inv}
 use Rattle.tableau.proofs.Checks.{lookup_agree}
 use Rattle.tableau.proofs.Pieces.{each_behind, pieces, free, AllFree, free_append, free_behind, split_behind}
-use Rattle.tableau.proofs.Decimals.{number_decimal, decimal_free, decimal_of_number}
+use Rattle.tableau.proofs.Decimals.{number_decimal, decimal_of_number, comma_numbers_lem, decimals_free}
 use Rattle.statistics.specs.ReplyLines.{answers, reply_digits, numbers, seven_numbers, reply_fields, reply_shape}
 use Rattle.statistics.specs.Claims.{ShapeOfReply}
-
--- THE NUMBERS of a line: their decimals, each behind a comma, and the LF
-comma_numbers_lem : (ns : List ℕ) → comma_numbers ns ≡ each_behind comma (map decimal ns) ++ (LF ∷ [])
-unfolding comma_numbers each_behind
-comma_numbers_lem [] = refl
-comma_numbers_lem (n ∷ ns) = ap (λ l. comma ∷ (decimal n ++ l)) (comma_numbers_lem ns) ∙ ap (λ l. comma ∷ l) (sym (append_assoc (decimal n) (each_behind comma (map decimal ns)) (LF ∷ [])))
 
 -- texts that are read as numbers are their decimals, and decimals are so read
 numbers_read : (ps : List (List ℕ)) (ns : List ℕ) → numbers ps ≡ some ns → (ps ≡ map decimal ns) × AllBelow (10 ^ reply_digits) ns
@@ -40,11 +34,6 @@ decimals_read : (ns : List ℕ) → AllBelow (10 ^ reply_digits) ns → numbers 
 unfolding numbers
 decimals_read [] b = refl
 decimals_read (n ∷ ns) b = rw (number_decimal reply_digits n (omega arith) b.0, decimals_read ns b.1)
-
--- they have no other byte than digits
-decimals_free : (c : ℕ) → is_digit c ≡ false → (ns : List ℕ) → AllFree c (map decimal ns)
-decimals_free c o [] = tt
-decimals_free c o (n ∷ ns) = (decimal_free n c o, decimals_free c o ns)
 
 -- seven of them are those of the reply
 seven_are : (ns : List ℕ) → length ns ≡ 7

@@ -1,7 +1,7 @@
 -- Numbers in decimal: the digits of a number are read as that number, and what is read as a number is its digits.
 use mathlib.Core.Path.{◌≡◌, refl, sym, ◌∙◌, ap}
 use mathlib.Core.Bool.{Bool, true, false, ◌||◌, not, true≢false}
-use mathlib.Core.List.{List, [], ◌∷◌}
+use mathlib.Core.List.{List, [], ◌∷◌, ◌++◌, map, append_assoc, append_cancel_right}
 use mathlib.Core.Logic.{◌⊎◌, inl, inr}
 use mathlib.Core.Option.{some}
 use Prim.Native.Nat.{ℕ, zero, suc, ◌+◌, ◌-◌, ◌*◌, ◌/◌, ◌%◌, ◌^◌, ◌<◌, ◌≤◌}
@@ -12,10 +12,10 @@ use lib.Dec.{eqb, leb}
 use lib.ListN.{length, get_or}
 use borrow.Author.Tests.{lt-ltb, le-ltb, le-leb, leb-true, eqb-true, eqb-false, ne_eqb, not-true}
 use Rattle.tableau.specs.Basics.{guard}
-use Rattle.tableau.specs.File.{is_digit, digits, number}
-use Rattle.tableau.specs.Reply.{decimal_from, decimal}
+use Rattle.tableau.specs.File.{LF, comma, split, is_digit, digits, number}
+use Rattle.tableau.specs.Reply.{decimal_from, decimal, comma_numbers}
 use Rattle.tableau.proofs.Bools.{clash, both_true, both_i, one_true, none≢some, some_inj, guard_inv}
-use Rattle.tableau.proofs.Pieces.{free}
+use Rattle.tableau.proofs.Pieces.{each_behind, free, AllFree, split_behind}
 
 -- THE DIGITS, found from the last to the first
 abbrev tested : ℕ → ℕ → List ℕ → Bool → List ℕ
@@ -173,3 +173,39 @@ decimal_of_number most n (b ∷ bs) e =
     let t = both_true (leb (length (b ∷ bs)) most) _ g.0 in
     let width = leb-true (length (b ∷ bs)) most t.0 in
     (read_all b n bs t.1 g.1, le_trans (read_below (b ∷ bs) 0 n 0 (omega arith) g.1) (pow-le-pow_right (omega arith) (omega arith)))
+
+-- NUMBERS IN A LINE: their decimals, each behind a comma, and the LF
+pub comma_numbers_lem : (ns : List ℕ) → comma_numbers ns ≡ each_behind comma (map decimal ns) ++ (LF ∷ [])
+unfolding comma_numbers each_behind
+comma_numbers_lem [] = refl
+comma_numbers_lem (n ∷ ns) = ap (λ l. comma ∷ (decimal n ++ l)) (comma_numbers_lem ns) ∙ ap (λ l. comma ∷ l) (sym (append_assoc (decimal n) (each_behind comma (map decimal ns)) (LF ∷ [])))
+
+-- they have no other byte than digits
+pub decimals_free : (c : ℕ) → is_digit c ≡ false → (ns : List ℕ) → AllFree c (map decimal ns)
+decimals_free c o [] = tt
+decimals_free c o (n ∷ ns) = (decimal_free n c o, decimals_free c o ns)
+
+-- THE LINE TELLS THEM
+decimal_injective : (m n : ℕ) → decimal m ≡ decimal n → m ≡ n
+decimal_injective m n e =
+    let most = suc (m + n) in
+    let read : (k : ℕ) → k ≤ most → number most (decimal k) ≡ some k = λ k h. number_decimal most k (omega arith) (le_trans (below_power k) (pow-le-pow_right (omega arith) h)) in
+    some_inj (sym (read m (omega arith)) ∙ ap (number most) e ∙ read n (omega arith))
+
+decimals_injective : (ms ns : List ℕ) → map decimal ms ≡ map decimal ns → ms ≡ ns
+decimals_injective [] [] e = refl
+decimals_injective [] (n ∷ ns) e = let z : true ≡ false = cc in absurd (true≢false z)
+decimals_injective (m ∷ ms) [] e = let z : true ≡ false = cc in absurd (true≢false z)
+decimals_injective (m ∷ ms) (n ∷ ns) e =
+    let h : decimal m ≡ decimal n = cc in
+    let t : map decimal ms ≡ map decimal ns = cc in
+    (λ i. decimal_injective m n h i ∷ decimals_injective ms ns t i)
+
+pub numbers_told : (m n : ℕ) (ms ns : List ℕ) → decimal m ++ comma_numbers ms ≡ decimal n ++ comma_numbers ns → m ∷ ms ≡ n ∷ ns
+numbers_told m n ms ns e =
+    let text : (k : ℕ) (ks : List ℕ) → decimal k ++ comma_numbers ks ≡ (decimal k ++ each_behind comma (map decimal ks)) ++ (LF ∷ [])
+    = λ k ks. ap (λ l. decimal k ++ l) (comma_numbers_lem ks) ∙ sym (append_assoc (decimal k) (each_behind comma (map decimal ks)) (LF ∷ [])) in
+    let cut : (k : ℕ) (ks : List ℕ) → split comma (decimal k ++ each_behind comma (map decimal ks)) ≡ map decimal (k ∷ ks)
+    = λ k ks. split_behind comma (decimal k) (map decimal ks) (decimals_free comma refl (k ∷ ks)) in
+    let same = append_cancel_right _ _ (LF ∷ []) (sym (text m ms) ∙ e ∙ text n ns) in
+    decimals_injective (m ∷ ms) (n ∷ ns) (sym (cut m ms) ∙ ap (split comma) same ∙ cut n ns)

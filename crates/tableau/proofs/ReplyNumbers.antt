@@ -40,7 +40,7 @@ fits_or_too_long file = go (leb (length file) max_bytes) refl
     go false e = inr refl
 
 -- THE COUNTS: no more lines than pieces, nothing counted more often than there are lines, no more clauses than C lines
-but_last : (ls : List (List ℕ)) → length (all_but_last ls) ≤ length ls
+pub but_last : (ls : List (List ℕ)) → length (all_but_last ls) ≤ length ls
 but_last [] = omega arith
 but_last (l ∷ []) = omega arith
 but_last (l ∷ m ∷ ls) = omega (arith, but_last (m ∷ ls))
