@@ -61,7 +61,7 @@ pub fn tabcheck(file: &[u8], reply: &mut [u8]) -> u32
     number as u32
 }
 
-// The reply line of a file.
+// The reply line of a file. The bytes behind `len` are free, since nobody writes them out.
 pub fn reply_line(file: &[u8]) -> Text
     ensures len_in_bounds { result.len ≤ length result.bytes }
     ensures result_value { text_of result ≡ specification.reply_line (specification.reply file.now) }

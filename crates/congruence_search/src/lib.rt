@@ -371,7 +371,8 @@ fn step(
     meet(cells, pairs, terms, u, t)
 }
 
-// Writes the pairs, and says how many there are.
+// Writes the pairs, and says how many there are. Which they are, and in which order, is free: whoever
+// follows them tests each. Any number in the array is a pair of two small numbers (`pairs::first`, `second`).
 pub fn plan(
     blocks: &[u16; NUMBERS],
     terms: &[u64; NUMBERS],

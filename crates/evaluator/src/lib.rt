@@ -81,7 +81,7 @@ pub fn tabeval(file: &[u8], heap: &[u8], reply: &mut [u8]) -> u32
     number as u32
 }
 
-// The reply line.
+// The reply line. The bytes behind `len` are free, as in `checker::reply_line`.
 pub fn evaluation_line(file: &[u8], heap: &[u8]) -> Text
     ensures len_in_bounds { result.len ≤ length result.bytes }
     ensures result_value { text_of result ≡ specification.evaluation_line (specification.evaluation file.now heap.now) }

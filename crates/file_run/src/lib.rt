@@ -55,8 +55,9 @@ impl Run {
         self.ends(RunEnd::Stopped(Reason::BadShape, lines + 1))
     }
 
-    // From an empty tree, with arrays that hold no term, no row and no clause. The loop stands inside the method: called for each step, it would
-    // copy the tree.
+    // From an empty tree, with arrays that hold no term, no row and no clause. Where a line is refused, what the tree and the arrays hold is
+    // free: the reason and the line are the whole answer, and nobody looks at them. The loop stands inside the method: called for each step, it
+    // would copy the tree.
     pub fn run(
         mut self,
         file: &[u8],

@@ -313,7 +313,7 @@ fn search_literal(
     s
 }
 
-// Writes the pairs, and says how many there are.
+// Writes the pairs, and says how many there are. Which they are, and in which order, is free, as in `congruence_search`.
 pub fn plan(
     blocks: &[u16; NUMBERS],
     branch: &[u32; Tree::PLACES],

@@ -40,7 +40,8 @@ fn merge(blocks: &mut [u16; NUMBERS], from: u16, to: u16)
     }
 }
 
-// Joins the blocks of a and b, and says whether they were apart. Which number stands for the joined block is left open.
+// Joins the blocks of a and b, and says whether they were apart. Which of its numbers stands for the joined block is free:
+// whoever asks compares two entries, or takes an entry as the block's name.
 pub fn join(blocks: &mut [u16; NUMBERS], a: usize, b: usize) -> bool
     requires { IsPartition blocks.old × Small a × Small b }
     ensures { Joined blocks.old blocks.new a b result }

@@ -2,7 +2,7 @@
 // error.
 #![tactic(auto)]
 
-ghost use Rattle.std.specs.Prelude.{◌≤◌, ◌<◌, length};
+ghost use Rattle.std.specs.Prelude.{◌≡◌, ◌≤◌, ◌<◌, length};
 ghost use Rattle.tableau.specs.File.{max_bytes};
 ghost use Rattle.program_io.specs.Input.{Brings, Fits};
 
@@ -21,9 +21,11 @@ pub enum Input {
 }
 
 // Reads until the input ends or space is full, however few bytes each read brings. Nothing is said
-// of what a failed read leaves in space or in the reader.
+// of what a failed read leaves in space or in the reader. What space holds behind the bytes that came
+// is free too: nobody looks at it.
 pub fn read_all<R: Read>(reader: &mut R, space: &mut [u8]) -> Input
     requires { max_bytes < length space.old }
+    ensures same_room { length space.new ≡ length space.old }
     ensures fits { Fits result (length space.new) }
     ensures brings { Brings (R.remaining reader.old) (R.remaining reader.new) result space.new }
 {
@@ -57,6 +59,7 @@ pub fn read_standard_input<R: Read>(
     space: &mut [u8],
 ) -> Input
     requires { max_bytes < length space.old }
+    ensures same_room { length space.new ≡ length space.old }
     ensures fits { Fits result (length space.new) }
     ensures brings { Brings (R.remaining stdin.old) (R.remaining stdin.new) result space.new }
 {

@@ -4,7 +4,7 @@ use Rattle.congruence.proofs.SignatureLaws.{signed_follow}
 use Rattle.congruence.proofs.join_pair.Goals as goal
 
 pub join-requires : goal.join-requires
-join-requires c = (c.requires, c.first-t.ensures, c.second-w.ensures)
+join-requires c = (c.requires, c.first-t.ensures.small, c.second-w.ensures.small)
 
 pub returns : goal.returns
 returns c =
