@@ -16,8 +16,8 @@ use Rattle.tableau.proofs.Bools.{some_inj}
 use Rattle.evaluation.proofs.Decision.{beq_eq}
 use Rattle.lines.specs.declared.LineFields.{LineFields}
 use Rattle.lines.specs.Lines.{pack_word, capital}
-use Rattle.lines.specs.ByteSteps.{all_capitals}
-use Rattle.lines.proofs.Letters.{relettered, lettered_line, shape_lettered}
+use Rattle.lines.specs.ByteSteps.{all_capitals, OnePass, OnePassIn}
+use Rattle.lines.proofs.Letters.{relettered, lettered_line, shape_lettered, one_pass}
 use Rattle.lines.proofs.PackedWord.{word_small, packed_apart}
 use Rattle.words.specs.Words.{lookup_packed}
 use Rattle.words.proofs.PackedWords.{texts_are_words, lookup_packed_lem}
@@ -85,6 +85,11 @@ known_fields facts k n (some l) h = rw (size_packed k.word h, facts_packed k.wor
 capitals : all_capitals heap_letters ≡ true
 unfolding heap_letters all_capitals bytes capital
 capitals = refl
+
+-- the theorem of one pass, of a heap file
+pub heap_file_one_pass : OnePassIn heap_letters
+unfolding OnePass OnePassIn
+heap_file_one_pass = one_pass _ heap_letters capitals
 
 pub fact_fields_lem : ByFields run_fact run_fact_fields
 unfolding run_fact_read run_fact_fields

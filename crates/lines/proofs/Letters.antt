@@ -6,14 +6,15 @@ use mathlib.Core.Path.{◌≡◌, refl, sym, ap, ◌∙◌}
 use Prim.Native.Nat.{ℕ}
 use lib.Dec.{eqb-suc-zero}
 use lib.ListN.{length}
+use Rattle.tableau.specs.declared.Letter.{Letter}
 use Rattle.tableau.specs.declared.Reason.{Reason}
 use Rattle.tableau.specs.Basics.{then, guard, is_some, four, bytes, same_bytes, Named, lookup}
-use Rattle.tableau.specs.File.{comma, split, is_word, max_digits, number, Line, six_fields, shape}
+use Rattle.tableau.specs.File.{comma, split, is_word, max_digits, number, letters, Line, six_fields, shape}
 use Rattle.tableau.specs.Tree.{◌>>=◌, require_some}
 use Rattle.tableau.proofs.Bools.{both_true, guard_inv, none≢some}
 use Rattle.tableau.proofs.Checks.{same_bytes_lem}
 use Rattle.lines.specs.Lines.{is_capital, capital_of, capital, any_shape}
-use Rattle.lines.specs.ByteSteps.{all_capitals, with_letter, lettered, fields_of, OnePass}
+use Rattle.lines.specs.ByteSteps.{all_capitals, with_letter, lettered, fields_of, OnePass, OnePassIn}
 use Rattle.lines.proofs.OnePass.{any_pass}
 
 -- A TEXT THAT IS ONE CAPITAL
@@ -101,3 +102,8 @@ module _ {L : Type 0} (known : List (Named L)) (capitals : all_capitals known �
 pub one_pass : OnePass
 unfolding OnePass
 one_pass L known capitals l = rw (any_pass l, shape_lettered known capitals l) (file_pass known capitals l)
+
+-- of a checker file, with no premise
+pub checker_file_one_pass : OnePassIn letters
+unfolding OnePass OnePassIn letters all_capitals bytes capital
+checker_file_one_pass = one_pass Letter letters refl

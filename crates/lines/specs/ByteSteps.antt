@@ -149,6 +149,11 @@ unfoldable pub OnePass : Type 1
 OnePass = (L : Type 0) (known : List (Named L)) → all_capitals known ≡ true → (l : List ℕ)
     → (ends (foldl (step six_field_form) empty (l ++ (LF ∷ []))) >>= lettered known) ≡ require_some (then (shape known l) λ k. some (fields_of k)) Reason.BadShape
 
+-- the same of a line in a file with these letters, with no premise
+unfoldable pub OnePassIn : {L : Type 0} → List (Named L) → Type 0
+OnePassIn known = (l : List ℕ)
+    → (ends (foldl (step six_field_form) empty (l ++ (LF ∷ []))) >>= lettered known) ≡ require_some (then (shape known l) λ k. some (fields_of k)) Reason.BadShape
+
 -- and from these fields the line's own can be told, though the word is packed
 unfoldable pub FieldsInjective : Type 1
 FieldsInjective = (L : Type 0) (k n : Line L) → is_word k.word ≡ true → is_word n.word ≡ true → fields_of k ≡ fields_of n → k ≡ n
