@@ -1,5 +1,5 @@
 -- The four sham checkers fall short.
-use mathlib.Core.Path.{◌≡◌, refl, ap, subst, ◌∙◌}
+use mathlib.Core.Path.{◌≡◌, refl, sym, ap, subst, ◌∙◌}
 use mathlib.Core.Bool.{Bool, true, false, ◌||◌, true≢false, false≢true}
 use mathlib.Core.List.{List}
 use mathlib.Core.Option.{Option}
@@ -11,7 +11,7 @@ use Rattle.tableau.specs.Reply.{Reply, reply}
 use Rattle.tableau.specs.Claims.{Checker, NoHeap, Demand3, Model, lines_of, count_if, has_letter, closes_branch, FileCounts, CountsOf, RightCounts}
 use Rattle.tableau.specs.Cases.{F}
 use Rattle.tableau.specs.Failings.{incident}
-use Rattle.tableau.specs.Shams.{yes_to_all, up_to_first, wave_on, first_only, first_step_only, first_alternative_only, Invents, Breaks2At, ShamsFallShort}
+use Rattle.tableau.specs.Shams.{yes_to_all, up_to_first, wave_on, first_only, first_step_only, first_alternative_only, Invents, Breaks2At, ShamsFallShort, ShamKindsFallShort}
 use Rattle.tableau.proofs.Counts.{right_counts}
 use Rattle.tableau.proofs.Evaluate.{evaluate}
 use Rattle.tableau.proofs.Models.{nothing_assumed, incident_model}
@@ -45,4 +45,15 @@ shams_fall_short = record {
   invented_steps = breaks2 (λ r. r.steps) (has_letter Letter.S) (λ file r c. c.steps);
   invented_closings = breaks2 (λ r. r.closings) closes_branch (λ file r c. c.closings);
   some_invent = (record { accepted = refl; differs = λ p. omega (arith, p) }, record { accepted = refl; differs = λ p. omega (arith, p) });
+}
+
+pub sham_kinds_fall_short : ShamKindsFallShort
+unfolding evaluate F incident count_if up_to_first wave_on first_only
+sham_kinds_fall_short = record {
+  any_no_to_all = λ checker no p. false≢true (sym (no _) ∙ ap (λ r. r.is_yes) p);
+  any_number_to_all = λ checker n nonzero gives p. nonzero (sym (gives _) ∙ ap (λ r. r.number) p);
+  any_yes_to_all = λ checker yes'. breaks3 checker nothing_assumed (yes' _);
+  any_yes_to_no_bytes = λ checker yes' p. true≢false (sym (yes' _) ∙ ap (λ r. r.is_yes) p);
+  any_first_step = λ checker waves. breaks3 checker incident_model (waves _ refl);
+  any_first_alternative = λ checker waves. breaks3 checker incident_model (waves _ refl);
 }

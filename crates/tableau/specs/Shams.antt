@@ -69,3 +69,27 @@ pub record ShamsFallShort : Type 0 where
   pub invented_closings : (checker : Checker) (file : List ℕ) → InventsClosings checker file → Breaks2At checker file
   -- there are such checkers: F's own reply to every file, with a step or a closing more
   pub some_invent : InventsSteps (yes_to_all 4 2 3 1) (file_of F) × InventsClosings (yes_to_all 4 2 2 2) (file_of F)
+
+-- AND EACH KIND OF SHAM, whatever else its checkers say
+-- "One that says no to all, or gives 15, 16 or 17 to all", or any other number
+abbrev pub SaysNoToAll : Checker → Type 0
+SaysNoToAll checker = (file : List ℕ) → (checker file).is_yes ≡ false
+
+abbrev pub GivesToAll : ℕ → Checker → Type 0
+GivesToAll n checker = (file : List ℕ) → (checker file).number ≡ n
+
+-- "One that says yes to all", with whatever counts, the file's own too
+abbrev pub SaysYesToAll : Checker → Type 0
+SaysYesToAll checker = (file : List ℕ) → (checker file).is_yes ≡ true
+
+-- any checker that says yes wherever `first_only` does, with whatever counts
+abbrev pub WavesOn : (Option (Line Letter) → Bool) → Checker → Type 0
+WavesOn f checker = (file : List ℕ) → (first_only f file).is_yes ≡ true → (checker file).is_yes ≡ true
+
+pub record ShamKindsFallShort : Type 0 where
+  pub any_no_to_all : (checker : Checker) → SaysNoToAll checker → Breaks2At checker (file_of F)
+  pub any_number_to_all : (checker : Checker) (n : ℕ) → ¬ (n ≡ 0) → GivesToAll n checker → Breaks2At checker (file_of F)
+  pub any_yes_to_all : (checker : Checker) → SaysYesToAll checker → ¬ Demand3 checker
+  pub any_yes_to_no_bytes : (checker : Checker) → SaysYesToAll checker → Breaks2At checker []
+  pub any_first_step : (checker : Checker) → WavesOn (has_letter Letter.S) checker → ¬ Demand3 checker
+  pub any_first_alternative : (checker : Checker) → WavesOn closes_branch checker → ¬ Demand3 checker
