@@ -5,7 +5,8 @@ usage: python3 tools/spell_names.py        at the top of the repository, once, a
 
 Functions, lemmas, fields and constructors get snake case: `zeroIfUnused` becomes `zero_if_unused`, and the lemma
 `found-entry` becomes `found_entry`. A lemma that would get its function's name ends in `_lem`. Types, modules and names
-of Rattle source keep their spelling. The names that change are found in the tree, so that a second run changes nothing.
+of Rattle source keep their spelling. The names that change are found in the tree. A later run would take the names of goals,
+which have dashes, for the repository's own, so it refuses a tree that has answers to goals.
 """
 
 import collections
@@ -89,6 +90,8 @@ def rewrite(path, change, dashes):
 
 
 def main():
+    if glob.glob("crates/*/proofs/**/Answers.antt", recursive=True):
+        raise SystemExit("spell_names: this tree has answers to goals, whose names it would turn: it has run already")
     change = names()
     for path in proof_files():
         rewrite(path, change, True)
