@@ -2,7 +2,7 @@
 #![tactic(auto)]
 
 // "Field 1 is one of the letters T, A, [C], S."
-#[derive(Clone, Copy)]
+#[derive(Clone, Copy, PartialEq, Eq, PartialOrd, Ord)]
 pub enum Letter {
     T,
     A,
@@ -11,7 +11,7 @@ pub enum Letter {
 }
 
 // The sorts of terms.
-#[derive(Clone, Copy)]
+#[derive(Clone, Copy, PartialEq, Eq)]
 pub enum Sort {
     Reference,
     Region,
@@ -21,7 +21,7 @@ pub enum Sort {
 }
 
 // The words whose arguments are terms.
-#[derive(Clone, Copy)]
+#[derive(Clone, Copy, PartialEq, Eq)]
 pub enum Operator {
     Nul,
     Rea,
@@ -38,14 +38,14 @@ pub enum Operator {
 }
 
 // A word of a T line: rfv, rgv, arv, fnv and clv make the variables, one word for each sort; the others are operators.
-#[derive(Clone, Copy)]
+#[derive(Clone, Copy, PartialEq, Eq)]
 pub enum Word {
     Variable(Sort),
     Operation(Operator),
 }
 
 // The words of A and C lines.
-#[derive(Clone, Copy)]
+#[derive(Clone, Copy, PartialEq, Eq)]
 pub enum Relation {
     In,
     Ni,
@@ -56,7 +56,7 @@ pub enum Relation {
 }
 
 // The words of S lines: the rules. Those that close stand side by side, so that one comparison tells them.
-#[derive(Clone, Copy)]
+#[derive(Clone, Copy, PartialEq, Eq)]
 pub enum Rule {
     Eqr,
     Eql,
@@ -119,6 +119,13 @@ pub enum Reason {
     BadClause,
 }
 
+// A refusal: why, and the number of the line.
+#[derive(Clone, Copy)]
+pub struct Refusal {
+    pub reason: Reason,
+    pub line: usize,
+}
+
 // Whether w is fresh; where it isn't, with the place that the reason `NotFresh` has.
 #[derive(Clone, Copy)]
 pub enum Freshness {
@@ -128,19 +135,19 @@ pub enum Freshness {
 
 // "Places, term numbers and names are three separate kinds of count throughout": a place on the branch, the number of a term, the name of
 // a variable. Places and term numbers count from 1.
-#[derive(Clone, Copy)]
+#[derive(Clone, Copy, PartialEq, Eq)]
 pub struct Place(pub usize);
 
-#[derive(Clone, Copy)]
+#[derive(Clone, Copy, PartialEq, Eq)]
 pub struct TermNumber(pub usize);
 
-#[derive(Clone, Copy)]
+#[derive(Clone, Copy, PartialEq, Eq)]
 pub struct Name(pub usize);
 
 // The number of a clause, from 1.
-#[derive(Clone, Copy)]
+#[derive(Clone, Copy, PartialEq, Eq)]
 pub struct ClauseNumber(pub usize);
 
 // The t of `rep`, a side of a literal: "1 left, 2 right".
-#[derive(Clone, Copy)]
+#[derive(Clone, Copy, PartialEq, Eq)]
 pub struct Side(pub usize);
