@@ -2,7 +2,7 @@
 use mathlib.Core.Path.{◌≡◌, refl, sym, ◌∙◌, ap, subst}
 use mathlib.Core.Bool.{Bool, false, ◌||◌}
 use mathlib.Core.List.{List}
-use mathlib.Core.Option.{some}
+use Rattle.std.specs.Prelude.{Some}
 use Prim.Native.Nat.{ℕ, ◌+◌, ◌<◌, ◌≤◌}
 use native.Mathlib.Omega.{arith}
 use lib.ListN.{get_or}
@@ -31,7 +31,7 @@ literal_joined old new l m n r is J = record {
     partition = J.change.partition;
     coarser = J.change.coarser;
     fewer = J.change.fewer;
-    sound = λ table B o C. J.change.sound table B (background.eq_literal (o.0, o.1 ∙ ap some is)) C;
+    sound = λ table B o C. J.change.sound table B (background.eq_literal (o.0, o.1 ∙ ap Some is)) C;
   };
   equal = λ a b e. let s = read_sides (sym is ∙ e) in subst (λ v. block_of new v ≡ block_of new b) s.0 (subst (λ v. block_of new m ≡ block_of new v) s.1 J.together);
 }

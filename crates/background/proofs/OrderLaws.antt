@@ -2,7 +2,7 @@
 use mathlib.Core.Path.{◌≡◌, refl, sym, ◌∙◌, ap, subst}
 use mathlib.Core.Bool.{Bool, true, false, ◌||◌}
 use mathlib.Core.List.{List}
-use mathlib.Core.Option.{some}
+use Rattle.std.specs.Prelude.{Some}
 use Prim.Native.Nat.{ℕ, ◌+◌, ◌<◌, ◌≤◌}
 use native.Mathlib.Omega.{arith}
 use lib.ListN.{get_or}
@@ -47,7 +47,7 @@ module _ (rows old : List ℕ) (l : Literal) (m n : TermNo) (S : IsPartition old
       coarser = J.change.coarser;
       fewer = J.change.fewer;
       sound = λ table B p C.
-          let given : Follows table B Relation.Le m n = background.le_literal (p.0.0, p.0.1 ∙ ap some is) in
+          let given : Follows table B Relation.Le m n = background.le_literal (p.0.0, p.0.1 ∙ ap Some is) in
           let back : Follows table B Relation.Le n m = background.left (background.sym (C n ln)) (background.right (background.sym (C m lm)) (p.1 _ _ (S.small n) (S.small m) h)) in
           J.change.sound table B (background.lea given back) C;
     };

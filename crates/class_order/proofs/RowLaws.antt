@@ -3,7 +3,7 @@ use mathlib.Core.Path.{◌≡◌, refl, sym, ◌∙◌, ap, subst}
 use mathlib.Core.Bool.{Bool, true, false, ◌||◌}
 use mathlib.Core.List.{List}
 use mathlib.Core.Logic.{◌⊎◌, inl, inr}
-use mathlib.Core.Option.{some}
+use Rattle.std.specs.Prelude.{Some}
 use Prim.Native.Nat.{ℕ}
 use lib.Dec.{eqb}
 use borrow.Author.Tests.{eqb-true, eqb-false}
@@ -113,7 +113,7 @@ module _ (blocks old new : List ℕ) (l : Literal) (m n : TermNo) (S : IsPartiti
 
   pub literal_raised : (r : Bool) → Raised old new x y r → RaisedLiteral blocks old new l r
   literal_raised r R = record {
-    change = raised_extended old new x y r R (S.small m) (S.small n) _ blocks (λ table B o. order.edge m n (o.0, o.1 ∙ ap some is) refl refl);
+    change = raised_extended old new x y r R (S.small m) (S.small n) _ blocks (λ table B o. order.edge m n (o.0, o.1 ∙ ap Some is) refl refl);
     less = R.less;
     held = held_if r R;
   }

@@ -1,6 +1,6 @@
 -- What a rule is given, and what it answers: checks 12 to 14.
 use Rattle.std.specs.Prelude.{◌≡◌, Bool, true, false, List, [], ℕ}
-use Rattle.std.proofs.Math.Option.{Option, none, some}
+use Rattle.std.specs.Prelude.{Option, None, Some}
 use Rattle.tableau.specs.declared.Freshness.{Freshness}
 use Rattle.tableau.specs.declared.Rule.{Rule}
 use Rattle.tableau.specs.Fields.{PlaceField, ThirdField, TermField, unused, place, side, clause, term, of, rule_fields}
@@ -15,8 +15,8 @@ use Rattle.rules.specs.Answer.{Room, answer_of}
 
 -- the literal that a place gives the rule
 abbrev pub at_place : PlaceField → LiteralView → Option Literal
-at_place unused P = none
-at_place place P = some (literal_of P)
+at_place unused P = None
+at_place place P = Some (literal_of P)
 
 -- the numbers of the fields t and w: 0 where the rule does not use the field, else that of a term, or any side or clause
 abbrev pub ThirdGiven : ThirdField → ℕ → Type 0

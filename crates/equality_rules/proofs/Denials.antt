@@ -2,7 +2,7 @@
 use mathlib.Core.Path.{◌≡◌, sym, subst}
 use mathlib.Core.Bool.{true, false}
 use mathlib.Core.List.{List, []}
-use mathlib.Core.Option.{some}
+use Rattle.std.specs.Prelude.{Some}
 use lib.Dec.{eqb}
 use Rattle.tableau.specs.declared.Freshness.{Freshness}
 use Rattle.tableau.specs.declared.Reason.{Reason}
@@ -22,7 +22,7 @@ closes_room : (a b x y : TermNo) → Room (closes_on_same a b x y)
 closes_room a b x y = by_test (eqb a x) (λ l. by_test (eqb b y) (λ m. rw (l, m) tt) (λ m. rw (l, m) tt)) (λ l. rw l tt)
 
 abbrev Answers : LiteralView → LiteralView → Checked (List (List Literal)) → Type 0
-Answers p q k = (table : Table) (fresh : Freshness) → answer table fresh (some (literal_of p)) (some (literal_of q)) [] false 0 0 Rule.Cls ≡ k
+Answers p q k = (table : Table) (fresh : Freshness) → answer table fresh (Some (literal_of p)) (Some (literal_of q)) [] false 0 0 Rule.Cls ≡ k
 
 -- p and q are of a relation and its denial, and their row looks at the sides alone
 pub on_sides : {A : Table → Type 0} {p q : LiteralView} (F G : TermNumber → TermNumber → LiteralView) {a b x y : TermNumber} {r : Outcome}
@@ -30,7 +30,7 @@ pub on_sides : {A : Table → Type 0} {p q : LiteralView} (F G : TermNumber → 
     → (eqb a.0 x.0 ≡ false → Answers (F a b) (G x y) (refused Reason.NeedNotMet))
     → (eqb a.0 x.0 ≡ true → eqb b.0 y.0 ≡ false → Answers (F a b) (G x y) (refused Reason.NeedNotMet))
     → (eqb a.0 x.0 ≡ true → eqb b.0 y.0 ≡ true → Answers (F a b) (G x y) (passed []))
-    → Concludes A Rule.Cls (some (literal_of p)) (some (literal_of q)) 0 0 r
+    → Concludes A Rule.Cls (Some (literal_of p)) (Some (literal_of q)) 0 0 r
 on_sides F G {a} {b} {x} {y} i j e left right closed = record {
   room = subst Room (sym e) (closes_room a.0 b.0 x.0 y.0);
   answers = λ table h fresh.

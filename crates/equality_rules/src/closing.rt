@@ -1,6 +1,6 @@
 // The rules that close: cls, emp and bck.
 ghost use Rattle.std.specs.Prelude.{◌≡◌};
-ghost use Rattle.std.proofs.Math.Option.{none, some};
+ghost use Rattle.std.specs.Prelude.{None, Some};
 ghost use Rattle.tableau.specs.declared.Relation.{Relation};
 ghost use Rattle.tableau.specs.declared.Rule.{Rule};
 ghost use Rattle.tableau.specs.Terms.{Table};
@@ -27,7 +27,7 @@ fn closes(a: TermNumber, b: TermNumber, x: TermNumber, y: TermNumber) -> Outcome
 
 // a in b; a ni b, or a eq b; a ne b, or a le b; a nl b: closes.
 pub fn cls(p: LiteralView, q: LiteralView) -> Outcome
-    ensures { Concludes Anywhere Rule.Cls (some (literal_of p)) (some (literal_of q)) 0 0 result }
+    ensures { Concludes Anywhere Rule.Cls (Some (literal_of p)) (Some (literal_of q)) 0 0 result }
 {
     let LiteralView::In(a, b) = p else {
         return cls_equal(p, q);
@@ -41,7 +41,7 @@ pub fn cls(p: LiteralView, q: LiteralView) -> Outcome
 // The same from the second row on, where p is no `in`.
 fn cls_equal(p: LiteralView, q: LiteralView) -> Outcome
     requires { IsNot Relation.In p }
-    ensures { Concludes Anywhere Rule.Cls (some (literal_of p)) (some (literal_of q)) 0 0 result }
+    ensures { Concludes Anywhere Rule.Cls (Some (literal_of p)) (Some (literal_of q)) 0 0 result }
 {
     let LiteralView::Eq(a, b) = p else {
         return cls_ordered(p, q);
@@ -55,7 +55,7 @@ fn cls_equal(p: LiteralView, q: LiteralView) -> Outcome
 // The third row, where p is no `eq` either.
 fn cls_ordered(p: LiteralView, q: LiteralView) -> Outcome
     requires { IsNot Relation.In p × IsNot Relation.Eq p }
-    ensures { Concludes Anywhere Rule.Cls (some (literal_of p)) (some (literal_of q)) 0 0 result }
+    ensures { Concludes Anywhere Rule.Cls (Some (literal_of p)) (Some (literal_of q)) 0 0 result }
 {
     let LiteralView::Le(a, b) = p else {
         return Outcome::Refused(Reason::NeedNotMet);
@@ -70,7 +70,7 @@ fn cls_ordered(p: LiteralView, q: LiteralView) -> Outcome
 pub fn emp(p: LiteralView, terms: &[u64; table::NUMBERS]) -> Outcome
     requires held_by { (table : Table) × HeldBy terms.now table }
     requires small_literal { SmallLiteral p }
-    ensures { Concludes (HeldBy terms.now) Rule.Emp (some (literal_of p)) none 0 0 result }
+    ensures { Concludes (HeldBy terms.now) Rule.Emp (Some (literal_of p)) None 0 0 result }
 {
     let LiteralView::In(_, r) = p else {
         return Outcome::Refused(Reason::NeedNotMet);

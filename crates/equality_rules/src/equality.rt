@@ -1,5 +1,5 @@
 // The rules of equality: ref, sym, trn, sub, rep.
-ghost use Rattle.std.proofs.Math.Option.{none, some};
+ghost use Rattle.std.specs.Prelude.{None, Some};
 ghost use Rattle.tableau.specs.declared.Rule.{Rule};
 ghost use Rattle.tableau.specs.Terms.{Table};
 ghost use Rattle.packing.specs.Packing.{literal_of, Small, SmallLiteral};
@@ -15,7 +15,7 @@ use tableau::{Reason, Relation, Side, TermNumber};
 // The rule `ref`: any term t gives t eq t.
 pub fn reflexive(t: TermNumber) -> Outcome
     requires { Small t.0 }
-    ensures { Concludes Anywhere Rule.Ref none none t.0 0 result }
+    ensures { Concludes Anywhere Rule.Ref None None t.0 0 result }
 {
     outcome::adds_one(literal(Relation::Eq, t, t))
 }
@@ -23,7 +23,7 @@ pub fn reflexive(t: TermNumber) -> Outcome
 // a eq b gives b eq a, or a ne b gives b ne a.
 pub fn sym(p: LiteralView) -> Outcome
     requires { SmallLiteral p }
-    ensures { Concludes Anywhere Rule.Sym (some (literal_of p)) none 0 0 result }
+    ensures { Concludes Anywhere Rule.Sym (Some (literal_of p)) None 0 0 result }
 {
     let LiteralView::Eq(a, b) = p else {
         return sym_unequal(p);
@@ -34,7 +34,7 @@ pub fn sym(p: LiteralView) -> Outcome
 // The second row, where p is no `eq`.
 fn sym_unequal(p: LiteralView) -> Outcome
     requires { SmallLiteral p × IsNot Relation.Eq p }
-    ensures { Concludes Anywhere Rule.Sym (some (literal_of p)) none 0 0 result }
+    ensures { Concludes Anywhere Rule.Sym (Some (literal_of p)) None 0 0 result }
 {
     let LiteralView::Ne(a, b) = p else {
         return Outcome::Refused(Reason::NeedNotMet);
@@ -45,7 +45,7 @@ fn sym_unequal(p: LiteralView) -> Outcome
 // a eq b; b eq c gives a eq c.
 pub fn trn(p: LiteralView, q: LiteralView) -> Outcome
     requires { SmallLiteral p × SmallLiteral q }
-    ensures { Concludes Anywhere Rule.Trn (some (literal_of p)) (some (literal_of q)) 0 0 result }
+    ensures { Concludes Anywhere Rule.Trn (Some (literal_of p)) (Some (literal_of q)) 0 0 result }
 {
     let LiteralView::Eq(a, b) = p else {
         return Outcome::Refused(Reason::NeedNotMet);
@@ -64,7 +64,7 @@ pub fn trn(p: LiteralView, q: LiteralView) -> Outcome
 pub fn sub(p: LiteralView, t: TermNumber, w: TermNumber, terms: &[u64; table::NUMBERS]) -> Outcome
     requires held_by { (table : Table) × HeldBy terms.now table }
     requires small { Small t.0 × Small w.0 }
-    ensures { Concludes (HeldBy terms.now) Rule.Sub (some (literal_of p)) none t.0 w.0 result }
+    ensures { Concludes (HeldBy terms.now) Rule.Sub (Some (literal_of p)) None t.0 w.0 result }
 {
     let LiteralView::Eq(a, b) = p else {
         return Outcome::Refused(Reason::NeedNotMet);
@@ -78,7 +78,7 @@ pub fn sub(p: LiteralView, t: TermNumber, w: TermNumber, terms: &[u64; table::NU
 // any literal; a eq b; side t (1 left, 2 right) is a: gives p's literal with b on that side.
 pub fn rep(p: LiteralView, q: LiteralView, side: Side) -> Outcome
     requires { SmallLiteral p × SmallLiteral q }
-    ensures { Concludes Anywhere Rule.Rep (some (literal_of p)) (some (literal_of q)) side.0 0 result }
+    ensures { Concludes Anywhere Rule.Rep (Some (literal_of p)) (Some (literal_of q)) side.0 0 result }
 {
     let LiteralView::Eq(a, b) = q else {
         return Outcome::Refused(Reason::NeedNotMet);

@@ -1,5 +1,5 @@
 // The rules of the order of classes: ler, let, lea.
-ghost use Rattle.std.proofs.Math.Option.{none, some};
+ghost use Rattle.std.specs.Prelude.{None, Some};
 ghost use Rattle.tableau.specs.declared.Rule.{Rule};
 ghost use Rattle.packing.specs.Packing.{literal_of, Small, SmallLiteral};
 ghost use Rattle.rules.specs.Answer.{Anywhere, Concludes};
@@ -12,7 +12,7 @@ use tableau::{Reason, Relation, TermNumber};
 // class t gives t le t.
 pub fn ler(t: TermNumber) -> Outcome
     requires { Small t.0 }
-    ensures { Concludes Anywhere Rule.Ler none none t.0 0 result }
+    ensures { Concludes Anywhere Rule.Ler None None t.0 0 result }
 {
     outcome::adds_one(literal(Relation::Le, t, t))
 }
@@ -20,7 +20,7 @@ pub fn ler(t: TermNumber) -> Outcome
 // The rule `let`: a le b; b le c gives a le c.
 pub fn transitive(p: LiteralView, q: LiteralView) -> Outcome
     requires { SmallLiteral p × SmallLiteral q }
-    ensures { Concludes Anywhere Rule.Let (some (literal_of p)) (some (literal_of q)) 0 0 result }
+    ensures { Concludes Anywhere Rule.Let (Some (literal_of p)) (Some (literal_of q)) 0 0 result }
 {
     let LiteralView::Le(a, b) = p else {
         return Outcome::Refused(Reason::NeedNotMet);
@@ -37,7 +37,7 @@ pub fn transitive(p: LiteralView, q: LiteralView) -> Outcome
 // a le b; b le a gives a eq b.
 pub fn lea(p: LiteralView, q: LiteralView) -> Outcome
     requires { SmallLiteral p }
-    ensures { Concludes Anywhere Rule.Lea (some (literal_of p)) (some (literal_of q)) 0 0 result }
+    ensures { Concludes Anywhere Rule.Lea (Some (literal_of p)) (Some (literal_of q)) 0 0 result }
 {
     let LiteralView::Le(a, b) = p else {
         return Outcome::Refused(Reason::NeedNotMet);

@@ -1,7 +1,7 @@
 -- Which texts begin `S,`: a line exactly where its letter is S, a text exactly where its first line does.
 use mathlib.Core.Path.{◌≡◌, refl, sym, ◌∙◌, ap}
 use mathlib.Core.List.{List, [], ◌∷◌, ◌++◌}
-use mathlib.Core.Option.{some}
+use Rattle.std.specs.Prelude.{Some}
 use Prim.Native.Nat.{ℕ}
 use Rattle.tableau.specs.declared.Letter.{Letter}
 use Rattle.tableau.specs.Basics.{bytes, same_bytes, lookup}
@@ -12,7 +12,7 @@ use Rattle.tableau.proofs.Pieces.{each_behind, pieces}
 use Rattle.evaluation.specs.Evaluation.{begins_step}
 
 -- the first piece of a line is its letter, and S is the last of the letters
-pub begins_step_lem : {L : Line Letter} (l : List ℕ) → shape letters l ≡ some L → begins_step l ≡ in_order Letter.S L.letter
+pub begins_step_lem : {L : Line Letter} (l : List ℕ) → shape letters l ≡ Some L → begins_step l ≡ in_order Letter.S L.letter
 unfolding letters rank bytes same_bytes each_behind
 begins_step_lem {L} l e =
     let f = six_fields_lem max_digits (lookup letters) (split comma l) e in

@@ -2,7 +2,7 @@
 use mathlib.Core.Path.{◌≡◌, refl, sym, ◌∙◌, ap}
 use mathlib.Core.Bool.{Bool, true, false, beq, true≢false}
 use mathlib.Core.List.{List, [], ◌∷◌, ◌++◌, map, append-nil, map-append}
-use mathlib.Core.Option.{some}
+use Rattle.std.specs.Prelude.{Some}
 use Prim.Native.Nat.{ℕ, suc, ◌≤◌}
 use native.Mathlib.Omega.{arith}
 use lib.Dec.{eqb}
@@ -21,9 +21,9 @@ use Rattle.evaluation.specs.Sayable.{max_number, word_text, joined, fact_line}
 use Rattle.evaluation.specs.contracts.FactWord as word-type
 
 -- WORDS, by their texts
-pub known : (w : FactWord) → lookup fact_words (word_text w) ≡ some w
+pub known : (w : FactWord) → lookup fact_words (word_text w) ≡ Some w
 unfolding lookup fact_words fact_index bytes same_bytes
-known = every_equal word-type.enum refl (λ w. lookup fact_words (word_text w)) some refl
+known = every_equal word-type.enum refl (λ w. lookup fact_words (word_text w)) Some refl
 
 text_small : (w : FactWord) → is_word (word_text w) ≡ true
 unfolding fact_words fact_index bytes all_small
@@ -36,12 +36,12 @@ text_free = every_value word-type.enum refl (λ w. free comma (word_text w)) ref
 abbrev pub is_size : FactWord → Bool
 is_size w = eqb (fact_index w) (fact_index FactWord.Siz)
 
-pub is_size_lem : {w : FactWord} (bs : List ℕ) → lookup fact_words bs ≡ some w → is_size w ≡ same_bytes (bytes "siz") bs
+pub is_size_lem : {w : FactWord} (bs : List ℕ) → lookup fact_words bs ≡ Some w → is_size w ≡ same_bytes (bytes "siz") bs
 unfolding fact_index fact_words bytes same_bytes
 is_size_lem bs = lookup_agree is_size (same_bytes (bytes "siz")) fact_words bs refl
 
 -- NUMBERS, by their decimals
-low_read : (n : ℕ) → n ≤ max_number → number max_digits (decimal n) ≡ some n
+low_read : (n : ℕ) → n ≤ max_number → number max_digits (decimal n) ≡ Some n
 low_read n h = number_decimal max_digits n (omega arith) (omega arith)
 
 -- PIECES that are joined
@@ -57,7 +57,7 @@ split_joined c p qs h = ap (split c) (joined_behind c p qs) ∙ split_behind c p
 abbrev pub Low : Four ℕ → Type 0
 Low n = (n.a ≤ max_number) × (n.b ≤ max_number) × (n.c ≤ max_number) × (n.d ≤ max_number)
 
-line_shape : (x : Fact) → Low x.fields → shape heap_letters (fact_line x) ≡ some (record { letter = tt; word = word_text x.word; fields = x.fields })
+line_shape : (x : Fact) → Low x.fields → shape heap_letters (fact_line x) ≡ Some (record { letter = tt; word = word_text x.word; fields = x.fields })
 unfolding fact_line six_fields heap_letters lookup bytes same_bytes free
 line_shape x l =
     ap (six_fields max_digits (lookup heap_letters)) (split_joined comma (bytes "D") _

@@ -2,7 +2,7 @@
 use mathlib.Core.Path.{◌≡◌, refl, sym, ◌∙◌, ap}
 use mathlib.Core.Bool.{Bool, true, false, cond, false≢true}
 use mathlib.Core.List.{List, [], ◌∷◌, ◌++◌, append_assoc, append-nil}
-use mathlib.Core.Option.{some}
+use Rattle.std.specs.Prelude.{Some}
 use Prim.Native.Nat.{ℕ}
 use Rattle.tableau.specs.declared.Letter.{Letter}
 use Rattle.tableau.specs.Basics.{lookup, every}
@@ -120,9 +120,9 @@ no_literals_lem {σ} (next {σ' = σ'} {l = l} {ls = ls} p r) n a = go (one_adde
 pub record FactPassed (facts : Facts) (bs : List ℕ) (facts' : Facts) : Type 0 where
   pub line : Line (Unit {0})
   pub word : FactWord
-  pub shaped : shape heap_letters bs ≡ some line
+  pub shaped : shape heap_letters bs ≡ Some line
   pub ordered : size_first facts line.word ≡ true
-  pub known : lookup fact_words line.word ≡ some word
+  pub known : lookup fact_words line.word ≡ Some word
   pub unused_zero : every zero_unless_used (fact_fields word) line.fields ≡ true
   pub follows : may_follow facts word line.fields ≡ true
   pub after : facts ++ (record { word = word; fields = line.fields } ∷ []) ≡ facts'

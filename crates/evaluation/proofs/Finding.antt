@@ -2,7 +2,7 @@
 use mathlib.Core.Path.{◌≡◌, refl, sym, ◌∙◌, ap}
 use mathlib.Core.Bool.{Bool, true, false, ◌&&◌, cond}
 use mathlib.Core.List.{[], ◌∷◌, ◌++◌, map}
-use mathlib.Core.Option.{Option, none, some}
+use Rattle.std.specs.Prelude.{Option, None, Some}
 use mathlib.Core.Logic.{◌⊎◌, inl, inr}
 use Prim.Native.Nat.{ℕ, ◌<◌}
 use lib.Dec.{eqb, ltb}
@@ -21,7 +21,7 @@ use Rattle.evaluation.proofs.FactLines.{known}
 pub word_at : ℕ → Option FactWord
 word_at i = lookup fact_words (get_or (map (λ n. bytes n.text) fact_words) i [])
 
-pub word_at_lem : (w : FactWord) → word_at (fact_index w) ≡ some w
+pub word_at_lem : (w : FactWord) → word_at (fact_index w) ≡ Some w
 unfolding word_at
 word_at_lem = known
 
@@ -54,19 +54,19 @@ speaks_of_itself x =
 pub find_subject : (xs : Facts) (w : FactWord) (n m : Four ℕ) → subject_of w n ≡ subject_of w m → find xs w n ≡ find xs w m
 unfolding find speaks_of
 find_subject [] w n m e = refl
-find_subject (x ∷ xs) w n m e = λ i. cond (eqb (fact_index w) (fact_index x.word) && every eqb (e i) (subject_of w x.fields)) (some x.fields) (find_subject xs w n m e i)
+find_subject (x ∷ xs) w n m e = λ i. cond (eqb (fact_index w) (fact_index x.word) && every eqb (e i) (subject_of w x.fields)) (Some x.fields) (find_subject xs w n m e i)
 
 -- AMONG MORE FACTS: the first of two
 abbrev or_find : Option (Four ℕ) → Option (Four ℕ) → Option (Four ℕ)
-or_find none o = o
-or_find (some k) o = some k
+or_find None o = o
+or_find (Some k) o = Some k
 
 find_more : (xs ys : Facts) (w : FactWord) (n : Four ℕ) → find (xs ++ ys) w n ≡ or_find (find xs w n) (find ys w n)
 unfolding find
 find_more [] ys w n = refl
 find_more (x ∷ xs) ys w n = go (speaks_of w n x) (find_more xs ys w n)
   where
-    go : (b : Bool) → find (xs ++ ys) w n ≡ or_find (find xs w n) (find ys w n) → cond b (some x.fields) (find (xs ++ ys) w n) ≡ or_find (cond b (some x.fields) (find xs w n)) (find ys w n)
+    go : (b : Bool) → find (xs ++ ys) w n ≡ or_find (find xs w n) (find ys w n) → cond b (Some x.fields) (find (xs ++ ys) w n) ≡ or_find (cond b (Some x.fields) (find xs w n)) (find ys w n)
     go true e = refl
     go false e = e
 
@@ -75,10 +75,10 @@ module _ (x : Fact) (w : FactWord) (n : Four ℕ) (xs : Facts) where
   unfolding said find ◌or◌
   said_more = ap is_some (find_more xs (x ∷ []) w n) ∙ go (find xs w n) (speaks_of w n x)
     where
-      go : (o : Option (Four ℕ)) (b : Bool) → is_some (or_find o (cond b (some x.fields) none)) ≡ (is_some o or b)
-      go none true = refl
-      go none false = refl
-      go (some k) b = refl
+      go : (o : Option (Four ℕ)) (b : Bool) → is_some (or_find o (cond b (Some x.fields) None)) ≡ (is_some o or b)
+      go None true = refl
+      go None false = refl
+      go (Some k) b = refl
 
   pub said_still : said xs w n ≡ true → said (xs ++ (x ∷ [])) w n ≡ true
   said_still h = said_more ∙ or_i1 _ _ h
@@ -86,11 +86,11 @@ module _ (x : Fact) (w : FactWord) (n : Four ℕ) (xs : Facts) where
   pub said_now : speaks_of w n x ≡ true → said (xs ++ (x ∷ [])) w n ≡ true
   said_now h = said_more ∙ or_i2 _ _ h
 
-  pub found_more : (k : Four ℕ) → find (xs ++ (x ∷ [])) w n ≡ some k → (find xs w n ≡ some k) ⊎ ((speaks_of w n x ≡ true) × (x.fields ≡ k))
+  pub found_more : (k : Four ℕ) → find (xs ++ (x ∷ [])) w n ≡ Some k → (find xs w n ≡ Some k) ⊎ ((speaks_of w n x ≡ true) × (x.fields ≡ k))
   unfolding find
   found_more k h = go (find xs w n) (speaks_of w n x) refl (sym (find_more xs (x ∷ []) w n) ∙ h)
     where
-      go : (o : Option (Four ℕ)) (b : Bool) → speaks_of w n x ≡ b → or_find o (cond b (some x.fields) none) ≡ some k → (o ≡ some k) ⊎ ((speaks_of w n x ≡ true) × (x.fields ≡ k))
-      go (some j) b e h = inl h
-      go none true e h = inr (e, some_inj h)
-      go none false e h = none≢some h
+      go : (o : Option (Four ℕ)) (b : Bool) → speaks_of w n x ≡ b → or_find o (cond b (Some x.fields) None) ≡ Some k → (o ≡ Some k) ⊎ ((speaks_of w n x ≡ true) × (x.fields ≡ k))
+      go (Some j) b e h = inl h
+      go None true e h = inr (e, some_inj h)
+      go None false e h = none≢some h

@@ -3,7 +3,7 @@
 use mathlib.Core.Path.{◌≡◌, refl, sym, ◌∙◌, ap, subst}
 use mathlib.Core.Bool.{Bool, true, false, ◌&&◌, not, beq, cond, true≢false, false≢true}
 use mathlib.Core.List.{List, [], ◌∷◌, ◌++◌}
-use mathlib.Core.Option.{Option, none, some}
+use Rattle.std.specs.Prelude.{Option, None, Some}
 use mathlib.Core.Logic.{◌⊎◌, inl, inr}
 use Prim.Native.Nat.{ℕ, zero, suc, ◌<◌, ◌≤◌}
 use native.Mathlib.Fin
@@ -31,30 +31,30 @@ use Rattle.evaluation.proofs.Finding.{word_at, word_at_lem, index_small, speaks_
 
 -- what is said of the element with a number; none where there is no such element
 at : {A : Type 0} (n i : ℕ) → (Below n → Option A) → Option A
-at n i g = elim (dec_lt i n) [ yes l ↦ g (i, l) | no l ↦ none ]
+at n i g = elim (dec_lt i n) [ yes l ↦ g (i, l) | no l ↦ None ]
 
 at_is : {A : Type 0} {n : ℕ} (x : Below n) (g : Below n → Option A) → at n x.0 g ≡ g x
 unfolding at
 at_is {A} {n} x g = go (dec_lt x.0 n)
   where
-    go : (d : Dec (x.0 < n)) → elim d [ yes l ↦ g (x.0, l) | no l ↦ none ] ≡ g x
+    go : (d : Dec (x.0 < n)) → elim d [ yes l ↦ g (x.0, l) | no l ↦ None ] ≡ g x
     go (yes l) = ap g (Fin.val_path {n = n} {i = (x.0, l)} {j = x} refl)
     go (no l) = absurd (l x.1)
 
-at_inv : {A : Type 0} {n i : ℕ} {v : A} (g : Below n → Option A) → at n i g ≡ some v → (x : Below n) × (x.0 ≡ i) × (g x ≡ some v)
+at_inv : {A : Type 0} {n i : ℕ} {v : A} (g : Below n → Option A) → at n i g ≡ Some v → (x : Below n) × (x.0 ≡ i) × (g x ≡ Some v)
 unfolding at
 at_inv {A} {n} {i} {v} g = go (dec_lt i n)
   where
-    go : (d : Dec (i < n)) → elim d [ yes l ↦ g (i, l) | no l ↦ none ] ≡ some v → (x : Below n) × (x.0 ≡ i) × (g x ≡ some v)
+    go : (d : Dec (i < n)) → elim d [ yes l ↦ g (i, l) | no l ↦ None ] ≡ Some v → (x : Below n) × (x.0 ≡ i) × (g x ≡ Some v)
     go (yes l) h = ((i, l), refl, h)
     go (no l) h = none≢some h
 
 -- "What isn't said is 0": a value 0 needs no line
 non_zero : ℕ → Option ℕ
-non_zero zero = none
-non_zero (suc v) = some (suc v)
+non_zero zero = None
+non_zero (suc v) = Some (suc v)
 
-non_zero_inv : {v : ℕ} (u : ℕ) → non_zero u ≡ some v → (u ≡ v) × (u ≡ 0 → ⊥)
+non_zero_inv : {v : ℕ} (u : ℕ) → non_zero u ≡ Some v → (u ≡ v) × (u ≡ 0 → ⊥)
 unfolding non_zero
 non_zero_inv zero e = none≢some e
 non_zero_inv (suc u) e = (some_inj e, λ z. omega arith)
@@ -79,15 +79,15 @@ module _ (H : FiniteHeap) (ρ : Values H) (N : Name) (S : Small H) (L : N ≤ ma
 
   -- THE ANSWER for a subject: its value, 0 for a word that gives none; none where nothing is to be said
   answer : FactWord → Four ℕ → Option ℕ
-  answer FactWord.Siz s = none
-  answer FactWord.Alc s = at H.references s.a (λ x. guard (H.all x) (some 0))
+  answer FactWord.Siz s = None
+  answer FactWord.Alc s = at H.references s.a (λ x. guard (H.all x) (Some 0))
   answer FactWord.Typ s = at H.references s.a (λ x. non_zero (H.typ x).0)
   answer FactWord.Dty s = at H.fields s.a (λ f. non_zero (H.dty f).0)
-  answer FactWord.Sub s = at H.classes s.a (λ b. at H.classes s.b (λ c. guard (H.le b c && not (same b c)) (some 0)))
+  answer FactWord.Sub s = at H.classes s.a (λ b. at H.classes s.b (λ c. guard (H.le b c && not (same b c)) (Some 0)))
   answer FactWord.Rfv s = non_zero (ρ.rfv s.a).0
   answer FactWord.Fnv s = non_zero (ρ.fnv s.a).0
   answer FactWord.Clv s = non_zero (ρ.clv s.a).0
-  answer FactWord.Rgv s = at H.references s.b (λ x. guard ((ρ.rgv s.a).has x) (some 0))
+  answer FactWord.Rgv s = at H.references s.b (λ x. guard ((ρ.rgv s.a).has x) (Some 0))
   answer FactWord.Arv s = at H.references s.b (λ x. at H.fields s.c (λ f. non_zero (ρ.arv s.a x f).0))
 
   -- what a field of the line may hold
@@ -121,7 +121,7 @@ module _ (H : FiniteHeap) (ρ : Values H) (N : Name) (S : Small H) (L : N ≤ ma
   classes_64 = omega (arith, S.classes)
 
   -- a line with an answer is no `siz`, is allowed, and its fields fit
-  fitting : (w : FactWord) (s : Four ℕ) (v : ℕ) → answer w s ≡ some v → Fitting w s v
+  fitting : (w : FactWord) (s : Four ℕ) (v : ℕ) → answer w s ≡ Some v → Fitting w s v
   unfolding answer first Allocated Permitted Fits fill fact_index fact_fields allowed
   fitting FactWord.Siz s v e = none≢some e
   fitting FactWord.Alc s v e =
@@ -164,7 +164,7 @@ module _ (H : FiniteHeap) (ρ : Values H) (N : Name) (S : Small H) (L : N ≤ ma
 
   -- THE EXPECTED LINE of a subject
   expected : FactWord → Four ℕ → Option (Four ℕ)
-  expected w s = then (answer w s) (λ v. some (line w s v))
+  expected w s = then (answer w s) (λ v. Some (line w s v))
 
   -- a line, no `siz`, with what the checks ask of it, but that its subject is new
   record Valid (x : Fact) : Type 0 where
@@ -173,7 +173,7 @@ module _ (H : FiniteHeap) (ρ : Values H) (N : Name) (S : Small H) (L : N ≤ ma
     zeros : every zero_unless_used (fact_fields x.word) x.fields ≡ true
     ranges : every (in_range first.fields) (fact_fields x.word) x.fields ≡ true
     low : Low x.fields
-    is_expected : expected x.word (subject_of x.word x.fields) ≡ some x.fields
+    is_expected : expected x.word (subject_of x.word x.fields) ≡ Some x.fields
 
   -- the same, of one field
   held : (f : FactField) (n v : ℕ) → Fits f (subject_part f n) v → let k = fill f (subject_part f n) v in
@@ -184,7 +184,7 @@ module _ (H : FiniteHeap) (ρ : Values H) (N : Name) (S : Small H) (L : N ≤ ma
   held (FactField.Subject d) n v h = (refl, refl, h.0, h.1)
   held (FactField.Value d) n v h = (refl, refl, h.0, h.1)
 
-  expected_valid : (w : FactWord) (n m : Four ℕ) → expected w (subject_of w n) ≡ some m → Valid (record { word = w; fields = m }) × (subject_of w m ≡ subject_of w n)
+  expected_valid : (w : FactWord) (n m : Four ℕ) → expected w (subject_of w n) ≡ Some m → Valid (record { word = w; fields = m }) × (subject_of w m ≡ subject_of w n)
   unfolding expected subject_of
   expected_valid w n m e =
       let t = then_inv (answer w (subject_of w n)) _ e in
@@ -201,22 +201,22 @@ module _ (H : FiniteHeap) (ρ : Values H) (N : Name) (S : Small H) (L : N ≤ ma
           zeros = both_i a.1 (both_i b.1 (both_i c.1 d.1));
           ranges = both_i a.2 (both_i b.2 (both_i c.2 d.2));
           low = (a.3, b.3, c.3, d.3);
-          is_expected = ap (expected w) s ∙ ap (λ o. then o (λ v. some (line w (subject_of w n) v))) t.1;
+          is_expected = ap (expected w) s ∙ ap (λ o. then o (λ v. Some (line w (subject_of w n) v))) t.1;
         },
         s,
       )
 
   -- ALL EXPECTED LINES THAT MAY FOLLOW, added
   add : Option Fact → Facts → Facts
-  add none ys = ys
-  add (some x) ys = cond (may_follow (first ∷ ys) x.word x.fields) (ys ++ (x ∷ [])) ys
+  add None ys = ys
+  add (Some x) ys = cond (may_follow (first ∷ ys) x.word x.fields) (ys ++ (x ∷ [])) ys
 
   -- by the number of a word, and a subject
   candidate : List ℕ → Option Fact
   candidate is =
       then (word_at (get_or is 0 0)) λ w.
       then (expected w (subject_of w (four (get_or is 1 0) (get_or is 2 0) (get_or is 3 0) (get_or is 4 0)))) λ m.
-      some (record { word = w; fields = m })
+      Some (record { word = w; fields = m })
 
   add_all : Facts → Facts
   add_all = for_lists max_number 5 (λ is. add (candidate is))
@@ -238,8 +238,8 @@ module _ (H : FiniteHeap) (ρ : Values H) (N : Name) (S : Small H) (L : N ≤ ma
       put x r false e = p
 
       go : (o : Option Fact) → candidate is ≡ o → P (add o ys)
-      go none e = p
-      go (some x) e =
+      go None e = p
+      go (Some x) e =
           let w = then_inv (word_at (get_or is 0 0)) _ e in
           let m = then_inv (expected w.0 (subject_of w.0 _)) _ w.2 in
           put x (subst Valid (some_inj m.2) (expected_valid w.0 _ m.0 m.1).0) (may_follow (first ∷ ys) x.word x.fields) refl
@@ -249,13 +249,13 @@ module _ (H : FiniteHeap) (ρ : Values H) (N : Name) (S : Small H) (L : N ≤ ma
   all_extends = lists_extend Extends (λ ys P i p. p) (λ xs ys zs f g P i p. g P i (f P i p)) max_number 5 _ add_extends
 
   -- each line has its turn
-  all_takes : (x : Fact) → Valid x → (ys : Facts) → (zs : Facts) × Extends ys zs × Extends (add (some x) zs) (add_all ys)
+  all_takes : (x : Fact) → Valid x → (ys : Facts) → (zs : Facts) × Extends ys zs × Extends (add (Some x) zs) (add_all ys)
   unfolding add_all candidate
   all_takes x r ys =
       let i = fact_index x.word in
       let n = x.fields in
       let l = r.low in
-      let e : candidate (i ∷ n.a ∷ n.b ∷ n.c ∷ n.d ∷ []) ≡ some x = rw (word_at_lem x.word, r.is_expected) in
+      let e : candidate (i ∷ n.a ∷ n.b ∷ n.c ∷ n.d ∷ []) ≡ Some x = rw (word_at_lem x.word, r.is_expected) in
       let t = lists_take Extends (λ ys P i p. p) (λ xs ys zs f g P i p. g P i (f P i p)) max_number (i ∷ n.a ∷ n.b ∷ n.c ∷ n.d ∷ []) _ add_extends
       (omega (arith, index_small x.word), (l.0, (l.1, (l.2, (l.3, tt))))) ys in
       (t.0, t.1, subst (λ o. Extends (add o t.0) (add_all ys)) e t.2)
@@ -268,7 +268,7 @@ module _ (H : FiniteHeap) (ρ : Values H) (N : Name) (S : Small H) (L : N ≤ ma
   unfolding Allocated
   allocated_stays ys x r e h y a = said_stays FactWord.Alc (four y.0 0 0 0) ys x r e (h y a)
 
-  add_says : (x : Fact) → Valid x → (ys : Facts) → (x.word ≡ FactWord.Rgv → Allocated (first ∷ ys)) → said (first ∷ add (some x) ys) x.word x.fields ≡ true
+  add_says : (x : Fact) → Valid x → (ys : Facts) → (x.word ≡ FactWord.Rgv → Allocated (first ∷ ys)) → said (first ∷ add (Some x) ys) x.word x.fields ≡ true
   unfolding add first Permitted
   add_says x r ys p = go (may_follow (first ∷ ys) x.word x.fields) refl
     where
@@ -279,7 +279,7 @@ module _ (H : FiniteHeap) (ρ : Values H) (N : Name) (S : Small H) (L : N ≤ ma
       go true e = said_now x x.word x.fields (first ∷ ys) (speaks_of_itself x)
       go false e = elim (dec (said (first ∷ ys) x.word x.fields)) [ inl h ↦ h | inr h ↦ clash (may h) e ]
 
-  all_says : (ys : Facts) (w : FactWord) (n m : Four ℕ) → (w ≡ FactWord.Rgv → Allocated (first ∷ ys)) → expected w (subject_of w n) ≡ some m → said (first ∷ add_all ys) w n ≡ true
+  all_says : (ys : Facts) (w : FactWord) (n m : Four ℕ) → (w ≡ FactWord.Rgv → Allocated (first ∷ ys)) → expected w (subject_of w n) ≡ Some m → said (first ∷ add_all ys) w n ≡ true
   unfolding said
   all_says ys w n m p e =
       let r = expected_valid w n m e in
@@ -291,23 +291,23 @@ module _ (H : FiniteHeap) (ρ : Values H) (N : Name) (S : Small H) (L : N ≤ ma
   unfolding Allocated expected answer subject_of fact_fields fill
   allocated x a =
       all_says [] FactWord.Alc (four x.0 0 0 0) (four x.0 0 0 0) (λ z. let y : true ≡ false = cc in absurd (true≢false y))
-      (rw (at_is {A = ℕ} x (λ y. guard (H.all y) (some 0)), a))
+      (rw (at_is {A = ℕ} x (λ y. guard (H.all y) (Some 0)), a))
 
   -- what is found is expected
   FindsExpected : Facts → Type 0
-  FindsExpected ys = (w : FactWord) (n k : Four ℕ) → is_size w ≡ false → find (first ∷ ys) w n ≡ some k → expected w (subject_of w n) ≡ some k
+  FindsExpected ys = (w : FactWord) (n k : Four ℕ) → is_size w ≡ false → find (first ∷ ys) w n ≡ Some k → expected w (subject_of w n) ≡ Some k
 
   first_finds : FindsExpected []
   unfolding FindsExpected find speaks_of first fact_index
-  first_finds w n k l h = none≢some (sym (ap (λ b. cond (b && every eqb (subject_of w n) (subject_of w first.fields)) (some first.fields) none) l) ∙ h)
+  first_finds w n k l h = none≢some (sym (ap (λ b. cond (b && every eqb (subject_of w n) (subject_of w first.fields)) (Some first.fields) None) l) ∙ h)
 
   finds_stays : Invariant FindsExpected
   unfolding FindsExpected
   finds_stays ys x r e c w n k l h = go (found_more x w n (first ∷ ys) k h)
     where
-      go : (find (first ∷ ys) w n ≡ some k) ⊎ ((speaks_of w n x ≡ true) × (x.fields ≡ k)) → expected w (subject_of w n) ≡ some k
+      go : (find (first ∷ ys) w n ≡ Some k) ⊎ ((speaks_of w n x ≡ true) × (x.fields ≡ k)) → expected w (subject_of w n) ≡ Some k
       go (inl f) = c w n k l f
-      go (inr s) = let t = speaks_inv w n x s.0 in ap (expected w) t.1 ∙ (λ i. expected (t.0 i) (subject_of (t.0 i) x.fields)) ∙ r.is_expected ∙ ap some s.1
+      go (inr s) = let t = speaks_inv w n x s.0 in ap (expected w) t.1 ∙ (λ i. expected (t.0 i) (subject_of (t.0 i) x.fields)) ∙ r.is_expected ∙ ap Some s.1
 
   sized : {n m : ℕ} → Below n → n ≤ m → (leb 1 n && leb n m) ≡ true
   sized {n} {m} x l = both_i (le-leb 1 n (omega (arith, x.1))) (le-leb n m l)
@@ -329,20 +329,20 @@ module _ (H : FiniteHeap) (ρ : Values H) (N : Name) (S : Small H) (L : N ≤ ma
   facts_keep P stays p = all_extends (add_all []) P stays (all_extends [] P stays p)
 
   -- WHAT IS FOUND IS WHAT IS EXPECTED
-  find_is : (w : FactWord) (n : Four ℕ) (o : Option ℕ) → is_size w ≡ false → answer w (subject_of w n) ≡ o → find facts w n ≡ then o (λ v. some (line w (subject_of w n) v))
+  find_is : (w : FactWord) (n : Four ℕ) (o : Option ℕ) → is_size w ≡ false → answer w (subject_of w n) ≡ o → find facts w n ≡ then o (λ v. Some (line w (subject_of w n) v))
   unfolding facts FindsExpected said expected
-  find_is w n o l q = go (find facts w n) (expected w (subject_of w n)) refl refl ∙ ap (λ o. then o (λ v. some (line w (subject_of w n) v))) q
+  find_is w n o l q = go (find facts w n) (expected w (subject_of w n)) refl refl ∙ ap (λ o. then o (λ v. Some (line w (subject_of w n) v))) q
     where
       go : (o e : Option (Four ℕ)) → find facts w n ≡ o → expected w (subject_of w n) ≡ e → find facts w n ≡ expected w (subject_of w n)
-      go (some k) e f h = f ∙ sym (facts_keep FindsExpected finds_stays first_finds w n k l f)
-      go none none f h = f ∙ sym h
-      go none (some m) f h = absurd (false≢true (sym (ap is_some f) ∙ all_says (add_all []) w n m (λ g. allocated) h))
+      go (Some k) e f h = f ∙ sym (facts_keep FindsExpected finds_stays first_finds w n k l f)
+      go None None f h = f ∙ sym h
+      go None (Some m) f h = absurd (false≢true (sym (ap is_some f) ∙ all_says (add_all []) w n m (λ g. allocated) h))
 
-  said_is : (w : FactWord) (n : Four ℕ) (b : Bool) → is_size w ≡ false → answer w (subject_of w n) ≡ guard b (some 0) → b ≡ said facts w n
+  said_is : (w : FactWord) (n : Four ℕ) (b : Bool) → is_size w ≡ false → answer w (subject_of w n) ≡ guard b (Some 0) → b ≡ said facts w n
   unfolding said
-  said_is w n b l e = go b ∙ sym (ap is_some (find_is w n (guard b (some 0)) l e))
+  said_is w n b l e = go b ∙ sym (ap is_some (find_is w n (guard b (Some 0)) l e))
     where
-      go : (b : Bool) → b ≡ is_some (then (guard b (some 0)) (λ v. some (line w (subject_of w n) v)))
+      go : (b : Bool) → b ≡ is_some (then (guard b (Some 0)) (λ v. Some (line w (subject_of w n) v)))
       go true = refl
       go false = refl
 
@@ -352,7 +352,7 @@ module _ (H : FiniteHeap) (ρ : Values H) (N : Name) (S : Small H) (L : N ≤ ma
   unfolding non_zero
   given_is w n g v l z h e = go v ∙ sym (ap (λ o. g (fields_or0 o)) (find_is w n (non_zero v) l e))
     where
-      go : (v : ℕ) → v ≡ g (fields_or0 (then (non_zero v) (λ v. some (line w (subject_of w n) v))))
+      go : (v : ℕ) → v ≡ g (fields_or0 (then (non_zero v) (λ v. Some (line w (subject_of w n) v))))
       go zero = sym z
       go (suc v) = sym (h (suc v))
 

@@ -2,7 +2,7 @@
 use mathlib.Core.Path.{◌≡◌, refl, sym, ◌∙◌, ap, subst}
 use mathlib.Core.Bool.{Bool, true, false, not, true≢false}
 use mathlib.Core.List.{List, [], ◌∷◌, ◌++◌}
-use mathlib.Core.Option.{Option, none, some}
+use Rattle.std.specs.Prelude.{Option, None, Some}
 use mathlib.Core.Logic.{inl, inr}
 use Prim.Native.Nat.{ℕ, ◌-◌, min}
 use native.Mathlib.Nat.{min-eq_left, zero-min}
@@ -71,7 +71,7 @@ found_last {w} {n} s facts x r a (h, e) =
 follows : (facts : Facts) (w : FactWord) (n : Four ℕ) → may_follow facts w n ≡ true → (every (in_range (sizes facts)) (fact_fields w) n ≡ true) × (allowed facts w n ≡ true)
 follows facts w n m = let h = both_true (every (in_range (sizes facts)) (fact_fields w) n) _ m in (h.0, (both_true (not (said facts w n)) _ h.1).1)
 
-pub found : {facts : Facts} → Passable facts → (w : FactWord) (n k : Four ℕ) → find facts w n ≡ some k → Found (sizes facts) facts w n k
+pub found : {facts : Facts} → Passable facts → (w : FactWord) (n k : Four ℕ) → find facts w n ≡ Some k → Found (sizes facts) facts w n k
 unfolding fact_fields find
 found (size x e z m) w n k q =
     let f = follows [] FactWord.Siz x.fields m in
@@ -96,8 +96,8 @@ module _ {facts : Facts} (p : Passable facts) where
   uncut w n part d z h = go (find facts w n) refl
     where
       go : (m : Option (Four ℕ)) → find facts w n ≡ m → min (part (fields_or0 m)) (d - 1) ≡ part (fields_or0 m)
-      go none e = rw z (zero-min (d - 1))
-      go (some k) e = min-eq_left (omega (arith, ltb-true (part k) d (h k (found p w n k e).ranges)))
+      go None e = rw z (zero-min (d - 1))
+      go (Some k) e = min-eq_left (omega (arith, ltb-true (part k) d (h k (found p w n k e).ranges)))
 
   -- the value of a line is its second number, or the fourth
   second : (w : FactWord) (n : Four ℕ) (d : ℕ) → ((i : ℕ) → in_range (sizes facts) (fact_fields w).b i ≡ ltb i d) → min (given facts w n).b (d - 1) ≡ (given facts w n).b
@@ -111,8 +111,8 @@ module _ {facts : Facts} (p : Passable facts) where
   said_by w n = go (find facts w n) refl
     where
       go : (m : Option (Four ℕ)) → find facts w n ≡ m → is_some m ≡ true → (k : Four ℕ) × Found (sizes facts) facts w n k
-      go none e h = absurd (true≢false (sym h))
-      go (some k) e h = (k, found p w n k e)
+      go None e h = absurd (true≢false (sym h))
+      go (Some k) e h = (k, found p w n k e)
 
   not_nul : (m : ℕ) → said facts FactWord.Alc (four m 0 0 0) ≡ true → not (eqb m 0) ≡ true
   unfolding allowed fact_fields subject_of

@@ -1,6 +1,6 @@
 -- What is claimed of an evaluator: it equals the meaning, no accepted file's assumptions evaluate to all true, and files within a limit of digits keep their replies.
 use Rattle.std.specs.Prelude.{◌≡◌, true, List, [], ◌∷◌, ◌++◌, ℕ, suc, ◌<◌, length}
-use Rattle.std.proofs.Math.Option.{Option, none, some}
+use Rattle.std.specs.Prelude.{Option, None, Some}
 use Rattle.tableau.specs.Basics.{Four, lookup}
 use Rattle.tableau.specs.File.{Line, letters, shape, split, LF}
 use Rattle.tableau.specs.Terms.{ClauseNo, Literal, clause_of, at}
@@ -20,12 +20,12 @@ abbrev pub lines_read : List ℕ → List (List ℕ)
 lines_read file = all_but_last (before_steps (split LF file))
 
 abbrev pub known_fact : Option FactWord → Four ℕ → Facts
-known_fact none n = []
-known_fact (some w) n = record { word = w; fields = n } ∷ []
+known_fact None n = []
+known_fact (Some w) n = record { word = w; fields = n } ∷ []
 
 abbrev pub line_fact : Option (Line (Unit {0})) → Facts
-line_fact none = []
-line_fact (some l) = known_fact (lookup fact_words l.word) l.fields
+line_fact None = []
+line_fact (Some l) = known_fact (lookup fact_words l.word) l.fields
 
 unfoldable pub facts_in : List (List ℕ) → Facts
 facts_in [] = []

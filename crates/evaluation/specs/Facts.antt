@@ -1,7 +1,7 @@
 -- "a heap file of six-field D lines": the words, what their fields hold, the checks of a line.
 use Rattle.std.specs.Prelude.{Bool, true, false, ◌&&◌, not, cond, List, [], ◌∷◌, ◌++◌, ℕ, eqb, leb, ltb}
 use Rattle.std.specs.Bool.{beq}
-use Rattle.std.proofs.Math.Option.{Option, none, some}
+use Rattle.std.specs.Prelude.{Option, None, Some}
 use Rattle.tableau.specs.declared.Reason.{Reason}
 use Rattle.tableau.specs.Basics.{is_some, Four, four, every, bytes, same_bytes, Named, ◌↣◌, lookup}
 use Rattle.tableau.specs.File.{max_digits, Line, shape_within}
@@ -86,16 +86,16 @@ speaks_of w n x = eqb (fact_index w) (fact_index x.word) && every eqb (subject_o
 
 -- the fields of the first that does
 unfoldable pub find : Facts → FactWord → Four ℕ → Option (Four ℕ)
-find [] w n = none
-find (x ∷ xs) w n = cond (speaks_of w n x) (some x.fields) (find xs w n)
+find [] w n = None
+find (x ∷ xs) w n = cond (speaks_of w n x) (Some x.fields) (find xs w n)
 
 unfoldable pub said : Facts → FactWord → Four ℕ → Bool
 said facts w n = is_some (find facts w n)
 
 -- "What isn't said is 0"
 abbrev pub fields_or0 : Option (Four ℕ) → Four ℕ
-fields_or0 none = four 0 0 0 0
-fields_or0 (some n) = n
+fields_or0 None = four 0 0 0 0
+fields_or0 (Some n) = n
 
 abbrev pub given : Facts → FactWord → Four ℕ → Four ℕ
 given facts w n = fields_or0 (find facts w n)

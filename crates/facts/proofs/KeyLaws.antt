@@ -2,7 +2,7 @@
 use mathlib.Core.Path.{◌≡◌, refl, sym, ◌∙◌, ap}
 use mathlib.Core.Bool.{Bool, true, false, cond, ◌||◌, true≢false}
 use mathlib.Core.List.{[], ◌∷◌, map}
-use mathlib.Core.Option.{some}
+use Rattle.std.specs.Prelude.{Some}
 use Prim.Native.Nat.{ℕ, ◌<◌}
 use native.Mathlib.Omega.{arith}
 use lib.Dec.{eqb}
@@ -68,7 +68,7 @@ module _ (w : FactWord) (n : Four ℕ) (p : Fits (subject_of w n)) where
   has_said [] f = refl
   has_said (x ∷ xs) f = rw (key_speaks w n x.word x.fields p f.0) (which (speaks_of w n x) (has_said xs f.1))
     where
-      which : (b : Bool) → has_key (map fact_key xs) (key_of w n) ≡ is_some (find xs w n) → (b || has_key (map fact_key xs) (key_of w n)) ≡ is_some (cond b (some x.fields) (find xs w n))
+      which : (b : Bool) → has_key (map fact_key xs) (key_of w n) ≡ is_some (find xs w n) → (b || has_key (map fact_key xs) (key_of w n)) ≡ is_some (cond b (Some x.fields) (find xs w n))
       which true e = refl
       which false e = e
 
@@ -78,6 +78,6 @@ module _ (w : FactWord) (n : Four ℕ) (p : Fits (subject_of w n)) where
   value_given (x ∷ xs) f = rw (key_speaks w n x.word x.fields p f.0) (which (speaks_of w n x) refl (value_given xs f.1))
     where
       which : (b : Bool) → speaks_of w n x ≡ b → value_at (map fact_key xs) (map fact_value xs) (key_of w n) ≡ value_of w (fields_or0 (find xs w n))
-          → cond b (fact_value x) (value_at (map fact_key xs) (map fact_value xs) (key_of w n)) ≡ value_of w (fields_or0 (cond b (some x.fields) (find xs w n)))
+          → cond b (fact_value x) (value_at (map fact_key xs) (map fact_value xs) (key_of w n)) ≡ value_of w (fields_or0 (cond b (Some x.fields) (find xs w n)))
       which true s e = ap (λ y. value_of y x.fields) (sym (speaks_inv w n x s).0)
       which false s e = e

@@ -2,7 +2,7 @@
 use mathlib.Core.Path.{◌≡◌, refl, sym, ◌∙◌, ap}
 use mathlib.Core.Bool.{Bool, true, false, ◌&&◌, beq}
 use mathlib.Core.List.{List, [], ◌∷◌}
-use mathlib.Core.Option.{Option, none, some}
+use Rattle.std.specs.Prelude.{Option, None, Some}
 use Prim.Native.Nat.{ℕ}
 use lib.Dec.{eqb}
 use borrow.Author.Tests.{ne_eqb, eqb-true}
@@ -26,39 +26,39 @@ use Rattle.running.proofs.Lines.{shaped}
 use Rattle.facts.specs.Reading.{siz_word, run_word, run_fact_fields}
 
 -- CHECK 2 of the letter
-pub letter_D : (x : ℕ) → x ≡ 68 → lookup heap_letters (x ∷ []) ≡ some tt
+pub letter_D : (x : ℕ) → x ≡ 68 → lookup heap_letters (x ∷ []) ≡ Some tt
 unfolding heap_letters lookup same_bytes bytes
 letter_D x e = rw e
 
-pub no_letter : (x : ℕ) → (x ≡ 68 → ⊥) → lookup heap_letters (x ∷ []) ≡ none
+pub no_letter : (x : ℕ) → (x ≡ 68 → ⊥) → lookup heap_letters (x ∷ []) ≡ None
 unfolding heap_letters lookup same_bytes bytes
 no_letter x h = which (eqb 68 x) (ne_eqb 68 x (λ e. h (sym e)))
   where
-    which : (b : Bool) → b ≡ false → ◌≡◌ {A = Option (Unit {0})} (elim (b && true) [ true ↦ some tt | false ↦ none ]) none
+    which : (b : Bool) → b ≡ false → ◌≡◌ {A = Option (Unit {0})} (elim (b && true) [ true ↦ Some tt | false ↦ None ]) None
     which b e = rw e
 
 module _ (facts : Facts) (f : LineFields) where
-  pub run_unlettered : lookup heap_letters (f.letter ∷ []) ≡ none → run_fact_fields facts f ≡ refused Reason.BadShape
+  pub run_unlettered : lookup heap_letters (f.letter ∷ []) ≡ None → run_fact_fields facts f ≡ refused Reason.BadShape
   unfolding run_fact_fields
   run_unlettered e = rw e
 
   -- CHECKS 3 AND 4
-  module _ (l : lookup heap_letters (f.letter ∷ []) ≡ some tt) where
+  module _ (l : lookup heap_letters (f.letter ∷ []) ≡ Some tt) where
     pub run_disordered : beq (is_nil facts) (eqb f.word siz_word) ≡ false → run_fact_fields facts f ≡ refused Reason.LetterOrder
     unfolding run_fact_fields
     run_disordered o = rw (l, o)
 
     module _ (o : beq (is_nil facts) (eqb f.word siz_word) ≡ true) where
-      pub run_unknown : lookup_packed fact_words f.word ≡ none → run_fact_fields facts f ≡ refused Reason.UnknownWord
+      pub run_unknown : lookup_packed fact_words f.word ≡ None → run_fact_fields facts f ≡ refused Reason.UnknownWord
       unfolding run_fact_fields
       run_unknown e = rw (l, o, e)
 
-      pub run_known : (w : FactWord) → lookup_packed fact_words f.word ≡ some w → run_fact_fields facts f ≡ run_word facts f w
+      pub run_known : (w : FactWord) → lookup_packed fact_words f.word ≡ Some w → run_fact_fields facts f ≡ run_word facts f w
       unfolding run_fact_fields
       run_known w e = rw (l, o, e)
 
 -- the first line's word is `siz`
-pub first_is_size : (facts : Facts) (word : ℕ) (w : FactWord) → beq (is_nil facts) (eqb word siz_word) ≡ true → lookup_packed fact_words word ≡ some w
+pub first_is_size : (facts : Facts) (word : ℕ) (w : FactWord) → beq (is_nil facts) (eqb word siz_word) ≡ true → lookup_packed fact_words word ≡ Some w
     → is_nil facts ≡ true → w ≡ FactWord.Siz
 unfolding fact_words lookup_packed bytes
 first_is_size facts word w o e n =
@@ -75,12 +75,12 @@ unfolding texts_are_words fact_words bytes all_small
 facts_packed = lookup_packed_lem fact_words refl
 
 known_fields : (facts : Facts) (k : Line ℕ) (n : ℕ) (m : Option (Unit {0})) → is_word k.word ≡ true
-    → run_fact_read facts (then m λ l. some (relettered k l))
+    → run_fact_read facts (then m λ l. Some (relettered k l))
     ≡ (require_some m Reason.BadShape >>= λ l. require (beq (is_nil facts) (eqb (pack_word k.word) siz_word)) Reason.LetterOrder >>
     (require_some (lookup_packed fact_words (pack_word k.word)) Reason.UnknownWord >>= run_word facts (line_fields n k)))
 unfolding run_fact_read run_word
-known_fields facts k n none h = refl
-known_fields facts k n (some l) h = rw (size_packed k.word h, facts_packed k.word h)
+known_fields facts k n None h = refl
+known_fields facts k n (Some l) h = rw (size_packed k.word h, facts_packed k.word h)
 
 capitals : all_capitals heap_letters ≡ true
 unfolding heap_letters all_capitals bytes capital

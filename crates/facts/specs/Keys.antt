@@ -1,6 +1,6 @@
 -- The facts of a heap file as numbers: a key for its word and its subject, and the value that it gives.
 use Rattle.std.specs.Prelude.{◌≡◌, Bool, false, cond, ◌||◌, List, [], ◌∷◌, map, ℕ, ◌+◌, ◌*◌, ◌<◌, ◌≤◌, eqb, length, take, drop}
-use Rattle.std.proofs.Math.Option.{none, some}
+use Rattle.std.specs.Prelude.{None, Some}
 use Rattle.tableau.specs.Basics.{Four, four}
 use Rattle.evaluation.specs.declared.FactWord.{FactWord}
 use Rattle.evaluation.specs.declared.FactField.{FactField}
@@ -18,8 +18,8 @@ abbrev pub row_of : FactRow → Four FactField
 row_of r = four r.a r.b r.c r.d
 
 abbrev pub FactKnown : ℕ → FactFound → Type 0
-FactKnown w (FactFound.Known x) = lookup_packed fact_words w ≡ some x
-FactKnown w FactFound.Unknown = lookup_packed fact_words w ≡ none
+FactKnown w (FactFound.Known x) = lookup_packed fact_words w ≡ Some x
+FactKnown w FactFound.Unknown = lookup_packed fact_words w ≡ None
 
 -- THE VALUE that a line gives: in each line one field at most has it
 abbrev pub value_part : FactField → ℕ → ℕ

@@ -1,7 +1,7 @@
 -- A reply line, a bad one and the end of the night, in the specification's run.
 use mathlib.Core.Bool.{Bool, true, false, not}
 use mathlib.Core.List.{List, [], ◌∷◌, ◌++◌}
-use mathlib.Core.Option.{Option, none, some}
+use Rattle.std.specs.Prelude.{Option, None, Some}
 use mathlib.Core.Path.{◌≡◌, refl, sym, ap, subst, ◌∙◌}
 use Prim.Native.Nat.{ℕ, suc, ◌+◌, ◌*◌, ◌^◌, ◌≤◌, ◌<◌}
 use native.Mathlib.Numerals.{add-one}
@@ -30,7 +30,7 @@ use Rattle.figures.specs.Night.{AllRead}
 abbrev pub run_shaped : List Reply → Reply → Checked (List Reply)
 run_shaped rs r = require (not (contradictory r)) Reason.BadShape >> passed (rs ++ (r ∷ []))
 
-shaped_runs : (rs : List Reply) (l : List ℕ) (r : Reply) → reply_shape l ≡ some r → run_reply rs l ≡ run_shaped rs r
+shaped_runs : (rs : List Reply) (l : List ℕ) (r : Reply) → reply_shape l ≡ Some r → run_reply rs l ≡ run_shaped rs r
 unfolding run_reply
 shaped_runs rs l r e = rw e
 
@@ -41,10 +41,10 @@ pub record ReplyHere (night : List ℕ) (at : ℕ) (r : Reply) (next : ℕ) : Ty
   pub steps : r.steps < 10 ^ reply_digits
   pub runs : (i : ℕ) (rs : List Reply) → run_from run_reply night at i (passed rs) ≡ run_from run_reply night next (suc i) (run_shaped rs r)
 
-pub reply_here : (night : List ℕ) (at : ℕ) (x : ReplyAt) → reply_at night at ≡ some x → ReplyHere night at x.reply x.next
+pub reply_here : (night : List ℕ) (at : ℕ) (x : ReplyAt) → reply_at night at ≡ Some x → ReplyHere night at x.reply x.next
 unfolding reply_at
 reply_here night at x e =
-    let f = line_there none shaped_at night at (some x) none≢some e in
+    let f = line_there None shaped_at night at (Some x) none≢some e in
     let k = then_inv (reply_shape f.piece) _ f.is in
     let z = sizes f.piece k.0 k.1 in
     subst (λ y. ReplyHere night at y.reply y.next) (some_inj k.2)
@@ -57,20 +57,20 @@ reply_here night at x e =
     })
 
 -- A BAD LINE: bytes behind the last LF, or a line that is not shaped as a reply
-no_reply_here : (night : List ℕ) (at : ℕ) → at < length night → none ≡ reply_at night at → (i : ℕ) (rs : List Reply) → run_from run_reply night at i (passed rs) ≡ stopped Reason.BadShape (suc i)
+no_reply_here : (night : List ℕ) (at : ℕ) → at < length night → None ≡ reply_at night at → (i : ℕ) (rs : List Reply) → run_from run_reply night at i (passed rs) ≡ stopped Reason.BadShape (suc i)
 unfolding reply_at run_reply run_lines
 no_reply_here night at before e i rs =
-    no_line_there none shaped_at night at before (sym e)
+    no_line_there None shaped_at night at before (sym e)
     (λ b l q. rw q)
     (λ l m ls q h. rw q (run_piece run_reply rs i l m ls ∙ rw (no_shape (at + length l + 1) (reply_shape l) h)))
   where
-    no_shape : (n : ℕ) (o : Option Reply) → ◌≡◌ {A = Option ReplyAt} (then o λ r. some (record { reply = r; next = n })) none → o ≡ none
-    no_shape n none h = refl
-    no_shape n (some r) h = none≢some (sym h)
+    no_shape : (n : ℕ) (o : Option Reply) → ◌≡◌ {A = Option ReplyAt} (then o λ r. Some (record { reply = r; next = n })) None → o ≡ None
+    no_shape n None h = refl
+    no_shape n (Some r) h = none≢some (sym h)
 
-pub no_reply_behind : (night : List ℕ) (end at : ℕ) → LinesEnd night end → end ≤ at → none ≡ reply_at night at
+pub no_reply_behind : (night : List ℕ) (end at : ℕ) → LinesEnd night end → end ≤ at → None ≡ reply_at night at
 unfolding reply_at
-no_reply_behind night end at E h = sym (ap (first_line none shaped_at at) (one_piece_behind night end at E h))
+no_reply_behind night end at E h = sym (ap (first_line None shaped_at at) (one_piece_behind night end at E h))
 
 -- A reply that contradicts itself is refused, any other is taken.
 module _ (night : List ℕ) (next i : ℕ) (rs : List Reply) (r : Reply) where
@@ -97,7 +97,7 @@ none_so_far night t h k s = record {
 }
 
 module _ (night : List ℕ) (t : Totals) (at : ℕ) (S : SoFar night t at) where
-  pub bad_so_far : at < length night → none ≡ reply_at night at → replies_of night ≡ stopped Reason.BadShape (t.files + 1)
+  pub bad_so_far : at < length night → None ≡ reply_at night at → replies_of night ≡ stopped Reason.BadShape (t.files + 1)
   bad_so_far h e = S.reads ∙ rw add-one (no_reply_here night at h e t.files S.totalled.replies)
 
   pub all_so_far : length night ≤ at → AllRead night t

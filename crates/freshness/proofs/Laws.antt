@@ -2,7 +2,7 @@
 use mathlib.Core.Path.{◌≡◌, refl, sym, ◌∙◌, ap}
 use mathlib.Core.Bool.{Bool, true, false, ◌||◌, true≢false, false≢true}
 use mathlib.Core.List.{List, [], ◌∷◌, ◌++◌, map, map-append}
-use mathlib.Core.Option.{Option, none, some}
+use Rattle.std.specs.Prelude.{Option, None, Some}
 use Prim.Native.Nat.{ℕ, zero, suc, ◌+◌, ◌<◌, ◌≤◌}
 use native.Mathlib.Omega.{arith}
 use lib.ListN.{length, take, get_or}
@@ -52,18 +52,18 @@ mentioned_after table w C d = ap (λ (ls : List Literal). mentioned table w ls) 
 
 -- THE FIRST PLACE, counted from k: that of literal i, which mentions w, where none of the i before it does
 pub first_at : (f : ℕ → Literal) (table : TermNo → Term) (w : TermNo) (b : List ℕ) (k : Place) (i n : ℕ) → i < n → i < length b
-    → mentioned table w (map f (take i b)) ≡ false → mentioned_in table w (f (get_or b i 0)) ≡ true → place_from k table w (map f (take n b)) ≡ some (k + i)
+    → mentioned table w (map f (take i b)) ≡ false → mentioned_in table w (f (get_or b i 0)) ≡ true → place_from k table w (map f (take n b)) ≡ Some (k + i)
 unfolding place_from
 first_at f table w b k i zero h l e m = absurd (omega arith)
 first_at f table w [] k i (suc n) h l e m = absurd (omega arith)
-first_at f table w (x ∷ b) k zero (suc n) h l e m = rw m (ap some (let z : k ≡ k + 0 = omega arith in z))
+first_at f table w (x ∷ b) k zero (suc n) h l e m = rw m (ap Some (let z : k ≡ k + 0 = omega arith in z))
 first_at f table w (x ∷ b) k (suc i) (suc n) h l e m =
     let c = not_mentioned table w (f x) (map f (take i b)) e in
-    rw c.0 (first_at f table w b (suc k) i n (omega arith) (omega arith) c.1 m ∙ ap some (let z : suc k + i ≡ k + suc i = omega arith in z))
+    rw c.0 (first_at f table w b (suc k) i n (omega arith) (omega arith) c.1 m ∙ ap Some (let z : suc k + i ≡ k + suc i = omega arith in z))
 
 pub no_place : (p : Option Place) → is_some p ≡ false → place_or_zero p ≡ 0
-no_place none h = refl
-no_place (some p) h = absurd (true≢false h)
+no_place None h = refl
+no_place (Some p) h = absurd (true≢false h)
 
 -- FRESHNESS: of a term that is no `rfv`; of an `rfv` that neither a clause nor the branch mentions; of one that is mentioned, by the first place on the branch
 module _ (table : Table) (C : Clauses) (B : List Literal) (w : TermNo) where
@@ -76,19 +76,19 @@ module _ (table : Table) (C : Clauses) (B : List Literal) (w : TermNo) where
   fresh_rfv i = rw i (go (first_place (at table) w B) (mentioned (at table) w (disjuncts C)))
     where
       go : (p : Option Place) (c : Bool) → (c || is_some p) ≡ false → fresh_if true p c ≡ Freshness.Fresh
-      go none false h = refl
-      go none true h = absurd (true≢false h)
-      go (some p) false h = absurd (true≢false h)
-      go (some p) true h = absurd (true≢false h)
+      go None false h = refl
+      go None true h = absurd (true≢false h)
+      go (Some p) false h = absurd (true≢false h)
+      go (Some p) true h = absurd (true≢false h)
 
   pub used_rfv : is_rfv (at table w) ≡ true → (mentioned (at table) w (disjuncts C) || mentioned (at table) w B) ≡ true → freshness table C B w ≡ not_fresh (place_or_zero (first_place (at table) w B))
   unfolding freshness
   used_rfv i = rw i (go (first_place (at table) w B) (mentioned (at table) w (disjuncts C)))
     where
       go : (p : Option Place) (c : Bool) → (c || is_some p) ≡ true → fresh_if true p c ≡ not_fresh (place_or_zero p)
-      go none false h = absurd (false≢true h)
-      go none true h = refl
-      go (some p) c h = refl
+      go None false h = absurd (false≢true h)
+      go None true h = refl
+      go (Some p) c h = refl
 
 -- no term has the number 0
 pub rfv_first : (table : Table) (w : TermNo) → is_rfv (at table w) ≡ true → 0 < w

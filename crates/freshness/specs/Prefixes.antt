@@ -1,6 +1,6 @@
 -- Which terms the clauses and the literals of a branch mention, as rows of bits: bit w of row i says that a clause or one of the first i literals mentions w.
 use Rattle.std.specs.Prelude.{◌≡◌, Bool, ◌||◌, List, [], map, ℕ, ◌/◌, ◌%◌, ◌<◌, ◌≤◌, length, take, get_or}
-use Rattle.std.proofs.Math.Option.{Option, none, some}
+use Rattle.std.specs.Prelude.{Option, None, Some}
 use Rattle.tableau.specs.Terms.{Place, TermNo, Table, Clauses, disjuncts, at, mentions, mentioned, max_terms}
 use Rattle.packing.specs.Packing.{unpack_literal}
 use Rattle.mentions.specs.Mentions.{row, row_bit}
@@ -27,5 +27,5 @@ next_bits prefix rows i left right k q = row_bit prefix i k q || (row_bit rows l
 
 -- a place as a reply gives it
 abbrev pub place_or_zero : Option Place → ℕ
-place_or_zero none = 0
-place_or_zero (some p) = p
+place_or_zero None = 0
+place_or_zero (Some p) = p

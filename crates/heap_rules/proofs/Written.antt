@@ -1,7 +1,7 @@
 -- t is a read of a heap z: what `rdh` and `rdm` ask first.
 use mathlib.Core.Path.{◌≡◌, ◌∙◌}
 use mathlib.Core.List.{List, ◌∷◌}
-use mathlib.Core.Option.{Option, some}
+use Rattle.std.specs.Prelude.{Option, Some}
 use Prim.Native.Nat.{ℕ}
 use Rattle.tableau.specs.declared.Operator.{Operator}
 use Rattle.tableau.specs.declared.Reason.{Reason}
@@ -32,5 +32,5 @@ module _ {A : Table → Type 0} {t : ℕ} {v x : TermView} {z k g : TermNumber} 
 
   -- it is wri(h,u,f,w)
   pub read_written : {h u f w : TermNumber} → x ≡ TermView.Wri h u f w → (table : Table) → A table
-      → Arguments3 Operator.Rea (at table t) z k g × (arguments_of Operator.Wri (at table z.0) ≡ some (four h.0 u.0 f.0 w.0))
+      → Arguments3 Operator.Rea (at table t) z k g × (arguments_of Operator.Wri (at table z.0) ≡ Some (four h.0 u.0 f.0 w.0))
   read_written y table h = (is_rea (at table t) _ _ _ ((i table h).is ∙ e), is_wri (at table z.0) _ _ _ _ ((j table h).is ∙ y))

@@ -1,6 +1,6 @@
 -- The terms that img and wit would add: an access is made where all three stand in the table.
 use Rattle.std.specs.Prelude.{◌≡◌, List, ℕ}
-use Rattle.std.proofs.Math.Option.{Option, none, some}
+use Rattle.std.specs.Prelude.{Option, None, Some}
 use Rattle.tableau.specs.declared.Operator.{Operator}
 use Rattle.tableau.specs.Basics.{four}
 use Rattle.tableau.specs.Terms.{TermNo, Table, Term, apply, number_of}
@@ -18,10 +18,10 @@ abbrev pub rea : TermNo → TermNo → TermNo → Term
 rea h u f = apply Operator.Rea (four h u f 0)
 
 abbrev pub access_of : Option TermNo → Option TermNo → Option TermNo → Access
-access_of none n o = Access.NotMade
-access_of (some c) none o = Access.NotMade
-access_of (some c) (some d) none = Access.NotMade
-access_of (some c) (some d) (some v) = Access.At (number c) (number d) (number v)
+access_of None n o = Access.NotMade
+access_of (Some c) None o = Access.NotMade
+access_of (Some c) (Some d) None = Access.NotMade
+access_of (Some c) (Some d) (Some v) = Access.At (number c) (number d) (number v)
 
 abbrev pub SmallAccess : Access → Type 0
 SmallAccess (Access.At c d v) = Small c.0 × Small d.0 × Small v.0

@@ -1,5 +1,5 @@
 // The rules of images: img, wit and fin.
-ghost use Rattle.std.proofs.Math.Option.{none, some};
+ghost use Rattle.std.specs.Prelude.{None, Some};
 ghost use Rattle.tableau.specs.declared.Rule.{Rule};
 ghost use Rattle.tableau.specs.Terms.{Table};
 ghost use Rattle.packing.specs.Packing.{literal_of, Small, SmallLiteral};
@@ -51,7 +51,7 @@ pub fn img(
 ) -> Outcome
     requires searchable_by { (table : Table) × SearchableBy terms.now chains.now table }
     requires small_literal { SmallLiteral p × Small t.0 }
-    ensures { Concludes (SearchableBy terms.now chains.now) Rule.Img (some (literal_of p)) none t.0 0 result }
+    ensures { Concludes (SearchableBy terms.now chains.now) Rule.Img (Some (literal_of p)) None t.0 0 result }
 {
     let LiteralView::In(u, r) = p else {
         return Outcome::Refused(Reason::NeedNotMet);
@@ -86,7 +86,7 @@ pub fn wit(
     requires searchable_by { (table : Table) × SearchableBy terms.now chains.now table }
     requires small_literal { SmallLiteral p × Small w.0 }
     ensures { ConcludesFresh (SearchableBy terms.now chains.now) fresh
-        Rule.Wit (some (literal_of p)) none 0 w.0 result }
+        Rule.Wit (Some (literal_of p)) None 0 w.0 result }
 {
     let LiteralView::In(u, s) = p else {
         return Outcome::Refused(Reason::NeedNotMet);
@@ -111,7 +111,7 @@ pub fn wit(
 pub fn fin(p: LiteralView, terms: &[u64; table::NUMBERS], chains: &[u16; table::LINKS]) -> Outcome
     requires searchable_by { (table : Table) × SearchableBy terms.now chains.now table }
     requires small_literal { SmallLiteral p }
-    ensures { Concludes (SearchableBy terms.now chains.now) Rule.Fin (some (literal_of p)) none 0 0 result }
+    ensures { Concludes (SearchableBy terms.now chains.now) Rule.Fin (Some (literal_of p)) None 0 0 result }
 {
     let LiteralView::Eq(union, image) = p else {
         return Outcome::Refused(Reason::NeedNotMet);

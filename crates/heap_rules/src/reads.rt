@@ -1,5 +1,5 @@
 // The rules of a heap that is read where it was written: rdh and rdm.
-ghost use Rattle.std.proofs.Math.Option.{none};
+ghost use Rattle.std.specs.Prelude.{None};
 ghost use Rattle.tableau.specs.declared.Rule.{Rule};
 ghost use Rattle.tableau.specs.Terms.{Table};
 ghost use Rattle.packing.specs.Packing.{Small};
@@ -15,7 +15,7 @@ use tableau::{Operator, Reason, Relation, TermNumber};
 pub fn rdh(t: TermNumber, terms: &[u64; table::NUMBERS]) -> Outcome
     requires held_by { (table : Table) × HeldBy terms.now table }
     requires small { Small t.0 }
-    ensures { Concludes (HeldBy terms.now) Rule.Rdh none none t.0 0 result }
+    ensures { Concludes (HeldBy terms.now) Rule.Rdh None None t.0 0 result }
 {
     let TermView::Rea(z, k, g) = table::view(terms, t) else {
         return Outcome::Refused(Reason::NeedNotMet);
@@ -36,7 +36,7 @@ pub fn rdh(t: TermNumber, terms: &[u64; table::NUMBERS]) -> Outcome
 pub fn rdm(t: TermNumber, terms: &[u64; table::NUMBERS], chains: &[u16; table::LINKS]) -> Outcome
     requires searchable_by { (table : Table) × SearchableBy terms.now chains.now table }
     requires small { Small t.0 }
-    ensures { Concludes (SearchableBy terms.now chains.now) Rule.Rdm none none t.0 0 result }
+    ensures { Concludes (SearchableBy terms.now chains.now) Rule.Rdm None None t.0 0 result }
 {
     let TermView::Rea(z, y, g) = table::view(terms, t) else {
         return Outcome::Refused(Reason::NeedNotMet);

@@ -2,7 +2,7 @@
 use mathlib.Core.Path.{◌≡◌, refl, sym, subst}
 use mathlib.Core.Bool.{true, false}
 use mathlib.Core.List.{List, [], ◌∷◌}
-use mathlib.Core.Option.{none, some}
+use Rattle.std.specs.Prelude.{None, Some}
 use Prim.Native.Nat.{ℕ, ◌+◌, ◌<◌, ◌≤◌}
 use borrow.Author.Tests.{le-leb, lt-leb}
 use Rattle.tableau.specs.declared.Letter.{Letter}
@@ -37,10 +37,10 @@ clause_letter Letter.C s t a = refl
 clause_letter Letter.S s t a = absurd (s refl)
 
 module _ (table : Table) (C : Clauses) (g : Progress) (e : Extent) (f : LineFields) (codes words prefix : List ℕ) where
-  pub no_letter : (A : Arrays) → lookup letters (f.letter ∷ []) ≡ none → LineDone table C codes g e f A words prefix (LineResult.Refused Reason.BadShape (g.lines + 1))
+  pub no_letter : (A : Arrays) → lookup letters (f.letter ∷ []) ≡ None → LineDone table C codes g e f A words prefix (LineResult.Refused Reason.BadShape (g.lines + 1))
   no_letter A h = record { after = table; clauses = C; held = tt; done = λ t w q b. record { follows = refl; runs = run_unlettered _ f h } }
 
-  pub out_of_order : (A : Arrays) (k : Letter) → lookup letters (f.letter ∷ []) ≡ some k → in_order g.letter k ≡ false
+  pub out_of_order : (A : Arrays) (k : Letter) → lookup letters (f.letter ∷ []) ≡ Some k → in_order g.letter k ≡ false
       → LineDone table C codes g e f A words prefix (LineResult.Refused Reason.LetterOrder (g.lines + 1))
   out_of_order A k l h = record { after = table; clauses = C; held = tt; done = λ t w q b. record { follows = refl; runs = run_disordered _ f l h } }
 

@@ -2,7 +2,7 @@
 use mathlib.Core.Path.{◌≡◌, refl, sym, ◌∙◌, ap}
 use mathlib.Core.Bool.{Bool, true, false, ◌&&◌}
 use mathlib.Core.List.{[], ◌∷◌, ◌++◌, map}
-use mathlib.Core.Option.{some}
+use Rattle.std.specs.Prelude.{Some}
 use Prim.Native.Nat.{ℕ, suc, ◌+◌, ◌≤◌}
 use native.Mathlib.Omega.{arith}
 use native.Mathlib.Numerals.{add-one}
@@ -66,7 +66,7 @@ module _ (τ : specification.Tree) (l : terms.Literal) (room : length τ.waiting
   pub stays_open : passed is_closed ≡ grown τ ((l ∷ []) ∷ []) → ⊥
   stays_open e = not_closed (leb (suc (length τ.branch)) max_places) (sym (e ∙ (one_more (leb (suc (length τ.branch)) max_places) refl).0))
 
-module _ (table : Table) (C : Clauses) (g : Progress) (e : Extent) (f : LineFields) (W : Ready g e) (k : lookup letters (f.letter ∷ []) ≡ some Letter.A) (o : in_order g.letter Letter.A ≡ true) where
+module _ (table : Table) (C : Clauses) (g : Progress) (e : Extent) (f : LineFields) (W : Ready g e) (k : lookup letters (f.letter ∷ []) ≡ Some Letter.A) (o : in_order g.letter Letter.A ≡ true) where
   opened : g.closed ≡ false
   unfolding rank
   opened = open_before W.counted Letter.A refl o

@@ -2,7 +2,7 @@
 use mathlib.Core.Path.{◌≡◌, refl, ◌∙◌, ap}
 use mathlib.Core.Bool.{true, false}
 use mathlib.Core.List.{List, [], ◌∷◌, ◌++◌}
-use mathlib.Core.Option.{some}
+use Rattle.std.specs.Prelude.{Some}
 use Prim.Native.Nat.{ℕ, ◌+◌, ◌≤◌}
 use native.Mathlib.Omega.{arith}
 use lib.ListN.{length}
@@ -36,7 +36,7 @@ use Rattle.line_checks.specs.Checks.{Ready, literal_read, DisjunctDone}
 use Rattle.line_checks.proofs.Results.{open_before, unchanged}
 use Rattle.line_checks.proofs.LiteralLines.{literal_runs, refused_so, assumed_so}
 
-module _ (table : Table) (C : Clauses) (g : Progress) (e : Extent) (f : LineFields) (W : Ready g e) (k : lookup letters (f.letter ∷ []) ≡ some Letter.C) (o : in_order g.letter Letter.C ≡ true) where
+module _ (table : Table) (C : Clauses) (g : Progress) (e : Extent) (f : LineFields) (W : Ready g e) (k : lookup letters (f.letter ∷ []) ≡ Some Letter.C) (o : in_order g.letter Letter.C ≡ true) where
   opened : g.closed ≡ false
   unfolding rank
   opened = open_before W.counted Letter.C refl o

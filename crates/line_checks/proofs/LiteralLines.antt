@@ -2,7 +2,7 @@
 use mathlib.Core.Path.{◌≡◌, refl, sym, ◌∙◌, ap}
 use mathlib.Core.Bool.{Bool, true, false}
 use mathlib.Core.List.{[], ◌∷◌}
-use mathlib.Core.Option.{Option, none, some}
+use Rattle.std.specs.Prelude.{Option, None, Some}
 use mathlib.Core.Logic.{◌⊎◌, inl, inr}
 use Prim.Native.Nat.{ℕ, ◌≤◌}
 use native.Mathlib.Omega.{arith}
@@ -75,10 +75,10 @@ literal_as table (terms.literal S m n) = literal_line table (sides S) S (four m 
 
 module _ (table : Table) (l : Letter) (f : LineFields) where
   -- check 4
-  pub read_unknown : lookup_packed relations f.word ≡ none → literal_read table l f ≡ refused Reason.UnknownWord
+  pub read_unknown : lookup_packed relations f.word ≡ None → literal_read table l f ≡ refused Reason.UnknownWord
   read_unknown h = rw h
 
-  module _ (R : Relation) (h : lookup_packed relations f.word ≡ some R) where
+  module _ (R : Relation) (h : lookup_packed relations f.word ≡ Some R) where
     -- check 6
     pub read_unused : every zero_if_unused (literal_fields l R) (numbers_of f) ≡ false → literal_read table l f ≡ refused Reason.UnusedField
     unfolding literal_line
@@ -91,15 +91,15 @@ module _ (table : Table) (l : Letter) (f : LineFields) where
     read_taken z x e = ap (literal_as table) e ∙ sym (rw h (sides_alone table R (numbers_of f) l z))
 
 -- THE RUN of such a line, which checks 2, 3 and 5 let through: those of its literal, then what its command does with the literal
-module _ (table : Table) (C : Clauses) (g : Progress) (f : LineFields) {l : Letter} (k : lookup letters (f.letter ∷ []) ≡ some l) (o : in_order g.letter l ≡ true) (opened : g.closed ≡ false)
+module _ (table : Table) (C : Clauses) (g : Progress) (f : LineFields) {l : Letter} (k : lookup letters (f.letter ∷ []) ≡ Some l) (o : in_order g.letter l ≡ true) (opened : g.closed ≡ false)
     (ask : Relation → Command) (asked : packed_command l f.word ≡ some_of ask (lookup_packed relations f.word)) (end : Tree → terms.Literal → Checked State)
     (ends : (τ : Tree) (R : Relation) → run_open (state_at table C τ g) τ (ask R) (numbers_of f) ≡ (literal_line table (literal_fields l R) R (numbers_of f) >>= end τ)) where
   pub literal_runs : (τ : Tree) → run_fields (state_at table C τ g) f ≡ (literal_read table l f >>= end τ)
   literal_runs τ = go (lookup_packed relations f.word) refl
     where
       go : (m : Option Relation) → lookup_packed relations f.word ≡ m → run_fields (state_at table C τ g) f ≡ (literal_read table l f >>= end τ)
-      go none h = run_unknown (state_at table C τ g) f k o (asked ∙ ap (some_of ask) h) ∙ sym (rw h)
-      go (some R) h = run_known (state_at table C τ g) f k (ask R) o (asked ∙ ap (some_of ask) h)
+      go None h = run_unknown (state_at table C τ g) f k o (asked ∙ ap (some_of ask) h) ∙ sym (rw h)
+      go (Some R) h = run_known (state_at table C τ g) f k (ask R) o (asked ∙ ap (some_of ask) h)
           ∙ ap (λ (b : Bool). require_open (status_of b τ) >>= λ τ'. run_open (state_at table C τ g) τ' (ask R) (numbers_of f)) opened ∙ ends τ R ∙ sym (rw h)
 
 -- WHAT WAS READ is what the specification reads
@@ -129,8 +129,8 @@ module _ (table : Table) (few : length table ≤ max_terms) {code : ℕ} where
   assumed_so l f h = known (lookup_packed relations f.word) refl
     where
       known : (m : Option Relation) → lookup_packed relations f.word ≡ m → literal_read table l f ≡ passed (unpack_literal code)
-      known none e = not_refused (h ∙ ap assumption_of (read_unknown table l f e))
-      known (some R) e = zeros (dec (every zero_if_unused (literal_fields l R) (numbers_of f)))
+      known None e = not_refused (h ∙ ap assumption_of (read_unknown table l f e))
+      known (Some R) e = zeros (dec (every zero_if_unused (literal_fields l R) (numbers_of f)))
         where
           zeros : (every zero_if_unused (literal_fields l R) (numbers_of f) ≡ true) ⊎ (every zero_if_unused (literal_fields l R) (numbers_of f) ≡ false) → literal_read table l f ≡ passed (unpack_literal code)
           zeros (inr z) = not_refused (h ∙ ap assumption_of (read_unused table l f R e z))

@@ -3,7 +3,7 @@ use mathlib.Core.Path.{◌≡◌, refl, sym, ◌∙◌, ap, ap₂, subst}
 use mathlib.Core.Bool.{Bool, true, false, cond}
 use mathlib.Core.List.{List, [], ◌∷◌, map}
 use mathlib.Core.Logic.{◌⊎◌, inl, inr}
-use mathlib.Core.Option.{none, some}
+use Rattle.std.specs.Prelude.{None, Some}
 use Prim.Native.Nat.{ℕ, suc, ◌+◌, ◌-◌, ◌≤◌, ◌<◌}
 use lib.Dec.{ltb}
 use native.Mathlib.Omega.{arith}
@@ -180,18 +180,18 @@ module _ (table : Table) (C : Clauses) (g : Progress) (e : Extent) (W : Ready g 
             })
 
   -- AN S LINE
-  module _ (f : LineFields) (k : lookup letters (f.letter ∷ []) ≡ some Letter.S) (codes : List ℕ) (A : Arrays) (words prefix : List ℕ) (K : ClausesHeld C words g.clauses) where
+  module _ (f : LineFields) (k : lookup letters (f.letter ∷ []) ≡ Some Letter.S) (codes : List ℕ) (A : Arrays) (words prefix : List ℕ) (K : ClausesHeld C words g.clauses) where
     -- the line is refused
     refusal : (r : Reason) → ((τ : specification.Tree) → run_fields (state_at table C τ g) f ≡ refused r)
         → LineDone table C codes g e f A words prefix (LineResult.Refused r (g.lines + 1))
     refusal r h = record { after = table; clauses = C; held = tt; done = λ t w q b. record { follows = refl; runs = h (tree_of unpack_literal t) } }
 
     -- check 4
-    pub step_unknown : lookup_packed rule_names f.word ≡ none → LineDone table C codes g e f A words prefix (LineResult.Refused Reason.UnknownWord (g.lines + 1))
+    pub step_unknown : lookup_packed rule_names f.word ≡ None → LineDone table C codes g e f A words prefix (LineResult.Refused Reason.UnknownWord (g.lines + 1))
     unfolding packed_command
     step_unknown h = refusal Reason.UnknownWord (λ τ. run_unknown (state_at table C τ g) f k (steps_last g.letter) (ap (some_of infer) h))
 
-    module _ (x : Rule) (h : lookup_packed rule_names f.word ≡ some x) where
+    module _ (x : Rule) (h : lookup_packed rule_names f.word ≡ Some x) where
       step_runs : (τ : specification.Tree) → run_fields (state_at table C τ g) f
           ≡ (require_open (status_of g.closed τ) >>= λ τ'. run_open (state_at table C τ g) τ' (infer x) (numbers_of f))
       unfolding packed_command

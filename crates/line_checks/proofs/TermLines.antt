@@ -2,7 +2,7 @@
 use mathlib.Core.Path.{◌≡◌, refl, sym, ◌∙◌, ap, ap₂}
 use mathlib.Core.Bool.{Bool, true, false}
 use mathlib.Core.List.{[], ◌∷◌, ◌++◌}
-use mathlib.Core.Option.{none, some}
+use Rattle.std.specs.Prelude.{None, Some}
 use Prim.Native.Nat.{ℕ, ◌+◌}
 use native.Mathlib.Omega.{arith}
 use native.Mathlib.Numerals.{add-one}
@@ -41,7 +41,7 @@ use Rattle.running.proofs.Lines.{run_unknown, run_known}
 use Rattle.line_checks.specs.Checks.{Ready, TermDone}
 use Rattle.line_checks.proofs.Results.{open_before, before_assumption, unchanged}
 
-module _ (table : Table) (C : Clauses) (g : Progress) (e : Extent) (f : LineFields) (W : Ready g e) (k : lookup letters (f.letter ∷ []) ≡ some Letter.T) (o : in_order g.letter Letter.T ≡ true) where
+module _ (table : Table) (C : Clauses) (g : Progress) (e : Extent) (f : LineFields) (W : Ready g e) (k : lookup letters (f.letter ∷ []) ≡ Some Letter.T) (o : in_order g.letter Letter.T ≡ true) where
   opened : g.closed ≡ false
   unfolding rank
   opened = open_before W.counted Letter.T refl o
@@ -51,11 +51,11 @@ module _ (table : Table) (C : Clauses) (g : Progress) (e : Extent) (f : LineFiel
   refusal A r h = record { after = table; made = tt; done = λ words t w q. record { follows = refl; runs = h (tree_of unpack_literal t) } }
 
   -- check 4
-  pub term_unknown : (A : Arrays) → lookup_packed words f.word ≡ none → TermDone table C g e f A (LineResult.Refused Reason.UnknownWord (g.lines + 1))
+  pub term_unknown : (A : Arrays) → lookup_packed words f.word ≡ None → TermDone table C g e f A (LineResult.Refused Reason.UnknownWord (g.lines + 1))
   unfolding packed_command
   term_unknown A h = refusal A Reason.UnknownWord (λ τ. run_unknown (state_at table C τ g) f k o (ap (some_of make) h))
 
-  module _ (w : Word) (h : lookup_packed words f.word ≡ some w) where
+  module _ (w : Word) (h : lookup_packed words f.word ≡ Some w) where
     -- the state with the table that the line makes
     abbrev after : specification.Tree → Table → State
     after τ T = record { table = T; clauses = C; status = is_open τ; letter = Letter.T; counts = counted (counts_of g.counts) (make w) }

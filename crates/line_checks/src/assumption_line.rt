@@ -1,6 +1,6 @@
 // An A line.
 ghost use Rattle.std.specs.Prelude.{true, [], ◌∷◌, ◌≡◌, length};
-ghost use Rattle.std.proofs.Math.Option.{some};
+ghost use Rattle.std.specs.Prelude.{Some};
 ghost use Rattle.tableau.specs.Basics.{lookup};
 ghost use Rattle.tableau.specs.File.{letters, in_order};
 ghost use Rattle.tableau.specs.Terms.{Table, Clauses};
@@ -22,7 +22,7 @@ pub fn check(
     terms: &[u64; table::NUMBERS],
 ) -> LineResult
     requires entries { (table : Table) × Entries table terms.now × (length table ≡ progress.counts.terms) }
-    requires ready { Ready progress extent × (lookup letters (f.letter ∷ []) ≡ some Letter.A) × (in_order progress.letter Letter.A ≡ true) }
+    requires ready { Ready progress extent × (lookup letters (f.letter ∷ []) ≡ Some Letter.A) × (in_order progress.letter Letter.A ≡ true) }
     ensures { (table : Table) (C : Clauses) → Entries table terms.now → length table ≡ progress.counts.terms
         → AssumptionDone table C progress extent f result }
 {

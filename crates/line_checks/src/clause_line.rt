@@ -1,6 +1,6 @@
 // A C line.
 ghost use Rattle.std.specs.Prelude.{true, List, [], ◌∷◌, ◌≡◌, ℕ, length};
-ghost use Rattle.std.proofs.Math.Option.{some};
+ghost use Rattle.std.specs.Prelude.{Some};
 ghost use Rattle.tableau.specs.Basics.{lookup};
 ghost use Rattle.tableau.specs.File.{letters, in_order};
 ghost use Rattle.tableau.specs.Terms.{Table, Clauses};
@@ -28,7 +28,7 @@ pub fn check(
     clauses: &mut [u32; clauses::WORDS],
 ) -> LineResult
     requires entries { (table : Table) × Entries table terms.now × (length table ≡ progress.counts.terms) }
-    requires ready { Ready progress extent × (lookup letters (f.letter ∷ []) ≡ some Letter.C) × (in_order progress.letter Letter.C ≡ true)
+    requires ready { Ready progress extent × (lookup letters (f.letter ∷ []) ≡ Some Letter.C) × (in_order progress.letter Letter.C ≡ true)
         × ((C : Clauses) × ClausesHeld C clauses.old progress.clauses) }
     ensures { (table : Table) (C : Clauses) (codes : List ℕ) → Entries table terms.now → length table ≡ progress.counts.terms
         → MentionRows table rows.now → ClausesHeld C clauses.old progress.clauses

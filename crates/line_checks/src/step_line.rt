@@ -1,6 +1,6 @@
 // An S line.
 ghost use Rattle.std.specs.Prelude.{[], ◌∷◌, ◌≡◌};
-ghost use Rattle.std.proofs.Math.Option.{some};
+ghost use Rattle.std.specs.Prelude.{Some};
 ghost use Rattle.tableau.specs.Basics.{lookup};
 ghost use Rattle.tableau.specs.File.{letters};
 ghost use Rattle.tableau.specs.Terms.{Table, Clauses};
@@ -67,7 +67,7 @@ pub fn check(
     clauses: &[u32; clauses::WORDS],
 ) -> LineResult
     requires held { (table : Table) × Held table (arrays terms.now chains.now rows.now) progress.counts.terms }
-    requires ready { Ready progress extent × IsBranch branch.now extent.len × (lookup letters (f.letter ∷ []) ≡ some Letter.S)
+    requires ready { Ready progress extent × IsBranch branch.now extent.len × (lookup letters (f.letter ∷ []) ≡ Some Letter.S)
         × ((C : Clauses) × ClausesHeld C clauses.now progress.clauses) }
     ensures { (table : Table) (C : Clauses) → Held table (arrays terms.now chains.now rows.now) progress.counts.terms
         → ClausesHeld C clauses.now progress.clauses → PrefixRows table C branch.now prefix.old progress.noted

@@ -1,6 +1,6 @@
 // A T line.
 ghost use Rattle.std.specs.Prelude.{true, [], ◌∷◌, ◌≡◌, ◌<◌};
-ghost use Rattle.std.proofs.Math.Option.{some};
+ghost use Rattle.std.specs.Prelude.{Some};
 ghost use Rattle.tableau.specs.Basics.{lookup};
 ghost use Rattle.tableau.specs.File.{letters, in_order};
 ghost use Rattle.tableau.specs.Terms.{Table, Clauses};
@@ -26,7 +26,7 @@ pub fn check(
     rows: &mut [u64; mentions::WORDS],
 ) -> LineResult
     requires held { (table : Table) × Held table (arrays terms.old chains.old rows.old) progress.counts.terms }
-    requires ready { Ready progress extent × (lookup letters (f.letter ∷ []) ≡ some Letter.T) × (in_order progress.letter Letter.T ≡ true) × (f.a < number_limit) }
+    requires ready { Ready progress extent × (lookup letters (f.letter ∷ []) ≡ Some Letter.T) × (in_order progress.letter Letter.T ≡ true) × (f.a < number_limit) }
     ensures { (table : Table) (C : Clauses) → Held table (arrays terms.old chains.old rows.old) progress.counts.terms
         → TermDone table C progress extent f (arrays terms.new chains.new rows.new) result }
 {

@@ -1,7 +1,7 @@
 -- The laws by which the reader's functions are proved: what a byte, and then a field, makes of the steps in a file.
 use mathlib.Core.Bool.{Bool, true, false, cond, ◌||◌, and-false, true≢false}
 use mathlib.Core.List.{List, []}
-use mathlib.Core.Option.{Option, none}
+use Rattle.std.specs.Prelude.{Option, None}
 use mathlib.Core.Path.{◌≡◌, refl, sym, ap, subst, ◌∙◌}
 use Prim.Native.Nat.{ℕ, suc, ◌+◌, ◌*◌, ◌-◌, ◌^◌, ◌≤◌, ◌<◌}
 use native.Mathlib.Nat.{lt_of_lt_of_le, mul-le-mul_left, pow-le-pow_right, pow-suc}
@@ -68,7 +68,7 @@ pub ruleset letter-read = (below_capitals, above_capitals, comma_read, comma_bad
 abbrev AfterByte : Form → Option FieldsAt → (ℕ → Reading) → Reading → List ℕ → ℕ → ByteStep → Type 0
 AfterByte F w more done file i (ByteStep.More v) = w ≡ steps_at F (more v) file i
 AfterByte F w more done file i ByteStep.End = w ≡ steps_at F done file i
-AfterByte F w more done file i ByteStep.Bad = w ≡ none
+AfterByte F w more done file i ByteStep.Bad = w ≡ None
 
 turned : (F : Form) (w : Option FieldsAt) (r : Reading) (more : ℕ → Reading) (done : Reading) (file : List ℕ) (i : ℕ) → ends r ≡ refused Reason.BadShape → LFAhead file i
     → w ≡ steps_at F r file i → (s : ByteStep) → step F r (get_or file i 0) ≡ byte_step more done s → AfterByte F w more done file (i + 1) s
@@ -222,11 +222,11 @@ digits_LF value left x end r is q = is ∙ ap (λ (y : ℕ). next_digit value le
 
 module _ (end : ℕ) (file : List ℕ) (i value left : ℕ) (ahead : LFAhead file i) (r : ByteStep) (is : r ≡ next_digit value left (get_or file i 0) end) where
   pub digits_ahead : (v : ℕ) → r ≡ ByteStep.More v → LFAhead file (i + 1)
-  digits_ahead v e = ahead_next file i ahead (λ q. none (eqb LF end) (sym e ∙ digits_LF value left (get_or file i 0) end r is q))
+  digits_ahead v e = ahead_next file i ahead (λ q. None (eqb LF end) (sym e ∙ digits_LF value left (get_or file i 0) end r is q))
     where
       none : (b : Bool) → ByteStep.More v ≡ cond b ByteStep.End ByteStep.Bad → ⊥
-      none true z = end≢more z
-      none false z = bad≢more z
+      None true z = end≢more z
+      None false z = bad≢more z
 
   end_ahead : r ≡ ByteStep.End → end ≡ comma → LFAhead file (i + 1)
   end_ahead e c = ahead_next file i ahead (λ q. bad≢end (sym e ∙ digits_LF value left (get_or file i 0) end r is q ∙ rw c))
@@ -306,7 +306,7 @@ module _ (F : Form) (q : Reading) (then' : ℕ → Reading) (end : ℕ) (file : 
   pub value_read : (v i : ℕ) → r ≡ ValueRead.Read v i → (steps_at F q file at ≡ steps_at F (then' v) file i) × (end ≡ comma → LFAhead file i)
   value_read v i e = subst (ValueSteps F q then' end file at) e s
 
-  pub value_bad : r ≡ ValueRead.Bad → steps_at F q file at ≡ none
+  pub value_bad : r ≡ ValueRead.Bad → steps_at F q file at ≡ None
   value_bad e = subst (ValueSteps F q then' end file at) e s
 
 module _ (file : List ℕ) (at : ℕ) (r : ValueRead) (s : WordSteps file at r) where

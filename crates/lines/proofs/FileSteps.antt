@@ -1,7 +1,7 @@
 -- The steps in a file: over the line that begins at a position, and over the byte there.
 use mathlib.Core.Bool.{Bool, true, false}
 use mathlib.Core.List.{List, [], ◌∷◌, ◌++◌, foldl}
-use mathlib.Core.Option.{Option, none, some}
+use Rattle.std.specs.Prelude.{Option, None, Some}
 use mathlib.Core.Path.{◌≡◌, refl, sym, ap, ◌∙◌}
 use mathlib.Core.Logic.{⊎_elim}
 use Prim.Native.Nat.{ℕ, zero, suc, ◌+◌, ◌-◌, ◌≤◌, ◌<◌}
@@ -26,7 +26,7 @@ use Rattle.lines.proofs.OnePass.{unended, any_pass}
 
 -- A line that is whole or bad stays so.
 module _ (F : Form) where
-  steps_bad : (l : List ℕ) (at : ℕ) → steps F bad l at ≡ none
+  steps_bad : (l : List ℕ) (at : ℕ) → steps F bad l at ≡ None
   unfolding steps step
   steps_bad [] at = refl
   steps_bad (x ∷ l) at = steps_bad l (at + 1)
@@ -60,18 +60,18 @@ module _ (F : Form) where
   abbrev pub line_from : Reading → ℕ → List ℕ → Option FieldsAt
   line_from r next' p = line_end next' (ends (foldl (step F) r (p ++ (LF ∷ []))))
 
-  pub first_steps : (r : Reading) (l : List ℕ) (at : ℕ) → ends r ≡ refused Reason.BadShape → steps F r l at ≡ first_line none (line_from r) at (split LF l)
+  pub first_steps : (r : Reading) (l : List ℕ) (at : ℕ) → ends r ≡ refused Reason.BadShape → steps F r l at ≡ first_line None (line_from r) at (split LF l)
   unfolding steps split
   first_steps r [] at e = rw e
   first_steps r (x ∷ l) at e = steps_on r x l at e ∙ (let k = pieces LF l in which k.first k.others k.cut (eqb x LF) refl (first_steps (step F r x) l (at + 1)))
     where
       which : (p : List ℕ) (ps : List (List ℕ)) → split LF l ≡ p ∷ ps → (b : Bool) → eqb x LF ≡ b
-          → (ends (step F r x) ≡ refused Reason.BadShape → steps F (step F r x) l (at + 1) ≡ first_line none (line_from (step F r x)) (at + 1) (split LF l))
-          → steps F (step F r x) l (at + 1) ≡ first_line none (line_from r) at (elim b [ true ↦ [] ∷ split LF l | false ↦ on_first x (split LF l) ])
+          → (ends (step F r x) ≡ refused Reason.BadShape → steps F (step F r x) l (at + 1) ≡ first_line None (line_from (step F r x)) (at + 1) (split LF l))
+          → steps F (step F r x) l (at + 1) ≡ first_line None (line_from r) at (elim b [ true ↦ [] ∷ split LF l | false ↦ on_first x (split LF l) ])
       which p ps k true q later = let z : at + 0 + 1 ≡ at + 1 = omega arith in rw (k, z, eqb-true x LF q) (after_LF r l (at + 1))
       which p ps k false q later = later (unended F r x (eqb-false x LF q)) ∙ rw k (piece ps)
         where
-          piece : (ps : List (List ℕ)) → first_line none (line_from (step F r x)) (at + 1) (p ∷ ps) ≡ first_line none (line_from r) at ((x ∷ p) ∷ ps)
+          piece : (ps : List (List ℕ)) → first_line None (line_from (step F r x)) (at + 1) (p ∷ ps) ≡ first_line None (line_from r) at ((x ∷ p) ∷ ps)
           piece [] = refl
           piece (q ∷ qs) = let z : at + 1 + length p + 1 ≡ at + suc (length p) + 1 = omega arith in rw z
 
@@ -80,11 +80,11 @@ pub line_steps_lem : (file : List ℕ) (at : ℕ) → line_of (steps_at six_fiel
 unfolding steps_at line_at
 line_steps_lem file at = ap line_of (first_steps six_field_form empty (drop at file) at refl) ∙ same (split LF (drop at file))
   where
-    shaped : (n : ℕ) (m : Option (Line ℕ)) → line_of (line_end n (require_some (then m λ k. some (fields_of k)) Reason.BadShape)) ≡ line_read n m
-    shaped n none = refl
-    shaped n (some k) = refl
+    shaped : (n : ℕ) (m : Option (Line ℕ)) → line_of (line_end n (require_some (then m λ k. Some (fields_of k)) Reason.BadShape)) ≡ line_read n m
+    shaped n None = refl
+    shaped n (Some k) = refl
 
-    same : (ls : List (List ℕ)) → line_of (first_line none (line_from six_field_form empty) at ls) ≡ first_line LineRead.BadShape (λ n l. line_read n (any_shape l)) at ls
+    same : (ls : List (List ℕ)) → line_of (first_line None (line_from six_field_form empty) at ls) ≡ first_line LineRead.BadShape (λ n l. line_read n (any_shape l)) at ls
     same [] = refl
     same (l ∷ []) = refl
     same (l ∷ m ∷ ls) = ap (λ c. line_of (line_end (at + length l + 1) c)) (any_pass l) ∙ shaped (at + length l + 1) (any_shape l)
@@ -117,7 +117,7 @@ a_byte F r file i due a =
     let here : drop i file ≡ get_or file i 0 ∷ drop (i + 1) file = rw add-one (drop-cons file i 0 (ahead_here file i a)) in
     rw here (steps_on F r (get_or file i 0) (drop (i + 1) file) i due)
 
-pub no_line_at : (F : Form) (file : List ℕ) (i : ℕ) → steps_at F bad file i ≡ none
+pub no_line_at : (F : Form) (file : List ℕ) (i : ℕ) → steps_at F bad file i ≡ None
 unfolding steps_at
 no_line_at F file i = steps_bad F (drop i file) i
 
@@ -129,18 +129,18 @@ pub none_at_end : (file : List ℕ) → NoneBehind file (length file)
 unfolding NoneBehind
 none_at_end file i h k q = omega arith
 
-module _ (file : List ℕ) (end : ℕ) (none : NoneBehind file end) where
+module _ (file : List ℕ) (end : ℕ) (None : NoneBehind file end) where
   pub none_before_lem : (get_or file (end - 1) 0 ≡ LF → ⊥) → NoneBehind file (end - 1)
   unfolding NoneBehind
   none_before_lem h i l k q = ⊎_elim
       (λ (e : end - 1 ≡ i). h (ap (λ (n : ℕ). get_or file n 0) e ∙ q))
-      (λ (e : end - 1 < i). none i (omega arith) k q)
+      (λ (e : end - 1 < i). None i (omega arith) k q)
       (eq-or-lt_of_le l)
 
   pub last_here : 0 < end → end ≤ length file → get_or file (end - 1) 0 ≡ LF → LinesEnd file end
   unfolding NoneBehind
-  last_here h k e = record { ahead = λ at l. record { position = end - 1; behind = omega arith; inside = omega arith; is_lf = e }; last = none }
+  last_here h k e = record { ahead = λ at l. record { position = end - 1; behind = omega arith; inside = omega arith; is_lf = e }; last = None }
 
   pub no_last : end ≤ 0 → LinesEnd file 0
   unfolding NoneBehind
-  no_last h = record { ahead = λ at l. absurd (omega arith); last = λ i l. none i (omega arith) }
+  no_last h = record { ahead = λ at l. absurd (omega arith); last = λ i l. None i (omega arith) }

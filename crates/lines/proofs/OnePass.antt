@@ -1,7 +1,7 @@
 -- The steps over a line's bytes come to the specification's shape of the line. What a reading and the fields that are left come to changes with no step.
 use mathlib.Core.Bool.{Bool, true, false, cond, ◌&&◌, ◌||◌, not, and-true, and-false}
 use mathlib.Core.List.{List, [], ◌∷◌, ◌++◌, foldl, Mem, mem-cons_self, mem-cons_of_mem}
-use mathlib.Core.Option.{Option, none, some}
+use Rattle.std.specs.Prelude.{Option, None, Some}
 use mathlib.Core.Path.{◌≡◌, refl, sym, ap, ◌∙◌}
 use Prim.Native.Nat.{ℕ, zero, suc, ◌+◌, ◌*◌, ◌-◌, ◌^◌, ◌≤◌, ◌<◌}
 use native.Mathlib.Nat.{add-zero, mul-zero, mul-add, mul_assoc, add_assoc, pow-suc}
@@ -30,7 +30,7 @@ abbrev number_step : ℕ → FieldsRead → ℕ → ℕ → ByteStep → Reading
 number_step n f value left s = byte_step (λ v. in_number n f v (left - 1)) (number_ends n f value) s
 
 -- WHAT IS LEFT OF A FIELD.
-no_value : {A : Type 0} (b : Bool) → guard {A = A} b none ≡ none
+no_value : {A : Type 0} (b : Bool) → guard {A = A} b None ≡ None
 no_value true = refl
 no_value false = refl
 
@@ -39,9 +39,9 @@ abbrev pub two_or_three : ℕ → Bool
 two_or_three n = eqb n 2 || eqb n 3
 
 unfoldable pub word_from : ℕ → ℕ → List ℕ → Option ℕ
-word_from value count p = guard (two_or_three (count + length p) && all_small p) (some (value + 256 ^ count * pack_word p))
+word_from value count p = guard (two_or_three (count + length p) && all_small p) (Some (value + 256 ^ count * pack_word p))
 
-word_ends_lem : (value count : ℕ) → word_from value count [] ≡ guard (two_or_three count) (some value)
+word_ends_lem : (value count : ℕ) → word_from value count [] ≡ guard (two_or_three count) (Some value)
 unfolding word_from all_small
 word_ends_lem value count = let q : count + 0 ≡ count = omega arith in rw (q, and-true, mul-zero, add-zero)
 
@@ -53,12 +53,12 @@ word_more value count x p small =
     rw (add-one, pow-suc, mul-add, mul_assoc, add_assoc) in
     rw (q₁, small, q₂)
 
-word_full : (value count x : ℕ) (p : List ℕ) → 3 ≤ count → word_from value count (x ∷ p) ≡ none
+word_full : (value count x : ℕ) (p : List ℕ) → 3 ≤ count → word_from value count (x ∷ p) ≡ None
 unfolding word_from
 word_full value count x p h =
     rw (ne_eqb (count + suc (length p)) 2 (λ e. omega arith), ne_eqb (count + suc (length p)) 3 (λ e. omega arith))
 
-word_other : (value count x : ℕ) (p : List ℕ) → is_small x ≡ false → word_from value count (x ∷ p) ≡ none
+word_other : (value count x : ℕ) (p : List ℕ) → is_small x ≡ false → word_from value count (x ∷ p) ≡ None
 unfolding word_from all_small
 word_other value count x p e = rw (e, and-false)
 
@@ -66,7 +66,7 @@ word_other value count x p e = rw (e, and-false)
 unfoldable pub digits_from : ℕ → ℕ → List ℕ → Option ℕ
 digits_from value left p = guard (leb (length p) left) (digits p value)
 
-number_ends_lem : (value left : ℕ) → digits_from value left [] ≡ some value
+number_ends_lem : (value left : ℕ) → digits_from value left [] ≡ Some value
 unfolding digits_from digits
 number_ends_lem value left = rw (le-leb 0 left (omega arith))
 
@@ -78,11 +78,11 @@ digit_more : (value left x : ℕ) (p : List ℕ) → is_digit x ≡ true → (le
 unfolding digits_from digits
 digit_more value left x p own h = rw (one_less (length p) left h, own)
 
-digit_full : (value left x : ℕ) (p : List ℕ) → left ≡ 0 → digits_from value left (x ∷ p) ≡ none
+digit_full : (value left x : ℕ) (p : List ℕ) → left ≡ 0 → digits_from value left (x ∷ p) ≡ None
 unfolding digits_from
 digit_full value left x p e = rw (e, leb-suc-zero (length p))
 
-digit_other : (value left x : ℕ) (p : List ℕ) → is_digit x ≡ false → digits_from value left (x ∷ p) ≡ none
+digit_other : (value left x : ℕ) (p : List ℕ) → is_digit x ≡ false → digits_from value left (x ∷ p) ≡ None
 unfolding digits_from digits
 digit_other value left x p e = rw e (no_value (leb (suc (length p)) left))
 
@@ -107,14 +107,14 @@ number_first most x p pos own = which (eqb x 48) refl
     which true e = rw (own, z, ← lone most x p pos (eqb-true x 48 e), e)
     which false e = rw (own, z, one, and-true)
 
-number_other : (most x : ℕ) (p : List ℕ) → is_digit x ≡ false → number most (x ∷ p) ≡ none
+number_other : (most x : ℕ) (p : List ℕ) → is_digit x ≡ false → number most (x ∷ p) ≡ None
 unfolding number digits
 number_other most x p e = rw e (no_value (leb (suc (length p)) most && (not (eqb x 48) || eqb (length p) 0)))
 
 -- WHAT IS LEFT OF A LINE, cut at its commas, and what it comes to with LF behind it.
 abbrev pub or_bad : {A : Type 0} → Option A → (A → Reading) → Reading
-or_bad none k = bad
-or_bad (some x) k = k x
+or_bad None k = bad
+or_bad (Some x) k = k x
 
 abbrev pub field : {A : Type 0} → (List ℕ → Option A) → (A → List (List ℕ) → Reading) → List (List ℕ) → Reading
 field g k [] = bad
@@ -138,7 +138,7 @@ word_left F l value count ps = field (word_from value count) (λ w. many_numbers
 
 abbrev pub remaining : Form → Reading → List (List ℕ) → Reading
 remaining F empty ps = field capital (λ l. word_left F l 0 0) ps
-remaining F (after_letter l) ps = field (λ p. guard (eqb (length p) 0) (some l)) (λ l. word_left F l 0 0) ps
+remaining F (after_letter l) ps = field (λ p. guard (eqb (length p) 0) (Some l)) (λ l. word_left F l 0 0) ps
 remaining F (in_word l value count) ps = word_left F l value count ps
 remaining F (before_number n f) ps = many_numbers F n f ps
 remaining F (in_number n f value left) ps = numbers_left F n f (digits_from value left) ps
@@ -147,8 +147,8 @@ remaining F bad ps = bad
 
 -- a value that leads nowhere
 nowhere : {A : Type 0} (m : Option A) → or_bad m (λ x. bad) ≡ bad
-nowhere none = refl
-nowhere (some x) = refl
+nowhere None = refl
+nowhere (Some x) = refl
 
 module _ (F : Form) where
   no_numbers : (n : ℕ) (f : FieldsRead) (g : List ℕ → Option ℕ) → numbers_left F n f g [] ≡ bad
@@ -156,7 +156,7 @@ module _ (F : Form) where
   no_numbers (suc n) f g = refl
 
   -- a first number by its piece
-  no_number : (n : ℕ) (f : FieldsRead) (g : List ℕ → Option ℕ) (p : List ℕ) (ps : List (List ℕ)) → g p ≡ none → bad ≡ numbers_left F n f g (p ∷ ps)
+  no_number : (n : ℕ) (f : FieldsRead) (g : List ℕ → Option ℕ) (p : List ℕ) (ps : List (List ℕ)) → g p ≡ None → bad ≡ numbers_left F n f g (p ∷ ps)
   no_number zero f g p [] e = rw e
   no_number zero f g p (q ∷ ps) e = refl
   no_number (suc n) f g p ps e = rw e
@@ -175,8 +175,8 @@ at_LF F (after_letter l) = refl
 at_LF F (in_word l value count) = sym (which (word_from value count []))
   where
     which : (m : Option ℕ) → or_bad m (λ w. many_numbers F (F.count - 1) (record { letter = l; word = w; numbers = [] }) []) ≡ bad
-    which none = refl
-    which (some w) = no_numbers F (F.count - 1) (record { letter = l; word = w; numbers = [] }) (number F.digits)
+    which None = refl
+    which (Some w) = no_numbers F (F.count - 1) (record { letter = l; word = w; numbers = [] }) (number F.digits)
 at_LF F (before_number zero f) = refl
 at_LF F (before_number (suc n) f) = refl
 at_LF F (in_number zero f value left) = rw (number_ends_lem value left)
@@ -192,7 +192,7 @@ at_comma F (after_letter l) p ps = refl
 at_comma F (in_word l value count) p ps = rw (word_ends_lem value count) (which (two_or_three count))
   where
     which : (b : Bool) → remaining F (word_step F l value count (cond b ByteStep.End ByteStep.Bad)) (p ∷ ps)
-        ≡ or_bad (guard b (some value)) (λ w. many_numbers F (F.count - 1) (record { letter = l; word = w; numbers = [] }) (p ∷ ps))
+        ≡ or_bad (guard b (Some value)) (λ w. many_numbers F (F.count - 1) (record { letter = l; word = w; numbers = [] }) (p ∷ ps))
     which true = refl
     which false = refl
 at_comma F (before_number zero f) p ps = refl
@@ -209,8 +209,8 @@ unfolding step capital next_letter first_digit next_digit
 at_other F pos empty x h p ps = which (capital_of x)
   where
     which : (m : Option ℕ) → remaining F (letter_step m) (p ∷ ps) ≡ or_bad (guard (eqb (length p) 0) m) (λ l. word_left F l 0 0 ps)
-    which none = rw (no_value {A = ℕ} (eqb (length p) 0))
-    which (some l) = refl
+    which None = rw (no_value {A = ℕ} (eqb (length p) 0))
+    which (Some l) = refl
 at_other F pos (after_letter l) x h p ps = rw (h, eqb-suc-zero (length p))
 at_other F pos (in_word l value count) x h p ps = which (is_small x) (leb 3 count) refl refl
   where
@@ -260,22 +260,22 @@ module _ (F : Form) (pos : 0 < F.digits) where
 
 -- THE WHOLE LINE, its shape field by field.
 abbrev reading_of : Option (Line ℕ) → Reading
-reading_of none = bad
-reading_of (some k) = whole (fields_of k)
+reading_of None = bad
+reading_of (Some k) = whole (fields_of k)
 
 of_then : {A : Type 0} (m : Option A) (k : A → Option (Line ℕ)) → reading_of (then m k) ≡ or_bad m (λ x. reading_of (k x))
-of_then none k = refl
-of_then (some x) k = refl
+of_then None k = refl
+of_then (Some x) k = refl
 
 of_guard : (b : Bool) (m : Option (Line ℕ)) → reading_of (guard b m) ≡ cond b (reading_of m) bad
 of_guard true m = refl
 of_guard false m = refl
 
-bad_guard : (b : Bool) (w : ℕ) (k : ℕ → Reading) → or_bad (guard b (some w)) k ≡ cond b (k w) bad
+bad_guard : (b : Bool) (w : ℕ) (k : ℕ → Reading) → or_bad (guard b (Some w)) k ≡ cond b (k w) bad
 bad_guard true w k = refl
 bad_guard false w k = refl
 
-pub word_whole : (w : List ℕ) → word_from 0 0 w ≡ guard (is_word w) (some (pack_word w))
+pub word_whole : (w : List ℕ) → word_from 0 0 w ≡ guard (is_word w) (Some (pack_word w))
 unfolding word_from
 word_whole w = let e₁ : 0 + length w ≡ length w = omega arith in let e₂ : 0 + 256 ^ 0 * pack_word w ≡ pack_word w = omega arith in rw (e₁, e₂)
 
@@ -293,12 +293,12 @@ shape_left (k ∷ w ∷ a ∷ b ∷ c ∷ d ∷ e ∷ ps) = simp nowhere
 line_read_lem : (l : List ℕ) → foldl (step six_field_form) empty (l ++ (LF ∷ [])) ≡ reading_of (any_shape l)
 line_read_lem l = all_steps six_field_form (omega arith) empty l ∙ shape_left (split comma l)
 
-pub any_pass : (l : List ℕ) → ends (foldl (step six_field_form) empty (l ++ (LF ∷ []))) ≡ require_some (then (any_shape l) λ k. some (fields_of k)) Reason.BadShape
+pub any_pass : (l : List ℕ) → ends (foldl (step six_field_form) empty (l ++ (LF ∷ []))) ≡ require_some (then (any_shape l) λ k. Some (fields_of k)) Reason.BadShape
 any_pass l = ap ends (line_read_lem l) ∙ which (any_shape l)
   where
-    which : (m : Option (Line ℕ)) → ends (reading_of m) ≡ require_some (then m λ k. some (fields_of k)) Reason.BadShape
-    which none = refl
-    which (some k) = refl
+    which : (m : Option (Line ℕ)) → ends (reading_of m) ≡ require_some (then m λ k. Some (fields_of k)) Reason.BadShape
+    which None = refl
+    which (Some k) = refl
 
 -- WITHOUT LF. No other byte makes a line whole.
 open_byte : (more : ℕ → Reading) (done : Reading) (s : ByteStep) → ((v : ℕ) → ends (more v) ≡ refused Reason.BadShape) → ends done ≡ refused Reason.BadShape
@@ -312,8 +312,8 @@ unfolding step next_digit
 unended F empty x h = which (capital_of x)
   where
     which : (m : Option ℕ) → ends (letter_step m) ≡ refused Reason.BadShape
-    which none = refl
-    which (some l) = refl
+    which None = refl
+    which (Some l) = refl
 unended F (after_letter l) x h = which (eqb x comma)
   where
     which : (b : Bool) → ends (cond b (in_word l 0 0) bad) ≡ refused Reason.BadShape

@@ -1,7 +1,7 @@
 -- A line read in one pass: what a step makes of one byte and the fields read so far, and what the steps over a line come to.
 use Rattle.std.specs.Prelude.{Bool, true, false, cond, ◌&&◌, ◌||◌, ◌≡◌, ℕ, zero, suc, ◌+◌, ◌*◌, ◌-◌, ◌^◌, ◌<◌, ◌≤◌, eqb, leb, drop, get_or}
 use mathlib.Core.List.{List, [], ◌∷◌, ◌++◌, foldl, Mem}
-use Rattle.std.proofs.Math.Option.{Option, none, some}
+use Rattle.std.specs.Prelude.{Option, None, Some}
 use Rattle.tableau.specs.declared.Reason.{Reason}
 use Rattle.tableau.specs.Basics.{then, is_some, bytes, Named, lookup}
 use Rattle.tableau.specs.File.{LF, comma, is_small, is_word, is_digit, max_digits, Line, shape}
@@ -92,8 +92,8 @@ number_ends zero f value = whole (with_number f value)
 number_ends (suc n) f value = before_number n (with_number f value)
 
 abbrev pub letter_step : Option ℕ → Reading
-letter_step none = bad
-letter_step (some l) = after_letter l
+letter_step None = bad
+letter_step (Some l) = after_letter l
 
 abbrev pub first_step : ℕ → FieldsRead → FirstDigit → Reading
 first_step n f (FirstDigit.Digit value left) = in_number n f value left
@@ -141,18 +141,18 @@ abbrev pub with_letter : {L : Type 0} → FieldsRead → L → FieldsOf L
 with_letter f l = record { letter = l; word = f.word; numbers = f.numbers }
 
 abbrev pub lettered : {L : Type 0} → List (Named L) → FieldsRead → Checked (FieldsOf L)
-lettered known f = require_some (then (lookup known (f.letter ∷ [])) λ l. some (with_letter f l)) Reason.BadShape
+lettered known f = require_some (then (lookup known (f.letter ∷ [])) λ l. Some (with_letter f l)) Reason.BadShape
 
 -- "Show that the steps over a line's bytes, in order and each once, end with exactly its fields, or with number 2 where it isn't shaped as document 01 says.", in a file
 -- with any letters
 unfoldable pub OnePass : Type 1
 OnePass = (L : Type 0) (known : List (Named L)) → all_capitals known ≡ true → (l : List ℕ)
-    → (ends (foldl (step six_field_form) empty (l ++ (LF ∷ []))) >>= lettered known) ≡ require_some (then (shape known l) λ k. some (fields_of k)) Reason.BadShape
+    → (ends (foldl (step six_field_form) empty (l ++ (LF ∷ []))) >>= lettered known) ≡ require_some (then (shape known l) λ k. Some (fields_of k)) Reason.BadShape
 
 -- the same of a line in a file with these letters, with no premise
 unfoldable pub OnePassIn : {L : Type 0} → List (Named L) → Type 0
 OnePassIn known = (l : List ℕ)
-    → (ends (foldl (step six_field_form) empty (l ++ (LF ∷ []))) >>= lettered known) ≡ require_some (then (shape known l) λ k. some (fields_of k)) Reason.BadShape
+    → (ends (foldl (step six_field_form) empty (l ++ (LF ∷ []))) >>= lettered known) ≡ require_some (then (shape known l) λ k. Some (fields_of k)) Reason.BadShape
 
 -- and from these fields the line's own can be told, though the word is packed
 unfoldable pub FieldsInjective : Type 1
@@ -168,8 +168,8 @@ pub record FieldsAt : Type 0 where
   pub next : ℕ
 
 abbrev pub line_end : ℕ → Checked FieldsRead → Option FieldsAt
-line_end at (refused r) = none
-line_end at (passed f) = some (record { fields = f; next = at })
+line_end at (refused r) = None
+line_end at (passed f) = Some (record { fields = f; next = at })
 
 abbrev pub goes_on : Checked FieldsRead → Bool
 goes_on (refused r) = true
@@ -184,8 +184,8 @@ steps_at F r file at = steps F r (drop at file) at
 
 -- a line of six fields
 abbrev pub line_of : Option FieldsAt → LineRead
-line_of none = LineRead.BadShape
-line_of (some e) =
+line_of None = LineRead.BadShape
+line_of (Some e) =
     LineRead.Line
     (record {
       letter = e.fields.letter;
@@ -201,11 +201,11 @@ line_of (some e) =
 -- in a line of any form in which the field can stand.
 unfoldable pub LetterSteps : List ℕ → ℕ → LetterRead → Type 0
 LetterSteps file at (LetterRead.Read l i) = (steps_at six_field_form empty file at ≡ steps_at six_field_form (in_word l 0 0) file i) × LFAhead file i
-LetterSteps file at LetterRead.Bad = steps_at six_field_form empty file at ≡ none
+LetterSteps file at LetterRead.Bad = steps_at six_field_form empty file at ≡ None
 
 abbrev pub ValueSteps : Form → Reading → (ℕ → Reading) → ℕ → List ℕ → ℕ → ValueRead → Type 0
 ValueSteps F r then' end file at (ValueRead.Read value i) = (steps_at F r file at ≡ steps_at F (then' value) file i) × (end ≡ comma → LFAhead file i)
-ValueSteps F r then' end file at ValueRead.Bad = steps_at F r file at ≡ none
+ValueSteps F r then' end file at ValueRead.Bad = steps_at F r file at ≡ None
 
 unfoldable pub WordSteps : List ℕ → ℕ → ValueRead → Type 0
 WordSteps file at r = (F : Form) (l : ℕ) → ValueSteps F (in_word l 0 0) (word_ends F l) comma file at r

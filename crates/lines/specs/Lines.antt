@@ -1,6 +1,6 @@
 -- What reading a line of a file gives: the specification's own cut at LF and its own six fields of a line, with the word packed in one number.
 use Rattle.std.specs.Prelude.{Bool, ◌&&◌, List, [], ◌∷◌, ◌≡◌, ℕ, ◌+◌, ◌*◌, ◌<◌, ◌≤◌, eqb, leb, length, drop, get_or}
-use Rattle.std.proofs.Math.Option.{Option, none, some}
+use Rattle.std.specs.Prelude.{Option, None, Some}
 use Rattle.tableau.specs.Basics.{guard, Four, four}
 use Rattle.tableau.specs.File.{LF, comma, split, max_digits, Line, six_fields}
 use Rattle.lines.specs.declared.LineFields.{LineFields}
@@ -16,10 +16,10 @@ abbrev pub is_capital : ℕ → Bool
 is_capital b = leb 65 b && leb b 90
 
 abbrev pub capital_of : ℕ → Option ℕ
-capital_of b = guard (is_capital b) (some b)
+capital_of b = guard (is_capital b) (Some b)
 
 unfoldable pub capital : List ℕ → Option ℕ
-capital [] = none
+capital [] = None
 capital (b ∷ bs) = guard (eqb (length bs) 0) (capital_of b)
 
 abbrev pub any_shape : List ℕ → Option (Line ℕ)
@@ -27,8 +27,8 @@ any_shape l = six_fields max_digits capital (split comma l)
 
 -- a line's six fields, and the position after its LF
 abbrev pub line_read : ℕ → Option (Line ℕ) → LineRead
-line_read next' none = LineRead.BadShape
-line_read next' (some l) =
+line_read next' None = LineRead.BadShape
+line_read next' (Some l) =
     LineRead.Line
     (record {
       letter = l.letter;

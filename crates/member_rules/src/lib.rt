@@ -2,7 +2,7 @@
 // adds: refusal 12 where what the row needs isn't so, then 14 where a term to be added is not made.
 #![tactic(auto)]
 
-ghost use Rattle.std.proofs.Math.Option.{none, some};
+ghost use Rattle.std.specs.Prelude.{None, Some};
 ghost use Rattle.tableau.specs.declared.Rule.{Rule};
 ghost use Rattle.tableau.specs.Terms.{Table};
 ghost use Rattle.packing.specs.Packing.{Small, SmallLiteral, literal_of};
@@ -19,7 +19,7 @@ use tableau::{Operator, Reason, Relation, TermNumber};
 pub fn sge(p: LiteralView, terms: &[u64; table::NUMBERS]) -> Outcome
     requires held_by { (table : Table) × HeldBy terms.now table }
     requires small_literal { SmallLiteral p }
-    ensures { Concludes (HeldBy terms.now) Rule.Sge (some (literal_of p)) none 0 0 result }
+    ensures { Concludes (HeldBy terms.now) Rule.Sge (Some (literal_of p)) None 0 0 result }
 {
     let LiteralView::In(u, x) = p else {
         return Outcome::Refused(Reason::NeedNotMet);
@@ -34,7 +34,7 @@ pub fn sge(p: LiteralView, terms: &[u64; table::NUMBERS]) -> Outcome
 pub fn sgi(t: TermNumber, terms: &[u64; table::NUMBERS], chains: &[u16; table::LINKS]) -> Outcome
     requires searchable_by { (table : Table) × SearchableBy terms.now chains.now table }
     requires small { Small t.0 }
-    ensures { Concludes (SearchableBy terms.now chains.now) Rule.Sgi none none t.0 0 result }
+    ensures { Concludes (SearchableBy terms.now chains.now) Rule.Sgi None None t.0 0 result }
 {
     let TermView::Sin(u) = table::view(terms, t) else {
         return Outcome::Refused(Reason::NeedNotMet);
@@ -48,7 +48,7 @@ pub fn sgi(t: TermNumber, terms: &[u64; table::NUMBERS], chains: &[u16; table::L
 // reference t, region w gives t in w ∥ t ni w. Their sorts are asked before, by check 9.
 pub fn cut(t: TermNumber, w: TermNumber) -> Outcome
     requires { Small t.0 × Small w.0 }
-    ensures { Concludes Anywhere Rule.Cut none none t.0 w.0 result }
+    ensures { Concludes Anywhere Rule.Cut None None t.0 w.0 result }
 {
     outcome::splits(literal(Relation::In, t, w), literal(Relation::Ni, t, w))
 }
@@ -57,7 +57,7 @@ pub fn cut(t: TermNumber, w: TermNumber) -> Outcome
 pub fn all(p: LiteralView, terms: &[u64; table::NUMBERS], chains: &[u16; table::LINKS]) -> Outcome
     requires searchable_by { (table : Table) × SearchableBy terms.now chains.now table }
     requires small_literal { SmallLiteral p }
-    ensures { Concludes (SearchableBy terms.now chains.now) Rule.All (some (literal_of p)) none 0 0 result }
+    ensures { Concludes (SearchableBy terms.now chains.now) Rule.All (Some (literal_of p)) None 0 0 result }
 {
     let LiteralView::In(u, _) = p else {
         return Outcome::Refused(Reason::NeedNotMet);
@@ -72,7 +72,7 @@ pub fn all(p: LiteralView, terms: &[u64; table::NUMBERS], chains: &[u16; table::
 pub fn nul(p: LiteralView, terms: &[u64; table::NUMBERS], chains: &[u16; table::LINKS]) -> Outcome
     requires searchable_by { (table : Table) × SearchableBy terms.now chains.now table }
     requires small_literal { SmallLiteral p }
-    ensures { Concludes (SearchableBy terms.now chains.now) Rule.Nul (some (literal_of p)) none 0 0 result }
+    ensures { Concludes (SearchableBy terms.now chains.now) Rule.Nul (Some (literal_of p)) None 0 0 result }
 {
     let LiteralView::In(u, _) = p else {
         return Outcome::Refused(Reason::NeedNotMet);

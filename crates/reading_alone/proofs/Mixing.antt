@@ -1,7 +1,7 @@
 -- A line that was read, a badly shaped one and the end of the file, among the lines that are mixed.
 use mathlib.Core.Path.{◌≡◌, sym, ◌∙◌, ap}
 use mathlib.Core.List.{List, ◌∷◌}
-use mathlib.Core.Option.{Option, none, some}
+use Rattle.std.specs.Prelude.{Option, None, Some}
 use Prim.Native.Nat.{ℕ, ◌<◌, ◌≤◌}
 use lib.ListN.{length, drop, drop_of_length-le}
 use Rattle.tableau.specs.File.{LF, split}
@@ -25,10 +25,10 @@ module _ (file : List ℕ) (at value : ℕ) where
       ∙ rw p.shaped (ap (λ (g : LineFields). mixed_lines (p.follower ∷ p.others) (mixed value g.word (numbers_of g))) (sym p.fields))
       ∙ ap (λ ks. mixed_lines ks (mixed value f.word (numbers_of f))) (sym p.rest)
 
-  pub bad_mixed : at < length file → line_at file at ≡ LineRead.BadShape → mixed_from file at value ≡ none
+  pub bad_mixed : at < length file → line_at file at ≡ LineRead.BadShape → mixed_from file at value ≡ None
   unfolding mixed_lines
   bad_mixed before e = bad_pieces file at before e (λ b l q. rw q) (λ l m ls q s. rw (q, s))
 
-  pub end_mixed : length file ≤ at → mixed_from file at value ≡ some value
+  pub end_mixed : length file ≤ at → mixed_from file at value ≡ Some value
   unfolding split mixed_lines
   end_mixed h = rw (drop_of_length-le file h)

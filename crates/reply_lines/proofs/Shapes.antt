@@ -1,7 +1,7 @@
 -- The steps over a reply line come to the specification's shape of it.
 use mathlib.Core.Bool.{Bool, true, false, true≢false}
 use mathlib.Core.List.{List, [], ◌∷◌, ◌++◌, append_assoc}
-use mathlib.Core.Option.{Option, none, some}
+use Rattle.std.specs.Prelude.{Option, None, Some}
 use mathlib.Core.Path.{◌≡◌, refl, sym, ap, subst, ◌∙◌}
 use Prim.Native.Nat.{ℕ, zero, suc, ◌+◌}
 use native.Mathlib.Omega.{arith}
@@ -29,49 +29,49 @@ abbrev with_numbers : FieldsRead → List ℕ → FieldsRead
 with_numbers f ns = record { letter = f.letter; word = f.word; numbers = f.numbers ++ ns }
 
 abbrev some_numbers : ℕ → FieldsRead → Option (List ℕ) → Reading
-some_numbers n f none = bad
-some_numbers n f (some ns) = or_bad (guard (eqb (length ns) (suc n)) (some (with_numbers f ns))) whole
+some_numbers n f None = bad
+some_numbers n f (Some ns) = or_bad (guard (eqb (length ns) (suc n)) (Some (with_numbers f ns))) whole
 
 -- one more is read before the others
-one_more : (n : ℕ) (f : FieldsRead) (v : ℕ) (m : Option (List ℕ)) → some_numbers n (with_number f v) m ≡ some_numbers (suc n) f (then m λ ns. some (v ∷ ns))
-one_more n f v none = refl
-one_more n f v (some ns) = rw (append_assoc f.numbers (v ∷ []) ns, eqb-suc-suc (length ns) (suc n))
+one_more : (n : ℕ) (f : FieldsRead) (v : ℕ) (m : Option (List ℕ)) → some_numbers n (with_number f v) m ≡ some_numbers (suc n) f (then m λ ns. Some (v ∷ ns))
+one_more n f v None = refl
+one_more n f v (Some ns) = rw (append_assoc f.numbers (v ∷ []) ns, eqb-suc-suc (length ns) (suc n))
 
 numbers_left_lem : (n : ℕ) (f : FieldsRead) (ps : List (List ℕ)) → many_numbers reply_form n f ps ≡ some_numbers n f (numbers ps)
 unfolding numbers
 numbers_left_lem zero f [] = refl
 numbers_left_lem zero f (p ∷ []) = which (number reply_digits p)
   where
-    which : (m : Option ℕ) → or_bad m (λ v. whole (with_number f v)) ≡ some_numbers zero f (then m λ n. some (n ∷ []))
-    which none = refl
-    which (some v) = refl
+    which : (m : Option ℕ) → or_bad m (λ v. whole (with_number f v)) ≡ some_numbers zero f (then m λ n. Some (n ∷ []))
+    which None = refl
+    which (Some v) = refl
 numbers_left_lem zero f (p ∷ q ∷ ps) = which (number reply_digits p) (number reply_digits q) (numbers ps)
   where
-    which : (m k : Option ℕ) (o : Option (List ℕ)) → bad ≡ some_numbers zero f (then m λ n. then (then k λ n. then o λ ns. some (n ∷ ns)) λ ns. some (n ∷ ns))
-    which none k o = refl
-    which (some v) none o = refl
-    which (some v) (some w) none = refl
-    which (some v) (some w) (some ns) = rw (eqb-suc-suc (suc (length ns)) 0, eqb-suc-zero (length ns))
+    which : (m k : Option ℕ) (o : Option (List ℕ)) → bad ≡ some_numbers zero f (then m λ n. then (then k λ n. then o λ ns. Some (n ∷ ns)) λ ns. Some (n ∷ ns))
+    which None k o = refl
+    which (Some v) None o = refl
+    which (Some v) (Some w) None = refl
+    which (Some v) (Some w) (Some ns) = rw (eqb-suc-suc (suc (length ns)) 0, eqb-suc-zero (length ns))
 numbers_left_lem (suc n) f [] = rw (eqb-zero-suc (suc n))
 numbers_left_lem (suc n) f (p ∷ ps) = which (number reply_digits p) (λ v. numbers_left_lem n (with_number f v) ps)
   where
     which : (m : Option ℕ) → ((v : ℕ) → many_numbers reply_form n (with_number f v) ps ≡ some_numbers n (with_number f v) (numbers ps))
-        → or_bad m (λ v. many_numbers reply_form n (with_number f v) ps) ≡ some_numbers (suc n) f (then m λ k. then (numbers ps) λ ns. some (k ∷ ns))
-    which none later = refl
-    which (some v) later = later v ∙ one_more n f v (numbers ps)
+        → or_bad m (λ v. many_numbers reply_form n (with_number f v) ps) ≡ some_numbers (suc n) f (then m λ k. then (numbers ps) λ ns. Some (k ∷ ns))
+    which None later = refl
+    which (Some v) later = later v ∙ one_more n f v (numbers ps)
 
 -- WHAT THE FIELDS OF A LINE SAY: an answer by its packed word, and seven numbers.
 abbrev pub reply_from : FieldsAt → Option ReplyAt
-reply_from e = then (lookup_packed answers e.fields.word) λ is_yes'. then (seven_numbers is_yes' e.fields.numbers) λ r. some (record { reply = r; next = e.next })
+reply_from e = then (lookup_packed answers e.fields.word) λ is_yes'. then (seven_numbers is_yes' e.fields.numbers) λ r. Some (record { reply = r; next = e.next })
 
 -- a text that is an answer is a word
-pub only_words : {A : Type 0} (t : List (Named A)) → texts_are_words t ≡ true → (p : List ℕ) → is_word p ≡ false → lookup t p ≡ none
+pub only_words : {A : Type 0} (t : List (Named A)) → texts_are_words t ≡ true → (p : List ℕ) → is_word p ≡ false → lookup t p ≡ None
 unfolding lookup texts_are_words
 only_words [] h p e = refl
 only_words {A} (n ∷ ns) h p e = let k = both_true (is_word (bytes n.text)) (texts_are_words ns) h in which (same_bytes (bytes n.text) p) refl k.0 (only_words ns k.1 p e)
   where
-    which : (b : Bool) → same_bytes (bytes n.text) p ≡ b → is_word (bytes n.text) ≡ true → lookup ns p ≡ none
-        → ◌≡◌ {A = Option A} (elim b [ true ↦ some n.is | false ↦ lookup ns p ]) none
+    which : (b : Bool) → same_bytes (bytes n.text) p ≡ b → is_word (bytes n.text) ≡ true → lookup ns p ≡ None
+        → ◌≡◌ {A = Option A} (elim b [ true ↦ Some n.is | false ↦ lookup ns p ]) None
     which true s w later = absurd (true≢false (sym w ∙ ap is_word (same_bytes_lem (bytes n.text) p s) ∙ e))
     which false s w later = later
 
@@ -80,7 +80,7 @@ unfolding texts_are_words answers bytes all_small
 answers_are_words = refl
 
 -- the pieces of a line, cut at its commas
-fields_say : (n : ℕ) (ps : List (List ℕ)) → then (line_end n (ends (word_left reply_form 0 0 0 ps))) reply_from ≡ then (reply_fields ps) λ r. some (record { reply = r; next = n })
+fields_say : (n : ℕ) (ps : List (List ℕ)) → then (line_end n (ends (word_left reply_form 0 0 0 ps))) reply_from ≡ then (reply_fields ps) λ r. Some (record { reply = r; next = n })
 fields_say n [] = refl
 fields_say n (p ∷ ps) = rw (word_whole p) (which (is_word p) refl)
   where
@@ -91,20 +91,20 @@ fields_say n (p ∷ ps) = rw (word_whole p) (which (is_word p) refl)
     begun w = record { letter = 0; word = w; numbers = [] }
 
     answered : (m : Option Bool) (o : Option (List ℕ)) → lookup_packed answers (pack_word p) ≡ m
-        → said (some_numbers 6 (begun (pack_word p)) o) ≡ then (then m λ y. then o λ ns. seven_numbers y ns) λ r. some (record { reply = r; next = n })
-    answered none none e = refl
-    answered (some y) none e = refl
-    answered m (some ns) e = seven (eqb (length ns) 7) refl m e
+        → said (some_numbers 6 (begun (pack_word p)) o) ≡ then (then m λ y. then o λ ns. seven_numbers y ns) λ r. Some (record { reply = r; next = n })
+    answered None None e = refl
+    answered (Some y) None e = refl
+    answered m (Some ns) e = seven (eqb (length ns) 7) refl m e
       where
         seven : (b : Bool) → eqb (length ns) 7 ≡ b → (m : Option Bool) → lookup_packed answers (pack_word p) ≡ m
-            → said (or_bad (guard b (some (with_numbers (begun (pack_word p)) ns))) whole) ≡ then (then m λ y. seven_numbers y ns) λ r. some (record { reply = r; next = n })
-        seven true q none e = rw e
-        seven true q (some y) e = rw (e, q)
-        seven false q none e = refl
-        seven false q (some y) e = rw q
+            → said (or_bad (guard b (Some (with_numbers (begun (pack_word p)) ns))) whole) ≡ then (then m λ y. seven_numbers y ns) λ r. Some (record { reply = r; next = n })
+        seven true q None e = rw e
+        seven true q (Some y) e = rw (e, q)
+        seven false q None e = refl
+        seven false q (Some y) e = rw q
 
     which : (b : Bool) → is_word p ≡ b
-        → said (or_bad (guard b (some (pack_word p))) (λ w. many_numbers reply_form 6 (begun w) ps)) ≡ then (reply_fields (p ∷ ps)) λ r. some (record { reply = r; next = n })
+        → said (or_bad (guard b (Some (pack_word p))) (λ w. many_numbers reply_form 6 (begun w) ps)) ≡ then (reply_fields (p ∷ ps)) λ r. Some (record { reply = r; next = n })
     which true e = rw (numbers_left_lem 6 (begun (pack_word p)) ps) (answered (lookup answers p) (numbers ps) (lookup_packed_lem answers answers_are_words p e))
     which false e = rw (only_words answers answers_are_words p e)
 
@@ -113,7 +113,7 @@ pub reply_steps : (night : List ℕ) (at : ℕ) → then (steps_at reply_form (i
 unfolding steps_at reply_at reply_shape
 reply_steps night at = ap (λ m. then m reply_from) (first_steps reply_form (in_word 0 0 0) (drop at night) at refl) ∙ same (split LF (drop at night))
   where
-    same : (ls : List (List ℕ)) → then (first_line none (line_from reply_form (in_word 0 0 0)) at ls) reply_from ≡ first_line none shaped_at at ls
+    same : (ls : List (List ℕ)) → then (first_line None (line_from reply_form (in_word 0 0 0)) at ls) reply_from ≡ first_line None shaped_at at ls
     same [] = refl
     same (l ∷ []) = refl
     same (l ∷ m ∷ ls) =
@@ -121,7 +121,7 @@ reply_steps night at = ap (λ m. then m reply_from) (first_steps reply_form (in_
 
 -- the word, the numbers and the answer, as they are read
 module _ (night : List ℕ) (at : ℕ) (r : ValueRead) (s : WordSteps night at r) where
-  pub no_word : r ≡ ValueRead.Bad → none ≡ reply_at night at
+  pub no_word : r ≡ ValueRead.Bad → None ≡ reply_at night at
   unfolding WordSteps
   no_word e = ap (λ m. then m reply_from) (sym (value_bad reply_form _ _ _ night at r (s reply_form 0) e)) ∙ reply_steps night at
 
@@ -134,7 +134,7 @@ module _ (night : List ℕ) (at : ℕ) (r : ValueRead) (s : WordSteps night at r
     unfolding WordSteps
     behind_word = (value_read reply_form _ _ _ night at r (s reply_form 0) w i e).0
 
-    pub no_numbers : q ≡ NumbersRead.Bad → none ≡ reply_at night at
+    pub no_numbers : q ≡ NumbersRead.Bad → None ≡ reply_at night at
     unfolding NumbersHere
     no_numbers b = ap (λ m. then m reply_from) (sym (behind_word ∙ subst (NumbersHere night i ns) b h w)) ∙ reply_steps night at
 
@@ -147,8 +147,8 @@ module _ (night : List ℕ) (at : ℕ) (r : ValueRead) (s : WordSteps night at r
       unfolding NumbersHere
       says = ap (λ m. then m reply_from) (sym (behind_word ∙ (subst (NumbersHere night i ns) k h).1 w)) ∙ reply_steps night at
 
-      pub no_answer : lookup_packed answers w ≡ none → none ≡ reply_at night at
+      pub no_answer : lookup_packed answers w ≡ None → None ≡ reply_at night at
       no_answer a = rw (← says) (rw a)
 
-      pub answered : (y : Bool) (x : Reply) → lookup_packed answers w ≡ some y → seven_numbers y ns ≡ some x → some (record { reply = x; next = next }) ≡ reply_at night at
+      pub answered : (y : Bool) (x : Reply) → lookup_packed answers w ≡ Some y → seven_numbers y ns ≡ Some x → Some (record { reply = x; next = next }) ≡ reply_at night at
       answered y x a v = rw (← says) (rw (a, v))

@@ -1,7 +1,7 @@
 -- A reply line is so long at least, and its numbers are small.
 use mathlib.Core.Bool.{Bool, true, false}
 use mathlib.Core.List.{List, [], ◌∷◌}
-use mathlib.Core.Option.{some}
+use Rattle.std.specs.Prelude.{Some}
 use mathlib.Core.Path.{◌≡◌, refl, sym, ◌∙◌}
 use Prim.Native.Nat.{ℕ, suc, ◌+◌, ◌*◌, ◌^◌, ◌≤◌, ◌<◌}
 use native.Mathlib.Omega.{arith}
@@ -24,7 +24,7 @@ pub record Sizes (l : List ℕ) (r : Reply) : Type 0 where
   pub steps : r.steps < 10 ^ reply_digits
 
 -- a number has a digit, and its comma
-numbers_long : (ps : List (List ℕ)) (ns : List ℕ) → numbers ps ≡ some ns → 2 * length ns ≤ bytes_of ps
+numbers_long : (ps : List (List ℕ)) (ns : List ℕ) → numbers ps ≡ Some ns → 2 * length ns ≤ bytes_of ps
 unfolding numbers
 numbers_long [] ns e = let q = some_inj e in rw (← q) (omega arith)
 numbers_long (p ∷ ps) ns e =
@@ -34,18 +34,18 @@ numbers_long (p ∷ ps) ns e =
     rw (← some_inj k.2) (omega (arith, long, some_digit reply_digits p h.1))
 
 -- an answer has two letters at least
-answer_long : (p : List ℕ) {y : Bool} → lookup answers p ≡ some y → 2 ≤ length p
+answer_long : (p : List ℕ) {y : Bool} → lookup answers p ≡ Some y → 2 ≤ length p
 answer_long p e = which (is_word p) refl
   where
     which : (b : Bool) → is_word p ≡ b → 2 ≤ length p
     which true w = word_long p w
     which false w = none≢some (sym (only_words answers answers_are_words p w) ∙ e)
 
-pub sizes : (l : List ℕ) (r : Reply) → reply_shape l ≡ some r → Sizes l r
+pub sizes : (l : List ℕ) (r : Reply) → reply_shape l ≡ Some r → Sizes l r
 unfolding reply_shape
 sizes l r e = go (split comma l) (split_bytes comma l) e
   where
-    go : (ps : List (List ℕ)) → bytes_of ps ≡ suc (length l) → reply_fields ps ≡ some r → Sizes l r
+    go : (ps : List (List ℕ)) → bytes_of ps ≡ suc (length l) → reply_fields ps ≡ Some r → Sizes l r
     go [] b e = none≢some e
     go (p ∷ ps) b h₀ =
         let h = then_inv (lookup answers p) _ h₀ in

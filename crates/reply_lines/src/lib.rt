@@ -2,7 +2,7 @@
 #![tactic(auto)]
 
 ghost use Rattle.std.specs.Prelude.{◌≡◌, ◌-◌, ◌<◌, length};
-ghost use Rattle.std.proofs.Math.Option.{some};
+ghost use Rattle.std.specs.Prelude.{Some};
 ghost use Rattle.lines.specs.Lines.{LFAhead};
 ghost use Rattle.lines.specs.ByteSteps.{end_of};
 ghost use Rattle.reply.specs.Verdict.{reply_record};
@@ -87,7 +87,7 @@ fn read_numbers(file: &[u8], at: usize, values: &mut [usize; COUNT]) -> NumbersR
 // The numbers in the reply's order.
 fn reply_from(is_yes: bool, values: &[usize; COUNT]) -> Reply
     requires { length values.now ≡ number_count }
-    ensures { seven_numbers is_yes values.now ≡ some (reply_record result) }
+    ensures { seven_numbers is_yes values.now ≡ Some (reply_record result) }
 {
     Reply {
         is_yes,

@@ -2,7 +2,7 @@
 use mathlib.Core.Path.{◌≡◌, refl, sym, ◌∙◌, ap, subst}
 use mathlib.Core.Bool.{Bool, true, false}
 use mathlib.Core.List.{List, [], ◌∷◌}
-use mathlib.Core.Option.{Option, none, some}
+use Rattle.std.specs.Prelude.{Option, None, Some}
 use Prim.Native.Nat.{ℕ, suc, ◌≤◌}
 use native.Mathlib.Omega.{arith}
 use borrow.Author.Tests.{eq-eqb}
@@ -90,9 +90,9 @@ has_its_own Operator.Wri k h = h _ _ _ _ refl
 has_its_own Operator.Typ k h = h _ refl
 has_its_own Operator.Dty k h = h _ refl
 
-pub no_arguments : (o : Operator) (e : Term) {x : TermView} → view_of e ≡ x → Others o x → arguments_of o e ≡ none
+pub no_arguments : (o : Operator) (e : Term) {x : TermView} → view_of e ≡ x → Others o x → arguments_of o e ≡ None
 no_arguments o (variable s n) q h = refl
-no_arguments o (apply o' k) {x} q h = ap (λ b. guard b (some k)) (go (same_operator o o') refl)
+no_arguments o (apply o' k) {x} q h = ap (λ b. guard b (Some k)) (go (same_operator o o') refl)
   where
     go : (b : Bool) → same_operator o o' ≡ b → same_operator o o' ≡ false
     go true e =
@@ -102,26 +102,26 @@ no_arguments o (apply o' k) {x} q h = ap (λ b. guard b (some k)) (go (same_oper
 
 -- A TERM of the view's operator: it has arguments that give the view
 this_operator : (o : Operator) (e : Term) (x : TermView) → view_of e ≡ x → Declared.tag_of term-view.the_type x ≡ suc (operator_index o)
-    → (k : Four TermNo) × (arguments_of o e ≡ some k) × (view_apply o k ≡ x)
+    → (k : Four TermNo) × (arguments_of o e ≡ Some k) × (view_apply o k ≡ x)
 this_operator o (variable s n) x q h =
     let z : 0 ≡ suc (operator_index o) = ap (Declared.tag_of term-view.the_type) q ∙ h in absurd (omega arith)
 this_operator o (apply o' k) x q h =
     let z : suc (operator_index o') ≡ suc (operator_index o) = sym (operator_tag o' k) ∙ ap (Declared.tag_of term-view.the_type) q ∙ h in
     let i : operator_index o ≡ operator_index o' = omega arith in
     let e = eq-eqb (operator_index o) (operator_index o') i in
-    (k, ap (λ b. guard b (some k)) e, ap (λ (p : Operator). view_apply p k) (same_operator_lem o o' e) ∙ q)
+    (k, ap (λ b. guard b (Some k)) e, ap (λ (p : Operator). view_apply p k) (same_operator_lem o o' e) ∙ q)
 
 -- the same for each operator that a rule looks for
 abbrev pub Arguments1 : Operator → Term → TermNumber → Type 0
-Arguments1 o e a = (b c d : ℕ) × (arguments_of o e ≡ some (four a.0 b c d))
+Arguments1 o e a = (b c d : ℕ) × (arguments_of o e ≡ Some (four a.0 b c d))
 
 abbrev pub Arguments2 : Operator → Term → TermNumber → TermNumber → Type 0
-Arguments2 o e a b = (c d : ℕ) × (arguments_of o e ≡ some (four a.0 b.0 c d))
+Arguments2 o e a b = (c d : ℕ) × (arguments_of o e ≡ Some (four a.0 b.0 c d))
 
 abbrev pub Arguments3 : Operator → Term → TermNumber → TermNumber → TermNumber → Type 0
-Arguments3 o e a b c = (d : ℕ) × (arguments_of o e ≡ some (four a.0 b.0 c.0 d))
+Arguments3 o e a b c = (d : ℕ) × (arguments_of o e ≡ Some (four a.0 b.0 c.0 d))
 
-pub is_emp : (e : Term) → view_of e ≡ TermView.Emp → (k : Four TermNo) × (arguments_of Operator.Emp e ≡ some k)
+pub is_emp : (e : Term) → view_of e ≡ TermView.Emp → (k : Four TermNo) × (arguments_of Operator.Emp e ≡ Some k)
 unfolding operator_index view_apply
 is_emp e q =
     let K = this_operator Operator.Emp e TermView.Emp q refl in
@@ -132,7 +132,7 @@ unfolding operator_index view_apply
 is_sin e a q =
     let K = this_operator Operator.Sin e (TermView.Sin a) q refl in
     let a' : number K.0.a ≡ a = cc K.2 in
-    (K.0.b, K.0.c, K.0.d, K.1 ∙ (λ i. some (four (a' i).0 K.0.b K.0.c K.0.d)))
+    (K.0.b, K.0.c, K.0.d, K.1 ∙ (λ i. Some (four (a' i).0 K.0.b K.0.c K.0.d)))
 
 two_arguments : (o : Operator) (e : Term) (x : TermView) (a b : TermNumber) → view_of e ≡ x
     → Declared.tag_of term-view.the_type x ≡ suc (operator_index o)
@@ -140,7 +140,7 @@ two_arguments : (o : Operator) (e : Term) (x : TermView) (a b : TermNumber) → 
 two_arguments o e x a b q h f =
     let K = this_operator o e x q h in
     let g = f K.0 K.2 in
-    (K.0.c, K.0.d, K.1 ∙ (λ i. some (four (g.0 i).0 (g.1 i).0 K.0.c K.0.d)))
+    (K.0.c, K.0.d, K.1 ∙ (λ i. Some (four (g.0 i).0 (g.1 i).0 K.0.c K.0.d)))
 
 pub is_cup : (e : Term) (a b : TermNumber) → view_of e ≡ TermView.Cup a b → Arguments2 Operator.Cup e a b
 unfolding operator_index view_apply
@@ -160,7 +160,7 @@ three_arguments : (o : Operator) (e : Term) (x : TermView) (a b c : TermNumber) 
 three_arguments o e x a b c q h f =
     let K = this_operator o e x q h in
     let g = f K.0 K.2 in
-    (K.0.d, K.1 ∙ (λ i. some (four (g.0 i).0 (g.1 i).0 (g.2 i).0 K.0.d)))
+    (K.0.d, K.1 ∙ (λ i. Some (four (g.0 i).0 (g.1 i).0 (g.2 i).0 K.0.d)))
 
 pub is_rea : (e : Term) (a b c : TermNumber) → view_of e ≡ TermView.Rea a b c → Arguments3 Operator.Rea e a b c
 unfolding operator_index view_apply
@@ -170,7 +170,7 @@ pub is_img : (e : Term) (a b c : TermNumber) → view_of e ≡ TermView.Img a b 
 unfolding operator_index view_apply
 is_img e a b c q = three_arguments Operator.Img e _ a b c q refl (λ k h. ((cc), (cc), (cc)))
 
-pub is_wri : (e : Term) (a b c d : TermNumber) → view_of e ≡ TermView.Wri a b c d → arguments_of Operator.Wri e ≡ some (four a.0 b.0 c.0 d.0)
+pub is_wri : (e : Term) (a b c d : TermNumber) → view_of e ≡ TermView.Wri a b c d → arguments_of Operator.Wri e ≡ Some (four a.0 b.0 c.0 d.0)
 unfolding operator_index view_apply
 is_wri e a b c d q =
     let K = this_operator Operator.Wri e (TermView.Wri a b c d) q refl in
@@ -178,7 +178,7 @@ is_wri e a b c d q =
     let b' : number K.0.b ≡ b = cc K.2 in
     let c' : number K.0.c ≡ c = cc K.2 in
     let d' : number K.0.d ≡ d = cc K.2 in
-    K.1 ∙ (λ i. some (four (a' i).0 (b' i).0 (c' i).0 (d' i).0))
+    K.1 ∙ (λ i. Some (four (a' i).0 (b' i).0 (c' i).0 (d' i).0))
 
 -- the numbers that a view shows are small: some table has the term
 pub view_small : {A : Table → Type 0} {n : TermNo} {x y : TermView} → ((table : Table) × A table)
@@ -186,18 +186,18 @@ pub view_small : {A : Table → Type 0} {n : TermNo} {x y : TermView} → ((tabl
 view_small w f e = subst SmallView e (f w.0 w.1).small
 
 -- A SEARCH: the number that it finds is the term's, and where it finds nothing the term has none
-number_found : {f : Found} {n : TermNumber} (m : Option TermNo) → f ≡ found_of m → f ≡ Found.At n → m ≡ some n.0
-number_found none p q = cc
-number_found (some k) p q = cc
+number_found : {f : Found} {n : TermNumber} (m : Option TermNo) → f ≡ found_of m → f ≡ Found.At n → m ≡ Some n.0
+number_found None p q = cc
+number_found (Some k) p q = cc
 
-no_number : {f : Found} (m : Option TermNo) → f ≡ found_of m → f ≡ Found.Nothing → m ≡ none
-no_number none p q = refl
-no_number (some k) p q = cc
+no_number : {f : Found} (m : Option TermNo) → f ≡ found_of m → f ≡ Found.Nothing → m ≡ None
+no_number None p q = refl
+no_number (Some k) p q = cc
 
-pub found_at : {table : Table} {e : Term} {f : Found} {n : TermNumber} → FoundAs table e f → f ≡ Found.At n → number_of table e ≡ some n.0
+pub found_at : {table : Table} {e : Term} {f : Found} {n : TermNumber} → FoundAs table e f → f ≡ Found.At n → number_of table e ≡ Some n.0
 found_at k q = number_found _ k.is q
 
-pub found_nothing : {table : Table} {e : Term} {f : Found} → FoundAs table e f → f ≡ Found.Nothing → number_of table e ≡ none
+pub found_nothing : {table : Table} {e : Term} {f : Found} → FoundAs table e f → f ≡ Found.Nothing → number_of table e ≡ None
 found_nothing k q = no_number _ k.is q
 
 -- AN ALTERNATIVE of at most m codes has at most n

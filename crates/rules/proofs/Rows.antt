@@ -2,7 +2,7 @@
 use mathlib.Core.Path.{◌≡◌, sym, ◌∙◌}
 use mathlib.Core.Bool.{Bool, false}
 use mathlib.Core.List.{List, [], ◌∷◌}
-use mathlib.Core.Option.{Option, none, some}
+use Rattle.std.specs.Prelude.{Option, None, Some}
 use Prim.Native.Nat.{ℕ}
 use lib.Dec.{eqb}
 use Rattle.tableau.specs.declared.Freshness.{Freshness}
@@ -33,23 +33,23 @@ fresh_or_not {fresh = fresh} k = record { room = k.room; answers = λ table h. k
 
 -- NO NEEDS: what the row adds is added
 pub always : {A : Table → Type 0} {x : Rule} {t w : ℕ} {ks : List (List LiteralPattern)} {r : Outcome} {ls : List (List Literal)}
-    → rule x ≡ rows ([] ⟶ ks) → ((table : Table) → made_alternatives table ks (given false t w) ≡ some ls) → Builds r ls
-    → Concludes A x none none t w r
+    → rule x ≡ rows ([] ⟶ ks) → ((table : Table) → made_alternatives table ks (given false t w) ≡ Some ls) → Builds r ls
+    → Concludes A x None None t w r
 unfolding computing
 always i f b = record { room = b.room; answers = λ table h fresh. rw (i, f table) (sym b.adds) }
 
 -- ANY ROW: p has another relation
 pub other_p : {A : Table → Type 0} {x : Rule} {R : Relation} {k l : Pattern} {ns : List Need} {f : Bool} {ks : List (List LiteralPattern)}
     {Q : Option Literal} {t w : ℕ} (p : LiteralView) → rule x ≡ rows (record { needs = p∶ (pattern R k l) ∷ ns; fresh = f; adds = ks } ∷ [])
-    → IsNot R p → Concludes A x (some (literal_of p)) Q t w (Outcome.Refused Reason.NeedNotMet)
+    → IsNot R p → Concludes A x (Some (literal_of p)) Q t w (Outcome.Refused Reason.NeedNotMet)
 unfolding computing
 other_p p i n = record { room = tt; answers = λ table h fresh. rw (i, by_sides p, n) }
 
 -- p fits, and q has another relation
 pub other_q : {A : Table → Type 0} {x : Rule} {k : LiteralPattern} {R : Relation} {i j : Pattern} {ns : List Need} {ks : List (List LiteralPattern)}
     {p v : LiteralView} {σ : Letters} {t w : ℕ} (q : LiteralView) → rule x ≡ rows (p∶ k ∷ q∶ (pattern R i j) ∷ ns ⟶ ks) → p ≡ v
-    → ((table : Table) → fits_literal (at table) k (literal_of v) (given false t w) ≡ some σ) → IsNot R q
-    → Concludes A x (some (literal_of p)) (some (literal_of q)) t w (Outcome.Refused Reason.NeedNotMet)
+    → ((table : Table) → fits_literal (at table) k (literal_of v) (given false t w) ≡ Some σ) → IsNot R q
+    → Concludes A x (Some (literal_of p)) (Some (literal_of q)) t w (Outcome.Refused Reason.NeedNotMet)
 unfolding computing
 other_q q i e f n = record { room = tt; answers = λ table h fresh. rw (i, e, f table, by_sides q, n) }
 
@@ -63,9 +63,9 @@ other_t {o = o} {t = t} i g n = record { room = tt; answers = λ table h fresh. 
 -- p is u in a term of another operator
 pub other_region : {A : Table → Type 0} {x : Rule} {o : Operator} {i j k l : Pattern} {ns : List Need} {f : Bool} {ks : List (List LiteralPattern)}
     {p : LiteralView} {m n : TermNumber} {Q : Option Literal} {t w : ℕ} {v : TermView}
-    → rule x ≡ rows (record { needs = p∶ (row.u ∈ operator o i j k l) ∷ ns; fresh = f; adds = ks } ∷ []) → given f t w letter_u ≡ none
+    → rule x ≡ rows (record { needs = p∶ (row.u ∈ operator o i j k l) ∷ ns; fresh = f; adds = ks } ∷ []) → given f t w letter_u ≡ None
     → p ≡ LiteralView.In m n → ((table : Table) → A table → ViewAt table n.0 v) → Others o v
-    → Concludes A x (some (literal_of p)) Q t w (Outcome.Refused Reason.NeedNotMet)
+    → Concludes A x (Some (literal_of p)) Q t w (Outcome.Refused Reason.NeedNotMet)
 unfolding computing
 other_region {o = o} {n = n} i u e g k = record {
   room = tt;
@@ -77,8 +77,8 @@ pub parted : {A : Table → Type 0} {x : Rule} {o : Operator} {ks : List (List L
     {v y : TermView} {r : Outcome} {ls : List (List Literal)} → rule x ≡ rows (p∶ (row.u ∈ operator o row.r row.s – –) ∷ [] ⟶ ks)
     → arguments o ≡ arguments Operator.Cap → p ≡ LiteralView.In m n → v ≡ y → ((e : Term) → view_of e ≡ y → Arguments2 o e a b)
     → ((table : Table) → A table → ViewAt table n.0 v)
-    → ((table : Table) → made_alternatives table ks (bind (bind (bind (given false 0 0) letter_u m.0) letter_r a.0) letter_s b.0) ≡ some ls)
-    → Builds r ls → Concludes A x (some (literal_of p)) Q 0 0 r
+    → ((table : Table) → made_alternatives table ks (bind (bind (bind (given false 0 0) letter_u m.0) letter_r a.0) letter_s b.0) ≡ Some ls)
+    → Builds r ls → Concludes A x (Some (literal_of p)) Q 0 0 r
 unfolding computing
 parted {n = n} i two e f is g made b = record {
   room = b.room;
@@ -99,7 +99,7 @@ joining R o = p∶ (row.u ∈ row.r) ∷ q∶ (pattern R row.u row.s) ∷ t≐ (
 module _ {A : Table → Type 0} {x : Rule} {R : Relation} {o : Operator} {P Q : Literal} {m k n l t : ℕ} (d : rule x ≡ rows (joining R o))
     (two : arguments o ≡ arguments Operator.Cap) (p : P ≡ literal Relation.In m k) (q : Q ≡ literal R n l) where
   pub other_term : {v : TermView} → ((table : Table) → A table → ViewAt table t v) → Others o v
-      → Concludes A x (some P) (some Q) t 0 (Outcome.Refused Reason.NeedNotMet)
+      → Concludes A x (Some P) (Some Q) t 0 (Outcome.Refused Reason.NeedNotMet)
   unfolding computing
   other_term g w = record {
     room = tt;
@@ -114,10 +114,10 @@ naming R o = p∶ (row.u ∈ row.r) ∷ [] ⟶ only ⟨ pattern R row.u (operato
 module _ {A : Table → Type 0} {x : Rule} {R : Relation} {o : Operator} {p : LiteralView} {m n : TermNumber} {Q : Option Literal} {f : Found}
     (i : rule x ≡ rows (naming R o)) (none-taken : arguments o ≡ arguments Operator.Nul) (e : p ≡ LiteralView.In m n)
     (g : (table : Table) → A table → FoundAs table (apply o (four 0 0 0 0)) f) where
-  pub not_named : f ≡ Found.Nothing → Concludes A x (some (literal_of p)) Q 0 0 (Outcome.Refused Reason.TermNotMade)
+  pub not_named : f ≡ Found.Nothing → Concludes A x (Some (literal_of p)) Q 0 0 (Outcome.Refused Reason.TermNotMade)
   unfolding computing
   not_named j = record { room = tt; answers = λ table h fresh. rw (i, e, none-taken, found_nothing (g table h) j) }
 
-  pub named : {k : TermNumber} {r : Outcome} → f ≡ Found.At k → Builds r ((literal R m.0 k.0 ∷ []) ∷ []) → Concludes A x (some (literal_of p)) Q 0 0 r
+  pub named : {k : TermNumber} {r : Outcome} → f ≡ Found.At k → Builds r ((literal R m.0 k.0 ∷ []) ∷ []) → Concludes A x (Some (literal_of p)) Q 0 0 r
   unfolding computing
   named j b = record { room = b.room; answers = λ table h fresh. rw (i, e, none-taken, found_at (g table h) j) (sym b.adds) }

@@ -2,7 +2,7 @@
 use mathlib.Core.Path.{◌≡◌, refl, sym, ◌∙◌, ap, subst}
 use mathlib.Core.Bool.{Bool, true, false, true≢false}
 use mathlib.Core.List.{List, [], ◌∷◌}
-use mathlib.Core.Option.{Option, none, some}
+use Rattle.std.specs.Prelude.{Option, None, Some}
 use Prim.Native.Nat.{ℕ, suc, ◌+◌, ◌<◌, ◌≤◌}
 use native.Mathlib.Omega.{arith}
 use lib.Dec.{eqb}
@@ -68,7 +68,7 @@ one_piece c (x ∷ text) h e = cut (eqb x c) (pieces c text) e
     cut true g e = some_piece c text (let q : split c text ≡ [] = cc in q)
     cut false g e = let z : on_first x (g.first ∷ g.others) ≡ [] ∷ [] = ap (on_first x) (sym g.cut) ∙ e in let y : true ≡ false = cc in true≢false y
 
-some_letter : (p : List ℕ) {b : ℕ} → capital p ≡ some b → 1 ≤ length p
+some_letter : (p : List ℕ) {b : ℕ} → capital p ≡ Some b → 1 ≤ length p
 unfolding capital
 some_letter [] e = none≢some e
 some_letter (b ∷ p) e = omega arith
@@ -79,7 +79,7 @@ pub record Shaped (ps : List (List ℕ)) (k : Line ℕ) : Type 0 where
   pub small : SmallNumbers k.fields
   pub long : least_line ≤ bytes_of ps
 
-pub shaped : (ps : List (List ℕ)) (k : Line ℕ) → six_fields max_digits capital ps ≡ some k → Shaped ps k
+pub shaped : (ps : List (List ℕ)) (k : Line ℕ) → six_fields max_digits capital ps ≡ Some k → Shaped ps k
 shaped ps k e =
     let f = six_fields_lem max_digits capital ps e in
     record {
@@ -115,10 +115,10 @@ check_fields = record {
 }
   where
     known : (σ : State) (k : Line ℕ) (n : ℕ) (m : Option Letter) → is_word k.word ≡ true
-        → run_read σ (then m λ l. some (relettered k l))
+        → run_read σ (then m λ l. Some (relettered k l))
         ≡ (require_some m Reason.BadShape >>= λ l. run_command σ l (packed_command l (pack_word k.word)) k.fields)
-    known σ k n none h = refl
-    known σ k n (some l) h = rw (command_packed l k.word h)
+    known σ k n None h = refl
+    known σ k n (Some l) h = rw (command_packed l k.word h)
 
 -- the pieces behind the line that begins at a position, and that it ends inside the file
 line_behind : (file : List ℕ) (at : ℕ) (l m : List ℕ) (ls : List (List ℕ)) → split LF (drop at file) ≡ l ∷ m ∷ ls
@@ -190,7 +190,7 @@ pub record LinePieces (file : List ℕ) (at : ℕ) (f : LineFields) : Type 0 whe
   pub line : Line ℕ
   pub cut : split LF (drop at file) ≡ piece ∷ follower ∷ others
   pub rest : split LF (drop f.next.at file) ≡ follower ∷ others
-  pub shaped : any_shape piece ≡ some line
+  pub shaped : any_shape piece ≡ Some line
   pub fields : f ≡ line_fields (at + length piece + 1) line
   pub inside : at + length piece + 1 ≤ length file
 
@@ -202,8 +202,8 @@ line_pieces file at f e = go (line_there LineRead.BadShape (λ n l. line_read n 
     go x = shaped_as (any_shape x.piece) refl x.is
       where
         shaped_as : (s : Option (Line ℕ)) → any_shape x.piece ≡ s → line_read (at + length x.piece + 1) s ≡ LineRead.Line f → LinePieces file at f
-        shaped_as none s h = absurd (bad≢line h)
-        shaped_as (some L) s h =
+        shaped_as None s h = absurd (bad≢line h)
+        shaped_as (Some L) s h =
             subst (LinePieces file at) (line_injective h)
             (record { piece = x.piece; follower = x.follower; others = x.others; line = L; cut = x.cut; rest = x.rest; shaped = s; fields = refl; inside = x.inside })
 
@@ -222,13 +222,13 @@ line_here {S} {run} {fields} B file at f e =
     }
 
 -- A BAD LINE: bytes behind the last LF, or a line that has no shape.
-no_shape : (n : ℕ) (s : Option (Line ℕ)) → line_read n s ≡ LineRead.BadShape → s ≡ none
-no_shape n none h = refl
-no_shape n (some L) h = absurd (bad≢line (sym h))
+no_shape : (n : ℕ) (s : Option (Line ℕ)) → line_read n s ≡ LineRead.BadShape → s ≡ None
+no_shape n None h = refl
+no_shape n (Some L) h = absurd (bad≢line (sym h))
 
 pub bad_pieces : {R : Type 0} (file : List ℕ) (at : ℕ) → at < length file → line_at file at ≡ LineRead.BadShape
     → ((b : ℕ) (l : List ℕ) → split LF (drop at file) ≡ (b ∷ l) ∷ [] → R)
-    → ((l m : List ℕ) (ls : List (List ℕ)) → split LF (drop at file) ≡ l ∷ m ∷ ls → any_shape l ≡ none → R) → R
+    → ((l m : List ℕ) (ls : List (List ℕ)) → split LF (drop at file) ≡ l ∷ m ∷ ls → any_shape l ≡ None → R) → R
 unfolding line_at
 bad_pieces file at before e tail unshaped =
     no_line_there LineRead.BadShape (λ n l. line_read n (any_shape l)) file at before e tail (λ l m ls q h. unshaped l m ls q (no_shape (at + length l + 1) (any_shape l) h))
@@ -246,21 +246,21 @@ unfolding split run_lines
 at_end_lem run file at h i σ = rw (drop_of_length-le file h)
 
 -- CHECK 2 of the letter of a line that is read
-pub run_unlettered : (σ : State) (f : LineFields) → lookup letters (f.letter ∷ []) ≡ none → run_fields σ f ≡ refused Reason.BadShape
+pub run_unlettered : (σ : State) (f : LineFields) → lookup letters (f.letter ∷ []) ≡ None → run_fields σ f ≡ refused Reason.BadShape
 unfolding run_fields
 run_unlettered σ f e = rw e
 
 -- CHECKS 3 AND 4: out of order, with an unknown word, or a command
-module _ (σ : State) (f : LineFields) {l : Letter} (k : lookup letters (f.letter ∷ []) ≡ some l) where
+module _ (σ : State) (f : LineFields) {l : Letter} (k : lookup letters (f.letter ∷ []) ≡ Some l) where
   pub run_disordered : in_order σ.letter l ≡ false → run_fields σ f ≡ refused Reason.LetterOrder
   unfolding run_fields
   run_disordered o = rw (k, o)
 
-  pub run_unknown : in_order σ.letter l ≡ true → packed_command l f.word ≡ none → run_fields σ f ≡ refused Reason.UnknownWord
+  pub run_unknown : in_order σ.letter l ≡ true → packed_command l f.word ≡ None → run_fields σ f ≡ refused Reason.UnknownWord
   unfolding run_fields
   run_unknown o e = rw (k, o, e)
 
-  pub run_known : (c : Command) → in_order σ.letter l ≡ true → packed_command l f.word ≡ some c
+  pub run_known : (c : Command) → in_order σ.letter l ≡ true → packed_command l f.word ≡ Some c
       → run_fields σ f ≡ (require_open σ.status >>= λ τ. run_open σ τ c (numbers_of f))
   unfolding run_fields
   run_known c o e = rw (k, o, e)

@@ -1,6 +1,6 @@
 -- The specification's run over the lines of a file, told by positions in the file and by the fields that a line was read as.
 use Rattle.std.specs.Prelude.{◌≡◌, List, [], ◌∷◌, ℕ, suc, ◌+◌, ◌^◌, ◌<◌, ◌≤◌, length, drop}
-use Rattle.std.proofs.Math.Option.{Option, none, some}
+use Rattle.std.specs.Prelude.{Option, None, Some}
 use Rattle.tableau.specs.declared.Letter.{Letter}
 use Rattle.tableau.specs.declared.Reason.{Reason}
 use Rattle.tableau.specs.Basics.{Four, lookup}
@@ -47,8 +47,8 @@ line_fields next' l = record { letter = l.letter; word = pack_word l.word; a = l
 
 -- A file's run of a line, by the fields that the line is read as.
 pub record ByFields {S : Type 0} (run : S → List ℕ → Checked S) (fields : S → LineFields → Checked S) : Type 0 where
-  pub shaped : (σ : S) (l : List ℕ) (k : Line ℕ) (n : ℕ) → any_shape l ≡ some k → run σ l ≡ fields σ (line_fields n k)
-  pub unshaped : (σ : S) (l : List ℕ) → any_shape l ≡ none → run σ l ≡ refused Reason.BadShape
+  pub shaped : (σ : S) (l : List ℕ) (k : Line ℕ) (n : ℕ) → any_shape l ≡ Some k → run σ l ≡ fields σ (line_fields n k)
+  pub unshaped : (σ : S) (l : List ℕ) → any_shape l ≡ None → run σ l ≡ refused Reason.BadShape
 
 -- a letter, a word of two letters, four numbers of one digit, five commas and an LF
 abbrev pub least_line : ℕ

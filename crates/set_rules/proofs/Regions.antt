@@ -3,7 +3,7 @@ use mathlib.Core.Path.{◌≡◌, refl, ◌∙◌}
 use mathlib.Core.Logic.{◌⊎◌, inl, inr}
 use mathlib.Core.Bool.{Bool, true, false, not, cond, ◌&&◌, ◌||◌}
 use mathlib.Core.List.{[], ◌∷◌}
-use mathlib.Core.Option.{Option, none, some}
+use Rattle.std.specs.Prelude.{Option, None, Some}
 use Prim.Native.Nat.{ℕ}
 use lib.Dec.{eqb}
 use borrow.Author.Tests.{eq-eqb, ne_eqb}
@@ -35,12 +35,12 @@ two_guards false b k = refl
 -- p is m eq n, and b whether they are regions; the row carries a member of the one with letter k to the one with letter l
 module _ {A : Table → Type 0} {x : Rule} {k l : ℕ} {p : LiteralView} {m n : TermNumber} {b : Bool} (i : rule x ≡ rows (carrying k l))
     (e : p ≡ LiteralView.Eq m n) (f : (table : Table) → A table → b ≡ are_regions table m.0 n.0) where
-  pub no_regions : {Q : Option Literal} → b ≡ false → Concludes A x (some (literal_of p)) Q 0 0 (Outcome.Refused Reason.NeedNotMet)
+  pub no_regions : {Q : Option Literal} → b ≡ false → Concludes A x (Some (literal_of p)) Q 0 0 (Outcome.Refused Reason.NeedNotMet)
   unfolding computing
   no_regions g = record { room = tt; answers = λ table h fresh. rw (i, e, two_guards _ _ _, test_fails (f table h) g) }
 
-  pub moves : {c d : TermNo} {r : Outcome} (q : LiteralView) → b ≡ true → ((u : TermNumber) → letters_of m n u k ≡ some c)
-      → ((u : TermNumber) → letters_of m n u l ≡ some d) → Moves c d q r → Concludes A x (some (literal_of p)) (some (literal_of q)) 0 0 r
+  pub moves : {c d : TermNo} {r : Outcome} (q : LiteralView) → b ≡ true → ((u : TermNumber) → letters_of m n u k ≡ Some c)
+      → ((u : TermNumber) → letters_of m n u l ≡ Some d) → Moves c d q r → Concludes A x (Some (literal_of p)) (Some (literal_of q)) 0 0 r
   unfolding computing
   moves {c = c} q g from to w = record {
     room = w.room;
@@ -59,7 +59,7 @@ pub unequal : {A : Table → Type 0} {p : LiteralView} {m n : TermNumber} {b : B
     (literal Relation.Ni w m.0 ∷ literal Relation.In w n.0 ∷ []) ∷
     []
     ))
-    → ConcludesFresh A fresh Rule.Ext (some (literal_of p)) none 0 w r
+    → ConcludesFresh A fresh Rule.Ext (Some (literal_of p)) None 0 w r
 unfolding computing
 unequal {b = b} {fresh} e f room a = record {
   room = room;
@@ -92,7 +92,7 @@ or_fails e f = rw f e
 pub joins : {A : Table → Type 0} {x : Rule} {R : Relation} {o : Operator} {P Q : Literal} {m k n l t : ℕ} {a b : TermNumber} {v y : TermView} {c d : Bool}
     {r : Outcome} → rule x ≡ rows (joining R o) → arguments o ≡ arguments Operator.Cap → P ≡ literal Relation.In m k → Q ≡ literal R n l
     → ((e : Term) → view_of e ≡ y → Arguments2 o e a b) → v ≡ y → ((table : Table) → A table → ViewAt table t v) → c ≡ (eqb m n && eqb k a.0)
-    → d ≡ (c && eqb l b.0) → AddsIf d (literal Relation.In m t) r → Concludes A x (some P) (some Q) t 0 r
+    → d ≡ (c && eqb l b.0) → AddsIf d (literal Relation.In m t) r → Concludes A x (Some P) (Some Q) t 0 r
 unfolding computing
 joins {R = R} {m = m} {k} {n} {l} {t} {a} {b} i two p q is j g first second w = record {
   room = w.room;
@@ -108,7 +108,7 @@ joins {R = R} {m = m} {k} {n} {l} {t} {a} {b} i two p q is j g first second w = 
 -- u in k, and t is cup(a,b): u in t where k is a or b
 pub united : {A : Table → Type 0} {p : LiteralView} {u k a b : TermNumber} {Q : Option Literal} {t : ℕ} {v : TermView} {c : Bool} {r : Outcome}
     → p ≡ LiteralView.In u k → v ≡ TermView.Cup a b → ((table : Table) → A table → ViewAt table t v) → c ≡ (eqb k.0 a.0 || eqb k.0 b.0)
-    → AddsIf c (literal Relation.In u.0 t) r → Concludes A Rule.Cui (some (literal_of p)) Q t 0 r
+    → AddsIf c (literal Relation.In u.0 t) r → Concludes A Rule.Cui (Some (literal_of p)) Q t 0 r
 unfolding computing
 united {k = k} {a} {b} {t = t} p j g e w = record {
   room = w.room;
@@ -119,7 +119,7 @@ united {k = k} {a} {b} {t = t} p j g e w = record {
 
 -- u in k, v ni l: u ne v where k is l
 pub separated : {A : Table → Type 0} {p q : LiteralView} {u k v l : TermNumber} {r : Outcome} → p ≡ LiteralView.In u k → q ≡ LiteralView.Ni v l
-    → AddsIf (eqb k.0 l.0) (literal Relation.Ne u.0 v.0) r → Concludes A Rule.Sep (some (literal_of p)) (some (literal_of q)) 0 0 r
+    → AddsIf (eqb k.0 l.0) (literal Relation.Ne u.0 v.0) r → Concludes A Rule.Sep (Some (literal_of p)) (Some (literal_of q)) 0 0 r
 unfolding computing
 separated {k = k} {l = l} p q w = record {
   room = w.room;

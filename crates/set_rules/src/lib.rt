@@ -3,7 +3,7 @@
 #![tactic(auto)]
 
 ghost use Rattle.std.specs.Prelude.{◌≡◌};
-ghost use Rattle.std.proofs.Math.Option.{none, some};
+ghost use Rattle.std.specs.Prelude.{None, Some};
 ghost use Rattle.tableau.specs.declared.Rule.{Rule};
 ghost use Rattle.tableau.specs.Terms.{Table};
 ghost use Rattle.syntax.specs.Syntax.{literal_in};
@@ -52,7 +52,7 @@ fn moves_member(q: LiteralView, m: TermNumber, n: TermNumber) -> Outcome
 pub fn eqr(p: LiteralView, q: LiteralView, terms: &[u64; table::NUMBERS]) -> Outcome
     requires held_by { (table : Table) × HeldBy terms.now table }
     requires small_literal { SmallLiteral p × SmallLiteral q }
-    ensures { Concludes (HeldBy terms.now) Rule.Eqr (some (literal_of p)) (some (literal_of q)) 0 0 result }
+    ensures { Concludes (HeldBy terms.now) Rule.Eqr (Some (literal_of p)) (Some (literal_of q)) 0 0 result }
 {
     let LiteralView::Eq(r, s) = p else {
         return Outcome::Refused(Reason::NeedNotMet);
@@ -67,7 +67,7 @@ pub fn eqr(p: LiteralView, q: LiteralView, terms: &[u64; table::NUMBERS]) -> Out
 pub fn eql(p: LiteralView, q: LiteralView, terms: &[u64; table::NUMBERS]) -> Outcome
     requires held_by { (table : Table) × HeldBy terms.now table }
     requires small_literal { SmallLiteral p × SmallLiteral q }
-    ensures { Concludes (HeldBy terms.now) Rule.Eql (some (literal_of p)) (some (literal_of q)) 0 0 result }
+    ensures { Concludes (HeldBy terms.now) Rule.Eql (Some (literal_of p)) (Some (literal_of q)) 0 0 result }
 {
     let LiteralView::Eq(r, s) = p else {
         return Outcome::Refused(Reason::NeedNotMet);
@@ -87,7 +87,7 @@ pub fn ext(
 ) -> Outcome
     requires held_by { (table : Table) × HeldBy terms.now table }
     requires small_literal { SmallLiteral p × Small w.0 }
-    ensures { ConcludesFresh (HeldBy terms.now) fresh Rule.Ext (some (literal_of p)) none 0 w.0 result }
+    ensures { ConcludesFresh (HeldBy terms.now) fresh Rule.Ext (Some (literal_of p)) None 0 w.0 result }
 {
     let LiteralView::Ne(r, s) = p else {
         return Outcome::Refused(Reason::NeedNotMet);
@@ -110,7 +110,7 @@ pub fn ext(
 pub fn cpe(p: LiteralView, terms: &[u64; table::NUMBERS]) -> Outcome
     requires held_by { (table : Table) × HeldBy terms.now table }
     requires small_literal { SmallLiteral p }
-    ensures { Concludes (HeldBy terms.now) Rule.Cpe (some (literal_of p)) none 0 0 result }
+    ensures { Concludes (HeldBy terms.now) Rule.Cpe (Some (literal_of p)) None 0 0 result }
 {
     let LiteralView::In(u, x) = p else {
         return Outcome::Refused(Reason::NeedNotMet);
@@ -125,7 +125,7 @@ pub fn cpe(p: LiteralView, terms: &[u64; table::NUMBERS]) -> Outcome
 pub fn cpi(p: LiteralView, q: LiteralView, t: TermNumber, terms: &[u64; table::NUMBERS]) -> Outcome
     requires held_by { (table : Table) × HeldBy terms.now table }
     requires small_literal { SmallLiteral p × SmallLiteral q × Small t.0 }
-    ensures { Concludes (HeldBy terms.now) Rule.Cpi (some (literal_of p)) (some (literal_of q)) t.0 0 result }
+    ensures { Concludes (HeldBy terms.now) Rule.Cpi (Some (literal_of p)) (Some (literal_of q)) t.0 0 result }
 {
     let LiteralView::In(u, r) = p else {
         return Outcome::Refused(Reason::NeedNotMet);
@@ -146,7 +146,7 @@ pub fn cpi(p: LiteralView, q: LiteralView, t: TermNumber, terms: &[u64; table::N
 pub fn cue(p: LiteralView, terms: &[u64; table::NUMBERS]) -> Outcome
     requires held_by { (table : Table) × HeldBy terms.now table }
     requires small_literal { SmallLiteral p }
-    ensures { Concludes (HeldBy terms.now) Rule.Cue (some (literal_of p)) none 0 0 result }
+    ensures { Concludes (HeldBy terms.now) Rule.Cue (Some (literal_of p)) None 0 0 result }
 {
     let LiteralView::In(u, x) = p else {
         return Outcome::Refused(Reason::NeedNotMet);
@@ -161,7 +161,7 @@ pub fn cue(p: LiteralView, terms: &[u64; table::NUMBERS]) -> Outcome
 pub fn cui(p: LiteralView, t: TermNumber, terms: &[u64; table::NUMBERS]) -> Outcome
     requires held_by { (table : Table) × HeldBy terms.now table }
     requires small_literal { SmallLiteral p × Small t.0 }
-    ensures { Concludes (HeldBy terms.now) Rule.Cui (some (literal_of p)) none t.0 0 result }
+    ensures { Concludes (HeldBy terms.now) Rule.Cui (Some (literal_of p)) None t.0 0 result }
 {
     let LiteralView::In(u, x) = p else {
         return Outcome::Refused(Reason::NeedNotMet);
@@ -176,7 +176,7 @@ pub fn cui(p: LiteralView, t: TermNumber, terms: &[u64; table::NUMBERS]) -> Outc
 pub fn dfe(p: LiteralView, terms: &[u64; table::NUMBERS]) -> Outcome
     requires held_by { (table : Table) × HeldBy terms.now table }
     requires small_literal { SmallLiteral p }
-    ensures { Concludes (HeldBy terms.now) Rule.Dfe (some (literal_of p)) none 0 0 result }
+    ensures { Concludes (HeldBy terms.now) Rule.Dfe (Some (literal_of p)) None 0 0 result }
 {
     let LiteralView::In(u, x) = p else {
         return Outcome::Refused(Reason::NeedNotMet);
@@ -191,7 +191,7 @@ pub fn dfe(p: LiteralView, terms: &[u64; table::NUMBERS]) -> Outcome
 pub fn dfi(p: LiteralView, q: LiteralView, t: TermNumber, terms: &[u64; table::NUMBERS]) -> Outcome
     requires held_by { (table : Table) × HeldBy terms.now table }
     requires small_literal { SmallLiteral p × SmallLiteral q × Small t.0 }
-    ensures { Concludes (HeldBy terms.now) Rule.Dfi (some (literal_of p)) (some (literal_of q)) t.0 0 result }
+    ensures { Concludes (HeldBy terms.now) Rule.Dfi (Some (literal_of p)) (Some (literal_of q)) t.0 0 result }
 {
     let LiteralView::In(u, r) = p else {
         return Outcome::Refused(Reason::NeedNotMet);
@@ -211,7 +211,7 @@ pub fn dfi(p: LiteralView, q: LiteralView, t: TermNumber, terms: &[u64; table::N
 // u in r; v ni r gives u ne v.
 pub fn sep(p: LiteralView, q: LiteralView) -> Outcome
     requires { SmallLiteral p × SmallLiteral q }
-    ensures { Concludes Anywhere Rule.Sep (some (literal_of p)) (some (literal_of q)) 0 0 result }
+    ensures { Concludes Anywhere Rule.Sep (Some (literal_of p)) (Some (literal_of q)) 0 0 result }
 {
     let LiteralView::In(u, r) = p else {
         return Outcome::Refused(Reason::NeedNotMet);

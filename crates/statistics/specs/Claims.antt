@@ -1,6 +1,6 @@
 -- What is claimed of the figures: the fractions that are printed are those in lowest terms, and no reply line of the checker is refused.
 use Rattle.std.specs.Prelude.{◌≡◌, List, [], ◌∷◌, ◌++◌, map, ◌↔◌, ℕ, ◌^◌, ◌<◌, ◌≤◌, length}
-use Rattle.std.proofs.Math.Option.{some}
+use Rattle.std.specs.Prelude.{Some}
 use Rattle.tableau.specs.Basics.{bytes}
 use Rattle.tableau.specs.File.{LF, max_bytes}
 use Rattle.tableau.specs.Tree.{passed}
@@ -27,7 +27,7 @@ FiguresExact = (rs : List Reply) → 0 < length (step_counts rs)
 
 -- THE TWO ENDS. What is shaped as a reply is a reply line, and every reply line whose numbers have five digits at most is.
 unfoldable pub ShapeOfReply : Type 0
-ShapeOfReply = (l : List ℕ) (r : Reply) → (reply_shape l ≡ some r) ↔ ((reply_line r ≡ l ++ (LF ∷ [])) × AllBelow (10 ^ reply_digits) (reply_numbers r))
+ShapeOfReply = (l : List ℕ) (r : Reply) → (reply_shape l ≡ Some r) ↔ ((reply_line r ≡ l ++ (LF ∷ [])) × AllBelow (10 ^ reply_digits) (reply_numbers r))
 
 -- The line that the checker prints for any file passes, behind any others, as the file's reply.
 unfoldable pub ReplyPasses : Type 0

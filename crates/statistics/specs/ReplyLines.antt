@@ -1,6 +1,6 @@
 -- 'Figures over a night's replies': a reply line, from its bytes to a reply.
 use Rattle.std.specs.Prelude.{Bool, true, false, ◌&&◌, ◌||◌, not, cond, List, [], ◌∷◌, ℕ, eqb, length, get_or}
-use Rattle.std.proofs.Math.Option.{Option, none, some}
+use Rattle.std.specs.Prelude.{Option, None, Some}
 use Rattle.tableau.specs.Basics.{then, guard, Named, ◌↣◌, lookup}
 use Rattle.tableau.specs.File.{comma, split, number}
 use Rattle.tableau.specs.Reply.{Reply}
@@ -15,14 +15,14 @@ reply_digits = 5
 
 -- the numbers that texts are, if each of them is one
 unfoldable pub numbers : List (List ℕ) → Option (List ℕ)
-numbers [] = some []
-numbers (p ∷ ps) = then (number reply_digits p) λ n. then (numbers ps) λ ns. some (n ∷ ns)
+numbers [] = Some []
+numbers (p ∷ ps) = then (number reply_digits p) λ n. then (numbers ps) λ ns. Some (n ∷ ns)
 
 -- "reply lines in the form of Req 05", which adds the place to document 01's reply: seven numbers, in the reply's order
 abbrev pub seven_numbers : Bool → List ℕ → Option Reply
 seven_numbers is_yes' ns =
     guard (eqb (length ns) 7)
-    (some
+    (Some
     (record {
       is_yes = is_yes';
       number = get_or ns 0 0;
@@ -35,7 +35,7 @@ seven_numbers is_yes' ns =
     }))
 
 abbrev pub reply_fields : List (List ℕ) → Option Reply
-reply_fields [] = none
+reply_fields [] = None
 reply_fields (p ∷ ps) = then (lookup answers p) λ is_yes'. then (numbers ps) λ ns. seven_numbers is_yes' ns
 
 -- the reply of a line, its LF taken off, if it is shaped as one

@@ -2,7 +2,7 @@
 use mathlib.Core.Path.{◌≡◌, refl, ◌∙◌, ap}
 use mathlib.Core.Bool.{Bool, true, false, ◌&&◌, not, cond, false≢true}
 use mathlib.Core.List.{List, [], ◌∷◌}
-use mathlib.Core.Option.{Option, none, some}
+use Rattle.std.specs.Prelude.{Option, None, Some}
 use Prim.Native.Nat.{ℕ}
 use lib.Dec.{eqb}
 use borrow.Author.Tests.{not-true}
@@ -26,19 +26,19 @@ use Rattle.steps.specs.Asking.{any_fresh, fresh_kind, asks_fresh, asks_branch, T
 
 -- FRESHNESS: a conclusion that does not ask for it
 abbrev Unasked : Option Conclusion → Type 0
-Unasked none = Unit {0}
-Unasked (some c) = c.fresh ≡ false
+Unasked None = Unit {0}
+Unasked (Some c) = c.fresh ≡ false
 
 -- the conclusions of `sub` and `rep` do not
-unasked_either : (e f g : Bool) (l m : Literal) → Unasked (guard e (cond f (some (adds_one l)) (cond g (some (adds_one m)) none)))
+unasked_either : (e f g : Bool) (l m : Literal) → Unasked (guard e (cond f (Some (adds_one l)) (cond g (Some (adds_one m)) None)))
 unasked_either false f g l m = tt
 unasked_either true true g l m = refl
 unasked_either true false true l m = refl
 unasked_either true false false l m = tt
 
 unasked_then : {A : Type 0} (m : Option A) (k : A → Option Conclusion) → ((x : A) → Unasked (k x)) → Unasked (then m k)
-unasked_then none k h = tt
-unasked_then (some x) k h = h x
+unasked_then None k h = tt
+unasked_then (Some x) k h = h x
 
 module _ (table : Table) (P Q : Option Literal) (t w : ℕ) where
   unasked_sub : (L : Literal) → Unasked (conclude_sub table L t w)
@@ -58,8 +58,8 @@ module _ (table : Table) (P Q : Option Literal) (t w : ℕ) where
       go (met (at table) R.needs P Q (given R.fresh t w)) b.0 (unasked_rows Rs b.1)
     where
       go : (o : Option Letters) → R.fresh ≡ false → Unasked (conclude_rows table P Q t w Rs) → Unasked (or_else table P Q t w o R (conclude_rows table P Q t w Rs))
-      go none h k = k
-      go (some σ) h k = h
+      go None h k = k
+      go (Some σ) h k = h
 
   -- so no conclusion of a rule that asks nowhere does
   unasked : (D : List Literal) (E : Bool) (k : Kind) → fresh_kind k ≡ false → Unasked (conclude table P Q t w D E k)
@@ -78,8 +78,8 @@ ending f o = require_some o Reason.NeedNotMet >>= λ c. require_fresh c.fresh f 
 -- freshness is not looked at, where the conclusion does not ask
 same_ending : (o : Option Conclusion) → Unasked o → (f g : Freshness) → ending f o ≡ ending g o
 unfolding ending
-same_ending none h f g = refl
-same_ending (some c) h f g = rw h
+same_ending None h f g = refl
+same_ending (Some c) h f g = rw h
 
 -- the answer of a rule that asks for no fresh w does not depend on it
 unasked_answer : (table : Table) (P Q : Option Literal) (D : List Literal) (E : Bool) (t w : ℕ) (x : Rule) → asks_fresh x ≡ false → (f g : Freshness)

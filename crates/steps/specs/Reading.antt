@@ -1,6 +1,6 @@
 -- What the code reads off the branch.
 use Rattle.std.specs.Prelude.{◌≡◌, List, ℕ, ◌≤◌}
-use Rattle.std.proofs.Math.Option.{some}
+use Rattle.std.specs.Prelude.{Some}
 use Rattle.tableau.specs.Tree.{literal_at}
 use Rattle.packing.specs.declared.LiteralView.{LiteralView}
 use Rattle.packing.specs.Packing.{literal_of, SmallLiteral}
@@ -9,4 +9,4 @@ use Rattle.tree.specs.State.{branch_of}
 -- r is the literal at the place, if there is one
 pub record ReadAt (array : List ℕ) (n place : ℕ) (r : LiteralView) : Type 0 where
   pub small : SmallLiteral r
-  pub is : 1 ≤ place → literal_at (branch_of array n) place ≡ some (literal_of r)
+  pub is : 1 ≤ place → literal_at (branch_of array n) place ≡ Some (literal_of r)

@@ -2,7 +2,7 @@
 use mathlib.Core.Path.{◌≡◌, refl, sym, ◌∙◌, ap, subst}
 use mathlib.Core.Bool.{Bool, cond}
 use mathlib.Core.List.{List, [], ◌∷◌, ◌++◌}
-use mathlib.Core.Option.{none, some}
+use Rattle.std.specs.Prelude.{None, Some}
 use mathlib.Core.Logic.{inl, inr, ⊎_elim}
 use Prim.Native.Nat.{ℕ, zero, suc, ◌+◌, ◌<◌, ◌≤◌}
 use native.Mathlib.Nat.{eq-or-lt_of_le}
@@ -54,16 +54,16 @@ module _ (table : Table) (e : Term) where
     ];
   }
 
-  numbered_grown : ((t : TermNo) → 0 < t → t ≤ length table → number_of table (at table t) ≡ some t) → number_of table e ≡ none
-      → (t : TermNo) → 0 < t → t ≤ length grown → number_of grown (at grown t) ≡ some t
+  numbered_grown : ((t : TermNo) → 0 < t → t ≤ length table → number_of table (at table t) ≡ Some t) → number_of table e ≡ None
+      → (t : TermNo) → 0 < t → t ≤ length grown → number_of grown (at grown t) ≡ Some t
   numbered_grown old new t l m = ⊎_elim
-      (λ (q : t ≡ next_number). rw (q, at_last) (number_added 1 table e new ∙ ap some (let s : 1 + length table ≡ next_number = omega arith in s)))
+      (λ (q : t ≡ next_number). rw (q, at_last) (number_added 1 table e new ∙ ap Some (let s : 1 + length table ≡ next_number = omega arith in s)))
       (λ (q : t < next_number).
       let le : t ≤ length table = omega arith in
       ap (number_of grown) (at_old t le) ∙ number_kept 1 table e (at table t) t (old t l le))
       (eq-or-lt_of_le (let le : t ≤ next_number = omega (arith, length_grown) in le))
 
-  pub searchable_grown : (terms chains : List ℕ) → Searchable table terms chains → length table < max_terms → Packable e → number_of table e ≡ none
+  pub searchable_grown : (terms chains : List ℕ) → Searchable table terms chains → length table < max_terms → Packable e → number_of table e ≡ None
       → Searchable grown (set terms next_number (pack_term e))
       (set (set chains (hashes + next_number) (get_or chains (hash_of (pack_term e)) 0)) (hash_of (pack_term e)) next_number)
   searchable_grown terms chains S room small new = record {

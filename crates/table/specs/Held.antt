@@ -1,10 +1,10 @@
 -- What the arrays hold: the specification's table of terms, and the chains by which a term is searched for.
 use Rattle.std.specs.Prelude.{◌≡◌, Bool, true, false, cond, List, ℕ, zero, suc, ◌+◌, ◌*◌, ◌/◌, ◌%◌, ◌<◌, ◌≤◌, eqb, length, get_or}
-use Rattle.std.proofs.Math.Option.{Option, none, some}
+use Rattle.std.specs.Prelude.{Option, None, Some, option_map, IfSome}
+use Rattle.tableau.specs.declared.TermNumber.{TermNumber}
 use Rattle.tableau.specs.Terms.{TermNo, Table, Term, at, number_of, max_terms}
 use Rattle.packing.specs.declared.TermView.{TermView}
 use Rattle.packing.specs.Packing.{pack_term, Packable, number, view_of, Small, SmallView}
-use Rattle.table.specs.declared.Found.{Found}
 
 -- The packed terms, each at its number; a number that no term has holds 0, as `no_term` does.
 pub record Entries (table : Table) (terms : List ℕ) : Type 0 where
@@ -39,7 +39,7 @@ pub record Searchable (table : Table) (terms chains : List ℕ) : Type 0 where
   pub entries : Entries table terms
   pub chained : Chains terms chains (length table)
   -- no term stands twice
-  pub numbered : (t : TermNo) → 0 < t → t ≤ length table → number_of table (at table t) ≡ some t
+  pub numbered : (t : TermNo) → 0 < t → t ≤ length table → number_of table (at table t) ≡ Some t
 
 -- Where a search for the number p stands: no term past t is p, and t has p's hash.
 pub record Seeking (terms : List ℕ) (n p t : ℕ) : Type 0 where
@@ -57,20 +57,18 @@ AmongFour terms p t true = Absent terms p t (t + 4) → ⊥
 AmongFour terms p t false = Absent terms p t (t + 4)
 
 -- what a search for p among the numbers up to n ends with: a number that has it, or that none has
-abbrev pub Sought : List ℕ → ℕ → ℕ → Found → Type 0
-Sought terms n p (Found.At t) = (0 < t.0) × (t.0 ≤ n) × (get_or terms t.0 0 ≡ p)
-Sought terms n p Found.Nothing = Absent terms p 1 (suc n)
+abbrev pub Sought : List ℕ → ℕ → ℕ → Option TermNumber → Type 0
+Sought terms n p (Some t) = (0 < t.0) × (t.0 ≤ n) × (get_or terms t.0 0 ≡ p)
+Sought terms n p None = Absent terms p 1 (suc n)
 
 -- THE ANSWER OF A SEARCH for a term
-abbrev pub found_of : Option TermNo → Found
-found_of none = Found.Nothing
-found_of (some n) = Found.At (number n)
+abbrev pub found_of : Option TermNo → Option TermNumber
+found_of o = option_map number o
 
-abbrev pub SmallFound : Found → Type 0
-SmallFound (Found.At n) = Small n.0
-SmallFound Found.Nothing = Unit {0}
+abbrev pub SmallFound : Option TermNumber → Type 0
+SmallFound o = IfSome o (λ n. Small n.0)
 
-pub record FoundAs (table : Table) (e : Term) (f : Found) : Type 0 where
+pub record FoundAs (table : Table) (e : Term) (f : Option TermNumber) : Type 0 where
   pub is : f ≡ found_of (number_of table e)
   pub small : SmallFound f
 

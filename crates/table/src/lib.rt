@@ -40,19 +40,6 @@ const BELOW: u64 = 33554432;
 // How many terms of a chain are looked at before the rest is scanned: whatever terms a file has, a search costs no more than a scan and these.
 const HOPS: usize = 4;
 
-// The number of a term that was searched for.
-#[derive(Clone, Copy)]
-pub enum Found {
-    At(TermNumber),
-    Nothing,
-}
-
-pub fn wide(x: u16) -> usize
-    ensures { result ≡ x }
-{
-    x as usize
-}
-
 fn hash(packed: u64) -> usize
     ensures { (result ≡ hash_of packed) × (result < hashes) }
 {
@@ -81,22 +68,22 @@ fn among_four(terms: &[u64; NUMBERS], t: usize, packed: u64) -> bool
 }
 
 // Looks at the terms from `first` to `last` in their order, where a search stands that has passed the others.
-fn scan_from(terms: &[u64; NUMBERS], first: usize, last: usize, packed: u64) -> Found
+fn scan_from(terms: &[u64; NUMBERS], first: usize, last: usize, packed: u64) -> Option<TermNumber>
     requires { Small last × (0 < first) × Absent terms.now packed 1 first }
     ensures { (n : ℕ) → Seeking terms.now n packed last → Sought terms.now n packed result }
 {
     let mut t = first;
     while t <= last {
         if terms[t] == packed {
-            return Found::At(TermNumber(t));
+            return Some(TermNumber(t));
         }
         t += 1;
     }
-    Found::Nothing
+    None
 }
 
 // The same from the first term on, by fours: a test less for each term.
-fn scan(terms: &[u64; NUMBERS], last: usize, packed: u64) -> Found
+fn scan(terms: &[u64; NUMBERS], last: usize, packed: u64) -> Option<TermNumber>
     requires { Small last }
     ensures { (n : ℕ) → Seeking terms.now n packed last → Sought terms.now n packed result }
 {
@@ -111,28 +98,28 @@ fn scan(terms: &[u64; NUMBERS], last: usize, packed: u64) -> Found
 }
 
 // A chained number with the given entry, or that there is none; where several have it, it is left open which. The entries are packed terms, or signatures of terms.
-pub fn seek(terms: &[u64; NUMBERS], chains: &[u16; LINKS], packed: u64) -> Found
+pub fn seek(terms: &[u64; NUMBERS], chains: &[u16; LINKS], packed: u64) -> Option<TermNumber>
     requires { (n : ℕ) × Chains terms.now chains.now n × (n ≤ max_terms) }
     ensures { (n : ℕ) → Chains terms.now chains.now n → Sought terms.now n packed result }
 {
     let h = hash(packed);
-    let mut t = wide(chains[h]);
+    let mut t = usize::from(chains[h]);
     let mut hops = 0;
     while 0 < t {
         if HOPS <= hops {
             return scan(terms, t, packed);
         }
         if terms[t] == packed {
-            return Found::At(TermNumber(t));
+            return Some(TermNumber(t));
         }
-        t = wide(chains[HASHES + t]);
+        t = usize::from(chains[HASHES + t]);
         hops += 1;
     }
-    Found::Nothing
+    None
 }
 
 // The number of a packed term, if it stands in the table.
-pub fn search(terms: &[u64; NUMBERS], chains: &[u16; LINKS], packed: u64) -> Found
+pub fn search(terms: &[u64; NUMBERS], chains: &[u16; LINKS], packed: u64) -> Option<TermNumber>
     requires { (table : Table) × Searchable table terms.now chains.now }
     ensures { (table : Table) → Searchable table terms.now chains.now
         → (e : specification.Term) → Packs e packed → result ≡ found_of (number_of table e) }
@@ -141,7 +128,7 @@ pub fn search(terms: &[u64; NUMBERS], chains: &[u16; LINKS], packed: u64) -> Fou
 }
 
 // The number of a term, if it stands in the table.
-pub fn find(terms: &[u64; NUMBERS], chains: &[u16; LINKS], term: Term) -> Found
+pub fn find(terms: &[u64; NUMBERS], chains: &[u16; LINKS], term: Term) -> Option<TermNumber>
     requires searchable { (table : Table) × Searchable table terms.now chains.now }
     requires packable { Packable (term_in term) }
     ensures { (table : Table) → Searchable table terms.now chains.now → FoundAs table (term_in term) result }

@@ -1,7 +1,8 @@
 -- Boolean tests and options, taken apart.
 use mathlib.Core.Path.{◌≡◌, refl, sym, ◌∙◌}
 use mathlib.Core.Bool.{Bool, true, false, ◌&&◌, ◌||◌, true≢false, false≢true}
-use mathlib.Core.Option.{Option, none, some, none-ne-some}
+use Rattle.std.specs.Prelude.{Option, None, Some}
+use Rattle.std.proofs.lemmas.Option.{none-some}
 use mathlib.Core.Logic.{◌⊎◌, inl, inr}
 use Prim.Native.Nat.{ℕ}
 use lib.Dec.{eqb}
@@ -117,16 +118,16 @@ pub eqb_same : (n : ℕ) → eqb n n ≡ true
 eqb_same n = eq-eqb n n refl
 
 -- of options
-pub none≢some : {A B : Type 0} {x : A} → none ≡ some x → B
-none≢some {A} {B} {x} e = absurd (none-ne-some x e)
+pub none≢some : {A B : Type 0} {x : A} → None ≡ Some x → B
+none≢some {A} {B} {x} e = absurd (none-some x e)
 
-pub some_inj : {A : Type 0} {x y : A} → some x ≡ some y → x ≡ y
+pub some_inj : {A : Type 0} {x y : A} → Some x ≡ Some y → x ≡ y
 some_inj e = cc
 
-pub then_inv : {A B : Type 0} {r : B} (m : Option A) (k : A → Option B) → then m k ≡ some r → (x : A) × (m ≡ some x) × (k x ≡ some r)
-then_inv none k e = none≢some e
-then_inv (some x) k e = (x, refl, e)
+pub then_inv : {A B : Type 0} {r : B} (m : Option A) (k : A → Option B) → then m k ≡ Some r → (x : A) × (m ≡ Some x) × (k x ≡ Some r)
+then_inv None k e = none≢some e
+then_inv (Some x) k e = (x, refl, e)
 
-pub guard_inv : {A : Type 0} {r : A} (b : Bool) (m : Option A) → guard b m ≡ some r → (b ≡ true) × (m ≡ some r)
+pub guard_inv : {A : Type 0} {r : A} (b : Bool) (m : Option A) → guard b m ≡ Some r → (b ≡ true) × (m ≡ Some r)
 guard_inv true m e = (refl, e)
 guard_inv false m e = none≢some e

@@ -2,7 +2,8 @@
 use mathlib.Core.Path.{◌≡◌, refl, sym, ◌∙◌, ap, subst}
 use mathlib.Core.Bool.{Bool, true, false, ◌&&◌, true≢false}
 use mathlib.Core.List.{List, [], ◌∷◌, ◌++◌, map, tail-eq_of_cons-eq}
-use mathlib.Core.Option.{Option, none, some, none-ne-some}
+use Rattle.std.specs.Prelude.{Option, None, Some}
+use Rattle.std.proofs.lemmas.Option.{none-some}
 use Prim.Native.Nat.{ℕ, suc, ◌<◌}
 use lib.Dec.{eqb, leb, ltb}
 use lib.ListN.{length}
@@ -43,13 +44,13 @@ require_passed true r m e = (refl, e)
 require_passed false r m e = refused≢passed e
 
 pub require_some_passed : {A B : Type 0} {y : B} (o : Option A) (r : Reason) (k : A → Checked B) → (require_some o r >>= k) ≡ passed y
-    → (x : A) × (o ≡ some x) × (k x ≡ passed y)
-require_some_passed none r k e = refused≢passed e
-require_some_passed (some x) r k e = (x, refl, e)
+    → (x : A) × (o ≡ Some x) × (k x ≡ passed y)
+require_some_passed None r k e = refused≢passed e
+require_some_passed (Some x) r k e = (x, refl, e)
 
-pub require_some_is : {A : Type 0} {x : A} (o : Option A) (r : Reason) → require_some o r ≡ passed x → o ≡ some x
-require_some_is none r e = refused≢passed e
-require_some_is (some x) r e = cc
+pub require_some_is : {A : Type 0} {x : A} (o : Option A) (r : Reason) → require_some o r ≡ passed x → o ≡ Some x
+require_some_is None r e = refused≢passed e
+require_some_is (Some x) r e = cc
 
 pub require_open_passed : {τ : Tree} (s : Status) → require_open s ≡ passed τ → s ≡ is_open τ
 require_open_passed (is_open τ) e = cc
@@ -67,13 +68,13 @@ same_bytes_lem (a ∷ as') (b ∷ bs) e =
 
 -- a function of what an entry stands for and one of its text, which agree on each entry of a table, agree on a word found there
 pub lookup_agree : {A B : Type 0} {x : A} (f : A → B) (g : List ℕ → B) (ns : List (Named A)) (w : List ℕ)
-    → map (λ n. f n.is) ns ≡ map (λ n. g (bytes n.text)) ns → lookup ns w ≡ some x → f x ≡ g w
+    → map (λ n. f n.is) ns ≡ map (λ n. g (bytes n.text)) ns → lookup ns w ≡ Some x → f x ≡ g w
 unfolding lookup
-lookup_agree f g [] w h e = absurd (none-ne-some _ e)
+lookup_agree f g [] w h e = absurd (none-some _ e)
 lookup_agree {A} {B} {x} f g (n ∷ ns) w h e = go (same_bytes (bytes n.text) w) refl e (lookup_agree f g ns w (tail-eq_of_cons-eq h))
   where
-    go : (b : Bool) → same_bytes (bytes n.text) w ≡ b → elim b [ true ↦ some n.is | false ↦ lookup ns w ] ≡ some x
-        → (lookup ns w ≡ some x → f x ≡ g w) → f x ≡ g w
+    go : (b : Bool) → same_bytes (bytes n.text) w ≡ b → elim b [ true ↦ Some n.is | false ↦ lookup ns w ] ≡ Some x
+        → (lookup ns w ≡ Some x → f x ≡ g w) → f x ≡ g w
     go true s e later = cc (same_bytes_lem (bytes n.text) w s)
     go false s e later = later e
 
@@ -84,11 +85,11 @@ letter_of (disjoin R) = Letter.C
 letter_of (infer x) = Letter.S
 
 -- the word of a line's command is one of its letter's words
-pub some_of_some : {A : Type 0} {c : Command} (f : A → Command) (o : Option A) → some_of f o ≡ some c → (x : A) × (o ≡ some x) × (c ≡ f x)
-some_of_some f none e = absurd (none-ne-some _ e)
-some_of_some f (some x) e = (x, refl, cc)
+pub some_of_some : {A : Type 0} {c : Command} (f : A → Command) (o : Option A) → some_of f o ≡ Some c → (x : A) × (o ≡ Some x) × (c ≡ f x)
+some_of_some f None e = absurd (none-some _ e)
+some_of_some f (Some x) e = (x, refl, cc)
 
-pub command_letter : {c : Command} (k : Letter) (w : List ℕ) → command_of k w ≡ some c → letter_of c ≡ k
+pub command_letter : {c : Command} (k : Letter) (w : List ℕ) → command_of k w ≡ Some c → letter_of c ≡ k
 unfolding command_of
 command_letter Letter.T w e = ap letter_of (some_of_some make (lookup words w) e).2
 command_letter Letter.A w e = ap letter_of (some_of_some assume (lookup relations w) e).2
@@ -200,9 +201,9 @@ pub record LinePassed (σ : State) (bs : List ℕ) (σ' : State) : Type 0 where
   pub line : Line Letter
   pub command : Command
   pub tree : Tree
-  pub shaped : shape letters bs ≡ some line
+  pub shaped : shape letters bs ≡ Some line
   pub ordered : in_order σ.letter line.letter ≡ true
-  pub known : command_of line.letter line.word ≡ some command
+  pub known : command_of line.letter line.word ≡ Some command
   pub tree_open : σ.status ≡ is_open tree
   pub run : Ran σ tree command line.fields σ'
 

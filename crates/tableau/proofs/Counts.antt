@@ -3,7 +3,7 @@ use mathlib.Core.Path.{◌≡◌, refl, sym, ◌∙◌, ap}
 use mathlib.Core.Bool.{Bool, true, false, ◌&&◌, ◌||◌, cond, true≢false}
 use mathlib.Core.List.{List, [], ◌∷◌}
 use mathlib.Core.Logic.{◌⊎◌, inl, inr}
-use mathlib.Core.Option.{Option, some}
+use Rattle.std.specs.Prelude.{Option, Some}
 use Prim.Native.Nat.{ℕ, suc, ◌+◌, ◌≤◌}
 use native.Mathlib.Omega.{arith}
 use lib.Dec.{eqb, leb}
@@ -28,7 +28,7 @@ use Rattle.tableau.proofs.ClauseLaws.{no_clauses, run_in_sequence, run_clauses}
 
 -- THE COUNTS
 -- the rules that close are those with the words `cls`, `emp` and `bck`
-closing_word : {x : Rule} (w : List ℕ) → lookup rule_names w ≡ some x → is_closing x ≡ (same_bytes (bytes "cls") w || (same_bytes (bytes "emp") w || same_bytes (bytes "bck") w))
+closing_word : {x : Rule} (w : List ℕ) → lookup rule_names w ≡ Some x → is_closing x ≡ (same_bytes (bytes "cls") w || (same_bytes (bytes "emp") w || same_bytes (bytes "bck") w))
 unfolding rule_names rule bytes same_bytes
 closing_word w = lookup_agree is_closing (λ w. same_bytes (bytes "cls") w || (same_bytes (bytes "emp") w || same_bytes (bytes "bck") w)) rule_names w refl
 
@@ -41,17 +41,17 @@ increase_sum true n m = omega arith
 increase_sum false n m = refl
 
 abbrev Adds : (Counts → ℕ) → (Option (Line Letter) → Bool) → Counts → Line Letter → Command → Type 0
-Adds count test k l c = count (counted k c) ≡ increase (test (some l)) (count k)
+Adds count test k l c = count (counted k c) ≡ increase (test (Some l)) (count k)
 
 abbrev AddsEach : Counts → Line Letter → Command → Type 0
 AddsEach k l c = Adds (λ k. k.terms) (has_letter Letter.T) k l c × Adds (λ k. k.assumptions) (has_letter Letter.A) k l c
     × Adds (λ k. k.steps) (has_letter Letter.S) k l c × Adds (λ k. k.closings) closes_branch k l c
 
-adds_each : (k : Counts) (l : Line Letter) (c : Command) → command_of l.letter l.word ≡ some c → AddsEach k l c
+adds_each : (k : Counts) (l : Line Letter) (c : Command) → command_of l.letter l.word ≡ Some c → AddsEach k l c
 unfolding command_of rank
 adds_each k l c = go l.letter
   where
-    go : (x : Letter) → command_of x l.word ≡ some c → AddsEach k (record { letter = x; word = l.word; fields = l.fields }) c
+    go : (x : Letter) → command_of x l.word ≡ Some c → AddsEach k (record { letter = x; word = l.word; fields = l.fields }) c
     go Letter.T e = rw (some_of_some make (lookup words l.word) e).2 (refl, refl, refl, refl)
     go Letter.A e = rw (some_of_some assume (lookup relations l.word) e).2 (refl, refl, refl, refl)
     go Letter.C e = rw (some_of_some disjoin (lookup relations l.word) e).2 (refl, refl, refl, refl)
@@ -59,7 +59,7 @@ adds_each k l c = go l.letter
 
 -- so a count of an accepted file is the number of lines that pass its test
 module _ (count : Counts → ℕ) (test : Option (Line Letter) → Bool)
-    (adds : (k : Counts) (l : Line Letter) (c : Command) → command_of l.letter l.word ≡ some c → Adds count test k l c) where
+    (adds : (k : Counts) (l : Line Letter) (c : Command) → command_of l.letter l.word ≡ Some c → Adds count test k l c) where
   line_count : {σ σ' : State} {l : List ℕ} → LinePassed σ l σ' → count σ'.counts ≡ increase (test (shape letters l)) (count σ.counts)
   line_count {σ} p = rw (p.run.counts, p.shaped) (adds σ.counts p.line p.command p.known)
 

@@ -3,7 +3,7 @@ use mathlib.Core.Path.{◌≡◌, refl, sym, ◌∙◌, ap}
 use mathlib.Core.Bool.{Bool, true, false, ◌||◌, not, true≢false}
 use mathlib.Core.List.{List, [], ◌∷◌, ◌++◌, map, append_assoc, append_cancel_right}
 use mathlib.Core.Logic.{◌⊎◌, inl, inr}
-use mathlib.Core.Option.{some}
+use Rattle.std.specs.Prelude.{Some}
 use Prim.Native.Nat.{ℕ, zero, suc, ◌+◌, ◌-◌, ◌*◌, ◌/◌, ◌%◌, ◌^◌, ◌<◌, ◌≤◌}
 use native.Mathlib.Decide.{dec_lt}
 use native.Mathlib.Nat.{add-zero, le_trans, pow-suc, pow-le-pow_right}
@@ -105,18 +105,18 @@ unfolding free
 decimal_free n c o = (written n n [] (omega (arith, below_power n, pow-suc 10 n))).no_other c o refl
 
 -- a decimal is read as its number
-pub number_decimal : (most n : ℕ) → 0 < most → n < 10 ^ most → number most (decimal n) ≡ some n
+pub number_decimal : (most n : ℕ) → 0 < most → n < 10 ^ most → number most (decimal n) ≡ Some n
 unfolding number digits decimal_from
 number_decimal zero n p h = absurd (omega arith)
 number_decimal (suc k) zero p h = rw (le-leb 1 (suc k) p) refl
 number_decimal (suc k) (suc n) p h = go (decimal (suc n)) (written k (suc n) [] h)
   where
-    go : (l : List ℕ) → Written (suc n) k [] l → number (suc k) l ≡ some (suc n)
+    go : (l : List ℕ) → Written (suc n) k [] l → number (suc k) l ≡ Some (suc n)
     go [] w = absurd (true≢false (w.leading (omega arith)))
     go (b ∷ bs) w = rw (le-leb (length (b ∷ bs)) (suc k) (omega (arith, w.width)), w.leading (omega arith)) w.value
 
 -- READ: a first digit, behind what is read already
-read_digit : (b m n : ℕ) (bs : List ℕ) → digits (b ∷ bs) m ≡ some n → (d : ℕ) × (d < 10) × (b ≡ 48 + d) × (digits bs (10 * m + d) ≡ some n)
+read_digit : (b m n : ℕ) (bs : List ℕ) → digits (b ∷ bs) m ≡ Some n → (d : ℕ) × (d < 10) × (b ≡ 48 + d) × (digits bs (10 * m + d) ≡ Some n)
 unfolding digits
 read_digit b m n bs e =
     let g = guard_inv (is_digit b) _ e in
@@ -126,7 +126,7 @@ read_digit b m n bs e =
     (b - 48, omega arith, omega arith, g.1)
 
 -- digits behind those of m, which is not 0, are with them the digits of what is read
-read_behind : (bs : List ℕ) (m n : ℕ) → 1 ≤ m → digits bs m ≡ some n → decimal n ≡ digits_before m bs
+read_behind : (bs : List ℕ) (m n : ℕ) → 1 ≤ m → digits bs m ≡ Some n → decimal n ≡ digits_before m bs
 unfolding digits
 read_behind [] m n h e = ap decimal (sym (some_inj e))
 read_behind (b ∷ bs) m n h e =
@@ -137,7 +137,7 @@ read_behind (b ∷ bs) m n h e =
     read_behind bs (10 * m + d) n (omega arith) r.3 ∙ next_digit_lem (10 * m + d) bs (omega arith) ∙ λ i. digits_before (q i) (p i ∷ bs)
 
 -- so many digits make no more than this
-read_below : (bs : List ℕ) (m n k : ℕ) → m < 10 ^ k → digits bs m ≡ some n → n < 10 ^ (k + length bs)
+read_below : (bs : List ℕ) (m n k : ℕ) → m < 10 ^ k → digits bs m ≡ Some n → n < 10 ^ (k + length bs)
 unfolding digits
 read_below [] m n k h e = rw (← some_inj e, add-zero) h
 read_below (b ∷ bs) m n k h e =
@@ -146,7 +146,7 @@ read_below (b ∷ bs) m n k h e =
     rw (← s) (read_below bs (10 * m + r.0) n (suc k) (omega (arith, r.1, pow-suc 10 k)) r.3)
 
 -- all digits, with no leading zero
-read_all : (b n : ℕ) (bs : List ℕ) → (not (eqb b 48) || eqb (length bs) 0) ≡ true → digits (b ∷ bs) 0 ≡ some n → b ∷ bs ≡ decimal n
+read_all : (b n : ℕ) (bs : List ℕ) → (not (eqb b 48) || eqb (length bs) 0) ≡ true → digits (b ∷ bs) 0 ≡ Some n → b ∷ bs ≡ decimal n
 unfolding digits
 read_all b n [] z e =
     let r = read_digit b 0 n [] e in
@@ -165,7 +165,7 @@ read_all b n (x ∷ xs) z e = go (one_true (not (eqb b 48)) _ z)
     go (inr t) = absurd (omega (arith, eqb-true (length (x ∷ xs)) 0 t))
 
 -- what is read as a number is the number's decimal, and below the limit
-pub decimal_of_number : (most n : ℕ) (l : List ℕ) → number most l ≡ some n → (l ≡ decimal n) × (n < 10 ^ most)
+pub decimal_of_number : (most n : ℕ) (l : List ℕ) → number most l ≡ Some n → (l ≡ decimal n) × (n < 10 ^ most)
 unfolding number
 decimal_of_number most n [] e = none≢some e
 decimal_of_number most n (b ∷ bs) e =
@@ -189,7 +189,7 @@ decimals_free c o (n ∷ ns) = (decimal_free n c o, decimals_free c o ns)
 decimal_injective : (m n : ℕ) → decimal m ≡ decimal n → m ≡ n
 decimal_injective m n e =
     let most = suc (m + n) in
-    let read : (k : ℕ) → k ≤ most → number most (decimal k) ≡ some k = λ k h. number_decimal most k (omega arith) (le_trans (below_power k) (pow-le-pow_right (omega arith) h)) in
+    let read : (k : ℕ) → k ≤ most → number most (decimal k) ≡ Some k = λ k h. number_decimal most k (omega arith) (le_trans (below_power k) (pow-le-pow_right (omega arith) h)) in
     some_inj (sym (read m (omega arith)) ∙ ap (number most) e ∙ read n (omega arith))
 
 decimals_injective : (ms ns : List ℕ) → map decimal ms ≡ map decimal ns → ms ≡ ns

@@ -2,7 +2,7 @@
 use mathlib.Core.Path.{◌≡◌, refl, sym, ◌∙◌, ap}
 use mathlib.Core.Bool.{Bool, true, false, not, ◌&&◌, ◌||◌}
 use mathlib.Core.List.{List, [], ◌∷◌}
-use mathlib.Core.Option.{Option, none, some}
+use Rattle.std.specs.Prelude.{Option, None, Some}
 use Prim.Native.Nat.{ℕ, suc, ◌≤◌}
 use native.Mathlib.Nat.{le_trans}
 use native.Mathlib.Omega.{arith}
@@ -15,7 +15,7 @@ use Rattle.tableau.specs.Tree.{Checked, refused, passed}
 use Rattle.tableau.specs.Reply.{start, run_read, run_line_within, run_line, run_lines, verdict_on, verdict_if, verdict_within, reply_of, reply}
 use Rattle.tableau.specs.Claims.{AllOf, FieldWithin, LineWithin, FileWithin, KeepsReplies}
 
-no_guard : (b : Bool) → ◌≡◌ {A = Option ℕ} (guard b none) none
+no_guard : (b : Bool) → ◌≡◌ {A = Option ℕ} (guard b None) None
 no_guard true = refl
 no_guard false = refl
 
@@ -30,8 +30,8 @@ module _ (limit larger : ℕ) (h : limit ≤ larger) where
       test n = leb (length (b ∷ bs)) n && (not (eqb b 48) || eqb (length bs) 0)
 
       which : (d : Option ℕ) → (is_some d ≡ true → length (b ∷ bs) ≤ limit) → guard (test larger) d ≡ guard (test limit) d
-      which none s = no_guard (test larger) ∙ sym (no_guard (test limit))
-      which (some n) s = rw (le-leb _ limit (s refl), le-leb _ larger (le_trans (s refl) h)) refl
+      which None s = no_guard (test larger) ∙ sym (no_guard (test limit))
+      which (Some n) s = rw (le-leb _ limit (s refl), le-leb _ larger (le_trans (s refl) h)) refl
 
   module _ {L : Type 0} where
     fields_agree : (first : List ℕ → Option L) (ps : List (List ℕ)) → AllOf (FieldWithin limit) (drop 2 ps) → six_fields larger first ps ≡ six_fields limit first ps

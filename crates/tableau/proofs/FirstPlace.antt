@@ -3,7 +3,7 @@ use mathlib.Core.Path.{◌≡◌, refl, sym, ◌∙◌, ap, subst}
 use mathlib.Core.Bool.{Bool, true, false, ◌||◌, cond, or-false, or_assoc}
 use mathlib.Core.List.{List, [], ◌∷◌, ◌++◌}
 use mathlib.Core.Logic.{⊎_elim}
-use mathlib.Core.Option.{none, some}
+use Rattle.std.specs.Prelude.{None, Some}
 use Prim.Native.Nat.{ℕ, zero, suc, ◌+◌, ◌<◌}
 use native.Mathlib.Omega.{arith}
 use Rattle.tableau.specs.Basics.{is_some}
@@ -54,13 +54,13 @@ module _ (table : Table) (w : TermNo) where
   }
 
   -- the place that is found, where they count from i
-  place_from_lem : (i : Place) (B : List Literal) (p : Place) → place_from i (at table) w B ≡ some p → (k : ℕ) × (p ≡ i + k) × FirstMention table B w (suc k)
+  place_from_lem : (i : Place) (B : List Literal) (p : Place) → place_from i (at table) w B ≡ Some p → (k : ℕ) × (p ≡ i + k) × FirstMention table B w (suc k)
   unfolding place_from
   place_from_lem i [] p e = none≢some e
   place_from_lem i (l ∷ B) p e = go (mentioned_in (at table) w l) refl e (place_from_lem (suc i) B p)
     where
-      go : (b : Bool) → mentioned_in (at table) w l ≡ b → cond b (some i) (place_from (suc i) (at table) w B) ≡ some p
-          → (place_from (suc i) (at table) w B ≡ some p → (k : ℕ) × (p ≡ suc i + k) × FirstMention table B w (suc k))
+      go : (b : Bool) → mentioned_in (at table) w l ≡ b → cond b (Some i) (place_from (suc i) (at table) w B) ≡ Some p
+          → (place_from (suc i) (at table) w B ≡ Some p → (k : ℕ) × (p ≡ suc i + k) × FirstMention table B w (suc k))
           → (k : ℕ) × (p ≡ i + k) × FirstMention table (l ∷ B) w (suc k)
       go true h e later = (
         0,
@@ -73,11 +73,11 @@ module _ (table : Table) (w : TermNo) where
           none_before_lem (suc q) m u = absurd (omega arith)
       go false h e later = let r = later e in (suc r.0, (let q = r.1 in omega arith), before_others l B r.0 h r.2)
 
-  pub first_mention : (B : List Literal) (p : Place) → first_place (at table) w B ≡ some p → FirstMention table B w p
+  pub first_mention : (B : List Literal) (p : Place) → first_place (at table) w B ≡ Some p → FirstMention table B w p
   first_mention B p e = let r = place_from_lem 1 B p e in subst (FirstMention table B w) (let q = r.1 in let z : suc r.0 ≡ p = omega arith in z) r.2
 
   -- where there is none, no place mentions w
-  no_place_from : (i : Place) (B : List Literal) → place_from i (at table) w B ≡ none → (q : Place) → ¬ MentionsAt table B w q
+  no_place_from : (i : Place) (B : List Literal) → place_from i (at table) w B ≡ None → (q : Place) → ¬ MentionsAt table B w q
   unfolding place_from
   no_place_from i [] e = nowhere
     where
@@ -86,10 +86,10 @@ module _ (table : Table) (w : TermNo) where
       nowhere (suc q) u = none≢some u.1
   no_place_from i (l ∷ B) e = go (mentioned_in (at table) w l) refl e (no_place_from (suc i) B)
     where
-      go : (b : Bool) → mentioned_in (at table) w l ≡ b → cond b (some i) (place_from (suc i) (at table) w B) ≡ none
-          → (place_from (suc i) (at table) w B ≡ none → (q : Place) → ¬ MentionsAt table B w q) → (q : Place) → ¬ MentionsAt table (l ∷ B) w q
+      go : (b : Bool) → mentioned_in (at table) w l ≡ b → cond b (Some i) (place_from (suc i) (at table) w B) ≡ None
+          → (place_from (suc i) (at table) w B ≡ None → (q : Place) → ¬ MentionsAt table B w q) → (q : Place) → ¬ MentionsAt table (l ∷ B) w q
       go true h e later q u = none≢some (sym e)
       go false h e later q u = let v = of_others l B h q u in later e v.0 v.2
 
-  pub no_mention : (B : List Literal) → first_place (at table) w B ≡ none → (q : Place) → ¬ MentionsAt table B w q
+  pub no_mention : (B : List Literal) → first_place (at table) w B ≡ None → (q : Place) → ¬ MentionsAt table B w q
   no_mention = no_place_from 1

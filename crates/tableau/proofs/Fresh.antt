@@ -2,7 +2,7 @@
 use mathlib.Core.Path.{◌≡◌, refl, sym, ◌∙◌, ap, subst}
 use mathlib.Core.Bool.{Bool, true, false, ◌||◌, cond}
 use mathlib.Core.List.{List, [], ◌∷◌}
-use mathlib.Core.Option.{Option, none, some}
+use Rattle.std.specs.Prelude.{Option, None, Some}
 use mathlib.Core.Logic.{◌⊎◌, inl, inr}
 use Prim.Native.Nat.{ℕ, zero, suc}
 use lib.Dec.{eqb}
@@ -142,28 +142,28 @@ module _ (table : TermNo → Term) (wf : WellFormed table) (w : TermNo) (n : Nam
 
   -- the letters other than w stand for terms without w
   abbrev pub Clean : Letters → Type 0
-  Clean σ = (z m : ℕ) → eqb z letter_w ≡ false → σ z ≡ some m → NotIn m
+  Clean σ = (z m : ℕ) → eqb z letter_w ≡ false → σ z ≡ Some m → NotIn m
 
   same_clean : (σ σ' : Letters) → σ ≡ σ' → Clean σ → Clean σ'
   same_clean σ σ' e h = λ y m q s. h y m q (ap (λ (f : Letters). f y) e ∙ s)
 
-  letter_clean : (o : Option TermNo) (z k : ℕ) (σ σ' : Letters) → fits_letter o z k σ ≡ some σ' → NotIn k → Clean σ → Clean σ'
-  letter_clean none z k σ σ' e c h y m q s = go (dec (eqb y z))
+  letter_clean : (o : Option TermNo) (z k : ℕ) (σ σ' : Letters) → fits_letter o z k σ ≡ Some σ' → NotIn k → Clean σ → Clean σ'
+  letter_clean None z k σ σ' e c h y m q s = go (dec (eqb y z))
     where
-      eq : cond (eqb y z) (some k) (σ y) ≡ some m
+      eq : cond (eqb y z) (Some k) (σ y) ≡ Some m
       eq = ap (λ (f : Letters). f y) (some_inj e) ∙ s
 
       go : (eqb y z ≡ true) ⊎ (eqb y z ≡ false) → NotIn m
-      go (inl p) = subst NotIn (some_inj (ap (λ b. cond b (some k) (σ y)) (sym p) ∙ eq)) c
-      go (inr p) = h y m q (ap (λ b. cond b (some k) (σ y)) (sym p) ∙ eq)
-  letter_clean (some j) z k σ σ' e c h y m q s = same_clean σ σ' (some_inj (guard_inv (eqb j k) (some σ) e).1) h y m q s
+      go (inl p) = subst NotIn (some_inj (ap (λ b. cond b (Some k) (σ y)) (sym p) ∙ eq)) c
+      go (inr p) = h y m q (ap (λ b. cond b (Some k) (σ y)) (sym p) ∙ eq)
+  letter_clean (Some j) z k σ σ' e c h y m q s = same_clean σ σ' (some_inj (guard_inv (eqb j k) (Some σ) e).1) h y m q s
 
-  field_clean : (fld : Argument) (m : Option Letters) (t : TermNo) (σ σ' : Letters) → if_argument fld m (some σ) ≡ some σ' → if_argument fld (mentions table w t) false ≡ false
-      → (m ≡ some σ' → NotIn t → Clean σ → Clean σ') → Clean σ → Clean σ'
+  field_clean : (fld : Argument) (m : Option Letters) (t : TermNo) (σ σ' : Letters) → if_argument fld m (Some σ) ≡ Some σ' → if_argument fld (mentions table w t) false ≡ false
+      → (m ≡ Some σ' → NotIn t → Clean σ → Clean σ') → Clean σ → Clean σ'
   field_clean unused m t σ σ' e c k h = same_clean σ σ' (some_inj e) h
   field_clean (of s) m t σ σ' e c k h = k e c h
 
-  fits_clean : (k : Pattern) (t : TermNo) (σ σ' : Letters) → fits table k t σ ≡ some σ' → NotIn t → Clean σ → Clean σ'
+  fits_clean : (k : Pattern) (t : TermNo) (σ σ' : Letters) → fits table k t σ ≡ Some σ' → NotIn t → Clean σ → Clean σ'
   unfolding fits
   fits_clean (letter z) t σ σ' e c h = letter_clean (σ z) z t σ σ' e c h
   fits_clean (operator o k l m j) t σ σ' e c h =
@@ -180,7 +180,7 @@ module _ (table : TermNo → Term) (wf : WellFormed table) (w : TermNo) (n : Nam
   abbrev pub Without : Literal → Type 0
   Without (literal R a b) = NotIn a × NotIn b
 
-  literal_clean : (l : LiteralPattern) (L : Literal) (σ σ' : Letters) → fits_literal table l L σ ≡ some σ' → Without L → Clean σ → Clean σ'
+  literal_clean : (l : LiteralPattern) (L : Literal) (σ σ' : Letters) → fits_literal table l L σ ≡ Some σ' → Without L → Clean σ → Clean σ'
   unfolding fits_literal
   literal_clean (pattern R a b) (literal R' m k) σ σ' e c h =
       let g = guard_inv (same_relation R R') _ e in
@@ -188,11 +188,11 @@ module _ (table : TermNo → Term) (wf : WellFormed table) (w : TermNo) (n : Nam
       fits_clean b k f.0 σ' f.2 c.1 (fits_clean a m σ f.0 f.1 c.0 h)
 
   abbrev pub WithoutAny : Option Literal → Type 0
-  WithoutAny none = Unit {0}
-  WithoutAny (some L) = Without L
+  WithoutAny None = Unit {0}
+  WithoutAny (Some L) = Without L
 
   pub met_clean : (P Q : Option Literal) → WithoutAny P → WithoutAny Q → (ns : List Need) (σ σ' : Letters)
-      → met table ns P Q σ ≡ some σ' → Clean σ → Clean σ'
+      → met table ns P Q σ ≡ Some σ' → Clean σ → Clean σ'
   unfolding met
   met_clean P Q cp cq [] σ σ' e h = same_clean σ σ' (some_inj e) h
   met_clean P Q cp cq (p∶ l ∷ ns) σ σ' e h =

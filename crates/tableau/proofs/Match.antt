@@ -2,11 +2,12 @@
 use mathlib.Core.Path.{◌≡◌, refl, sym, ◌∙◌, ap, subst, subst₃}
 use mathlib.Core.Bool.{true, false, cond}
 use mathlib.Core.List.{List, [], ◌∷◌}
-use mathlib.Core.Option.{Option, none, some}
+use Rattle.std.specs.Prelude.{Option, None, Some}
 use mathlib.Core.Logic.{◌⊎◌, inl, inr}
 use Prim.Native.Nat.{ℕ, zero, suc}
 use lib.Dec.{eqb}
-use lib.ListN.{get_or, get_elem?}
+use lib.ListN.{get_or}
+use Rattle.std.specs.Prelude.{slice_get}
 use borrow.Author.Tests.{eqb-true}
 use Rattle.tableau.specs.declared.Sort.{Sort}
 use Rattle.tableau.specs.declared.Operator.{Operator}
@@ -74,38 +75,38 @@ sort_back Sort.Class = refl
 pub same_sort_lem : (s s' : Sort) → same_sort s s' ≡ true → s ≡ s'
 same_sort_lem s s' e = sym (sort_back s) ∙ ap sort_at_lem (eqb-true _ _ e) ∙ sort_back s'
 
-pub arguments_inv : (o : Operator) (e : Term) (k : Four TermNo) → arguments_of o e ≡ some k → e ≡ apply o k
+pub arguments_inv : (o : Operator) (e : Term) (k : Four TermNo) → arguments_of o e ≡ Some k → e ≡ apply o k
 arguments_inv o (variable s n) k e = none≢some e
 arguments_inv o (apply o' k') k e =
-    let g = guard_inv (same_operator o o') (some k') e in
+    let g = guard_inv (same_operator o o') (Some k') e in
     λ i. apply (sym (same_operator_lem o o' g.0) i) (some_inj g.1 i)
 
 -- a field that is no term leaves the letters as they are
-pub if_argument_inv : (fld : Argument) (m : Option Letters) (σ σ' : Letters) → if_argument fld m (some σ) ≡ some σ' → (m ≡ some σ') ⊎ (σ ≡ σ')
+pub if_argument_inv : (fld : Argument) (m : Option Letters) (σ σ' : Letters) → if_argument fld m (Some σ) ≡ Some σ' → (m ≡ Some σ') ⊎ (σ ≡ σ')
 if_argument_inv unused m σ σ' e = inr (some_inj e)
 if_argument_inv (of s) m σ σ' e = inl e
 
 -- letters bound stay bound
 abbrev pub Extends : Letters → Letters → Type 0
-Extends σ σ' = (x m : ℕ) → σ x ≡ some m → σ' x ≡ some m
+Extends σ σ' = (x m : ℕ) → σ x ≡ Some m → σ' x ≡ Some m
 
 same_extends : (σ σ' : Letters) → σ ≡ σ' → Extends σ σ'
 same_extends σ σ' e x m h = ap (λ (s : Letters). s x) (sym e) ∙ h
 
-letter_extends : (m : Option ℕ) (x n : ℕ) (σ σ' : Letters) → σ x ≡ m → fits_letter m x n σ ≡ some σ' → Extends σ σ'
-letter_extends none x n σ σ' f e z k h = go (dec (eqb z x))
+letter_extends : (m : Option ℕ) (x n : ℕ) (σ σ' : Letters) → σ x ≡ m → fits_letter m x n σ ≡ Some σ' → Extends σ σ'
+letter_extends None x n σ σ' f e z k h = go (dec (eqb z x))
   where
-    go : (eqb z x ≡ true) ⊎ (eqb z x ≡ false) → σ' z ≡ some k
+    go : (eqb z x ≡ true) ⊎ (eqb z x ≡ false) → σ' z ≡ Some k
     go (inl p) = none≢some (sym f ∙ ap σ (sym (eqb-true z x p)) ∙ h)
-    go (inr p) = ap (λ (s : Letters). s z) (sym (some_inj e)) ∙ ap (λ c. cond c (some n) (σ z)) p ∙ h
-letter_extends (some m) x n σ σ' f e z k h = same_extends σ σ' (some_inj (guard_inv (eqb m n) (some σ) e).1) z k h
+    go (inr p) = ap (λ (s : Letters). s z) (sym (some_inj e)) ∙ ap (λ c. cond c (Some n) (σ z)) p ∙ h
+letter_extends (Some m) x n σ σ' f e z k h = same_extends σ σ' (some_inj (guard_inv (eqb m n) (Some σ) e).1) z k h
 
 -- a letter that fits stands for the term
-letter_bound : (m : Option ℕ) (x n : ℕ) (σ σ' : Letters) → σ x ≡ m → fits_letter m x n σ ≡ some σ' → σ' x ≡ some n
-letter_bound none x n σ σ' f e = ap (λ (s : Letters). s x) (sym (some_inj e)) ∙ ap (λ c. cond c (some n) (σ x)) (eqb_same x)
-letter_bound (some m) x n σ σ' f e =
-    let g = guard_inv (eqb m n) (some σ) e in
-    ap (λ (s : Letters). s x) (sym (some_inj g.1)) ∙ f ∙ ap some (eqb-true m n g.0)
+letter_bound : (m : Option ℕ) (x n : ℕ) (σ σ' : Letters) → σ x ≡ m → fits_letter m x n σ ≡ Some σ' → σ' x ≡ Some n
+letter_bound None x n σ σ' f e = ap (λ (s : Letters). s x) (sym (some_inj e)) ∙ ap (λ c. cond c (Some n) (σ x)) (eqb_same x)
+letter_bound (Some m) x n σ σ' f e =
+    let g = guard_inv (eqb m n) (Some σ) e in
+    ap (λ (s : Letters). s x) (sym (some_inj g.1)) ∙ f ∙ ap Some (eqb-true m n g.0)
 
 module _ (table : TermNo → Term) where
   -- what it means that the operator's pattern fits, field by field
@@ -115,19 +116,19 @@ module _ (table : TermNo → Term) where
     pub σ₂ : Letters
     pub σ₃ : Letters
     pub is : table n ≡ apply o arguments'
-    pub first : if_argument (arguments o).a (fits table k arguments'.a σ) (some σ) ≡ some σ₁
-    pub second : if_argument (arguments o).b (fits table l arguments'.b σ₁) (some σ₁) ≡ some σ₂
-    pub third : if_argument (arguments o).c (fits table m arguments'.c σ₂) (some σ₂) ≡ some σ₃
-    pub fourth : if_argument (arguments o).d (fits table j arguments'.d σ₃) (some σ₃) ≡ some σ'
+    pub first : if_argument (arguments o).a (fits table k arguments'.a σ) (Some σ) ≡ Some σ₁
+    pub second : if_argument (arguments o).b (fits table l arguments'.b σ₁) (Some σ₁) ≡ Some σ₂
+    pub third : if_argument (arguments o).c (fits table m arguments'.c σ₂) (Some σ₂) ≡ Some σ₃
+    pub fourth : if_argument (arguments o).d (fits table j arguments'.d σ₃) (Some σ₃) ≡ Some σ'
 
-  pub fields_inv : (o : Operator) (k l m j : Pattern) (n : TermNo) (σ σ' : Letters) → fits table (operator o k l m j) n σ ≡ some σ'
+  pub fields_inv : (o : Operator) (k l m j : Pattern) (n : TermNo) (σ σ' : Letters) → fits table (operator o k l m j) n σ ≡ Some σ'
       → OperatorFits o k l m j n σ σ'
   unfolding fits
   fields_inv o k l m j n σ σ' e =
       let i = then_inv (arguments_of o (table n)) _ e in
-      let f = then_inv (if_argument (arguments o).a (fits table k i.0.a σ) (some σ)) _ i.2 in
-      let g = then_inv (if_argument (arguments o).b (fits table l i.0.b f.0) (some f.0)) _ f.2 in
-      let h = then_inv (if_argument (arguments o).c (fits table m i.0.c g.0) (some g.0)) _ g.2 in
+      let f = then_inv (if_argument (arguments o).a (fits table k i.0.a σ) (Some σ)) _ i.2 in
+      let g = then_inv (if_argument (arguments o).b (fits table l i.0.b f.0) (Some f.0)) _ f.2 in
+      let h = then_inv (if_argument (arguments o).c (fits table m i.0.c g.0) (Some g.0)) _ g.2 in
       record {
         arguments' = i.0;
         σ₁ = f.0;
@@ -140,11 +141,11 @@ module _ (table : TermNo → Term) where
         fourth = h.2;
       }
 
-  field_extends : (fld : Argument) (m : Option Letters) (σ σ' : Letters) → if_argument fld m (some σ) ≡ some σ'
-      → (m ≡ some σ' → Extends σ σ') → Extends σ σ'
+  field_extends : (fld : Argument) (m : Option Letters) (σ σ' : Letters) → if_argument fld m (Some σ) ≡ Some σ'
+      → (m ≡ Some σ' → Extends σ σ') → Extends σ σ'
   field_extends fld m σ σ' e k = elim (if_argument_inv fld m σ σ' e) [ inl h ↦ k h | inr h ↦ same_extends σ σ' h ]
 
-  fits_extends : (k : Pattern) (n : TermNo) (σ σ' : Letters) → fits table k n σ ≡ some σ' → Extends σ σ'
+  fits_extends : (k : Pattern) (n : TermNo) (σ σ' : Letters) → fits table k n σ ≡ Some σ' → Extends σ σ'
   unfolding fits
   fits_extends (letter x) n σ σ' e = letter_extends (σ x) x n σ σ' refl e
   fits_extends (operator o k l m j) n σ σ' e =
@@ -225,7 +226,7 @@ module _ (table : TermNo → Term) (wf : WellFormed table) (H : FiniteHeap) (ρ 
 
   -- φ gives each letter the value of the term that it stands for
   abbrev pub Under : Letters → (ℕ → Value H) → Type 0
-  Under σ φ = (x m : ℕ) → σ x ≡ some m → φ x ≡ val m
+  Under σ φ = (x m : ℕ) → σ x ≡ Some m → φ x ≡ val m
 
   abbrev pub Fits : Pattern → TermNo → (ℕ → Value H) → Type 0
   Fits k n φ = (val n ≡ ⟦◌⟧ H k φ) × Sorted H k φ
@@ -236,12 +237,12 @@ module _ (table : TermNo → Term) (wf : WellFormed table) (H : FiniteHeap) (ρ 
       × Asked H (argument_use fld) (⟦◌⟧ H k φ) × IfArgument H fld (Sorted H k φ)
 
   field_fits : (fld : Argument) (k : Pattern) (t n : TermNo) (σ σ' : Letters) (φ : ℕ → Value H) → OkArgument table t fld n
-      → if_argument fld (fits table k n σ) (some σ) ≡ some σ' → (fits table k n σ ≡ some σ' → Fits k n φ) → FieldFits fld k n φ
+      → if_argument fld (fits table k n σ) (Some σ) ≡ Some σ' → (fits table k n σ ≡ Some σ' → Fits k n φ) → FieldFits fld k n φ
   unfolding result
   field_fits unused k t n σ σ' φ ok e f = (refl, tt, tt)
   field_fits (of s) k t n σ σ' φ ok e f = ((f e).0, sym (ap kind (f e).0) ∙ kind_value n ∙ ok.1, (f e).1)
 
-  pub fits_value : (k : Pattern) (n : TermNo) (σ σ' : Letters) → fits table k n σ ≡ some σ' → (φ : ℕ → Value H) → Under σ' φ → Fits k n φ
+  pub fits_value : (k : Pattern) (n : TermNo) (σ σ' : Letters) → fits table k n σ ≡ Some σ' → (φ : ℕ → Value H) → Under σ' φ → Fits k n φ
   unfolding fits
   fits_value (letter x) n σ σ' e φ u = (sym (u x n (letter_bound (σ x) x n σ σ' refl e)), tt)
   fits_value (operator o k l m j) n σ σ' e φ u =
@@ -263,7 +264,7 @@ module _ (table : TermNo → Term) (wf : WellFormed table) (H : FiniteHeap) (ρ 
       )
   fits_value – n σ σ' e φ u = none≢some e
 
-  pub literal_value : (l : LiteralPattern) (L : Literal) (σ σ' : Letters) → fits_literal table l L σ ≡ some σ' → (φ : ℕ → Value H) → Under σ' φ
+  pub literal_value : (l : LiteralPattern) (L : Literal) (σ σ' : Letters) → fits_literal table l L σ ≡ Some σ' → (φ : ℕ → Value H) → Under σ' φ
       → True ρ table L → (G : Type 0) → IfHolds H φ l G → G
   unfolding fits_literal
   literal_value (pattern R k l) (literal R' m n) σ σ' e φ u t G f =
@@ -273,34 +274,34 @@ module _ (table : TermNo → Term) (wf : WellFormed table) (H : FiniteHeap) (ρ 
       let L = fits_value l n h.0 σ' h.2 φ u in
       f K.1 L.1 (subst₃ (λ (Q : Relation) (x y : Value H). Holds Q x y) (sym (same_relation_lem R R' g.0)) K.0 L.0 t)
 
-  literal_extends : (l : LiteralPattern) (L : Literal) (σ σ' : Letters) → fits_literal table l L σ ≡ some σ' → Extends σ σ'
+  literal_extends : (l : LiteralPattern) (L : Literal) (σ σ' : Letters) → fits_literal table l L σ ≡ Some σ' → Extends σ σ'
   unfolding fits_literal
   literal_extends (pattern R k l) (literal R' m n) σ σ' e z i b =
       let g = guard_inv (same_relation R R') _ e in
       let h = then_inv (fits table k m σ) _ g.1 in
       fits_extends table l n h.0 σ' h.2 z i (fits_extends table k m σ h.0 h.1 z i b)
 
-  term_of_bound : (k : Pattern) (σ : Letters) (n : TermNo) → term_of table k σ ≡ some n → (φ : ℕ → Value H) → Under σ φ → ⟦◌⟧ H k φ ≡ val n
+  term_of_bound : (k : Pattern) (σ : Letters) (n : TermNo) → term_of table k σ ≡ Some n → (φ : ℕ → Value H) → Under σ φ → ⟦◌⟧ H k φ ≡ val n
   term_of_bound (letter x) σ n e φ u = u x n e
   term_of_bound (operator o k l m j) σ n e φ u = none≢some e
   term_of_bound – σ n e φ u = none≢some e
 
   -- where P and Q, if there are any, are true
   abbrev pub IfAny : Option Literal → Type 0
-  IfAny none = Unit {0}
-  IfAny (some L) = True ρ table L
+  IfAny None = Unit {0}
+  IfAny (Some L) = True ρ table L
 
   -- a literal on a true branch is true
-  pub literal_true : (B : List Literal) (n : ℕ) → AllTrue ρ table B → IfAny (get_elem? B n)
+  pub literal_true : (B : List Literal) (n : ℕ) → AllTrue ρ table B → IfAny (slice_get B n)
   literal_true [] n t = tt
   literal_true (l ∷ B) zero t = t.0
   literal_true (l ∷ B) (suc n) t = literal_true B n t.1
 
-  any_true_lem : (P : Option Literal) (L : Literal) → P ≡ some L → IfAny P → True ρ table L
+  any_true_lem : (P : Option Literal) (L : Literal) → P ≡ Some L → IfAny P → True ρ table L
   any_true_lem P L e h = subst IfAny e h
 
   module _ (P Q : Option Literal) where
-    pub met_extends : (ns : List Need) (σ σ' : Letters) → met table ns P Q σ ≡ some σ' → Extends σ σ'
+    pub met_extends : (ns : List Need) (σ σ' : Letters) → met table ns P Q σ ≡ Some σ' → Extends σ σ'
     unfolding met
     met_extends [] σ σ' e x m b = same_extends σ σ' (some_inj e) x m b
     met_extends (p∶ l ∷ ns) σ σ' e x m b =
@@ -320,7 +321,7 @@ module _ (table : TermNo → Term) (wf : WellFormed table) (H : FiniteHeap) (ρ 
         met_extends ns σ σ' (guard_inv (same_sort Sort.Region (sort_of (table n.0))) _ n.2).1 x m b
 
     -- needs that are met hold of the values
-    pub met_value : (ns : List Need) (σ σ' : Letters) → met table ns P Q σ ≡ some σ' → (φ : ℕ → Value H) → Under σ' φ
+    pub met_value : (ns : List Need) (σ σ' : Letters) → met table ns P Q σ ≡ Some σ' → (φ : ℕ → Value H) → Under σ' φ
         → IfAny P → IfAny Q → (G : Type 0) → IfMet H φ ns G → G
     unfolding met result
     met_value [] σ σ' e φ u hp hq G k = k

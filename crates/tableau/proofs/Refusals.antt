@@ -2,7 +2,7 @@
 use mathlib.Core.Path.{◌≡◌, refl}
 use mathlib.Core.Bool.{Bool, true, false}
 use mathlib.Core.Logic.{◌⊎◌, inl, inr}
-use mathlib.Core.Option.{Option, none, some}
+use Rattle.std.specs.Prelude.{Option, None, Some}
 use Prim.Native.Nat.{ℕ, suc, ◌≤◌}
 use native.Mathlib.Omega.{arith}
 use Rattle.tableau.specs.declared.Place.{Place}
@@ -53,8 +53,8 @@ module _ (Q : Reason → Type 0) where
   require_reason false r h = h
 
   pub require_some_reason : {A : Type 0} (o : Option A) (r : Reason) → Q r → OfReason Q (require_some o r)
-  require_some_reason none r h = h
-  require_some_reason (some x) r h = tt
+  require_some_reason None r h = h
+  require_some_reason (Some x) r h = tt
 
   pub require_open_reason : (s : Status) → Q Reason.TreeClosed → OfReason Q (require_open s)
   require_open_reason (is_open τ) h = tt

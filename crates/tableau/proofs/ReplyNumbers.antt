@@ -3,12 +3,13 @@ use mathlib.Core.Path.{◌≡◌, refl}
 use mathlib.Core.Bool.{Bool, true, false, cond}
 use mathlib.Core.List.{List, [], ◌∷◌}
 use mathlib.Core.Logic.{◌⊎◌, inl, inr}
-use mathlib.Core.Option.{Option, some}
+use Rattle.std.specs.Prelude.{Option, Some}
 use Prim.Native.Nat.{ℕ, zero, suc, ◌+◌, ◌≤◌, ◌<◌}
 use native.Mathlib.Decide.{ℕ_discrete}
 use native.Mathlib.Omega.{arith}
 use lib.Dec.{eqb, leb}
-use lib.ListN.{length, get_elem?}
+use lib.ListN.{length}
+use Rattle.std.specs.Prelude.{slice_get}
 use borrow.Author.Tests.{leb-true}
 use Rattle.tableau.specs.declared.Letter.{Letter}
 use Rattle.tableau.specs.declared.Reason.{Reason}
@@ -82,7 +83,7 @@ line_most N ((b ∷ bs) ∷ []) i (passed σ) h = omega arith
 line_most N (l ∷ m ∷ ls) i (passed σ) h = line_most N (m ∷ ls) (suc i) (run_line σ l) (omega arith)
 
 -- THE PLACE: one of the branch, where it is not 0
-inside : {l : Literal} (B : List Literal) (p : ℕ) → get_elem? B p ≡ some l → p < length B
+inside : {l : Literal} (B : List Literal) (p : ℕ) → slice_get B p ≡ Some l → p < length B
 inside [] p e = none≢some e
 inside (k ∷ B) zero e = omega arith
 inside (k ∷ B) (suc p) e = omega (arith, inside B p e)

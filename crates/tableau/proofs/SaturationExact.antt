@@ -2,13 +2,14 @@
 use mathlib.Core.Path.{◌≡◌, refl, sym, ◌∙◌, ap, subst}
 use mathlib.Core.Bool.{Bool, true, false, ◌&&◌, ◌||◌, false≢true}
 use mathlib.Core.List.{List, [], ◌∷◌, ◌++◌}
-use mathlib.Core.Option.{Option, none, some}
+use Rattle.std.specs.Prelude.{Option, None, Some}
 use mathlib.Core.Logic.{◌⊎◌, inl, inr}
 use Prim.Native.Nat.{ℕ, zero, suc, ◌≤◌, ◌<◌}
 use native.Mathlib.Nat.{not-suc-le-zero}
 use native.Mathlib.Omega.{arith}
 use lib.Dec.{eqb}
-use lib.ListN.{length, get_elem?}
+use lib.ListN.{length}
+use Rattle.std.specs.Prelude.{slice_get}
 use borrow.Author.Tests.{eqb-true, eq-eqb}
 use Rattle.tableau.specs.declared.Sort.{Sort}
 use Rattle.tableau.specs.declared.Operator.{Operator}
@@ -54,7 +55,7 @@ has_on (literal R' a' b' ∷ ls) R a b h = go (has_on ls R a b) (one_true _ _ h)
     go ih (inl p) =
         let q = both_true (same_relation R R') _ p in
         let r = both_true (eqb a a') _ q.1 in
-        (0, λ i. some (literal (sym (same_relation_lem R R' q.0) i) (sym (eqb-true a a' r.0) i) (sym (eqb-true b b' r.1) i)))
+        (0, λ i. Some (literal (sym (same_relation_lem R R' q.0) i) (sym (eqb-true a a' r.0) i) (sym (eqb-true b b' r.1) i)))
     go ih (inr p) = let k = ih p in (suc k.0, k.1)
 
 same_literal : {R R' : Relation} {a a' b b' : TermNo} → literal R a b ≡ literal R' a' b' → (R ≡ R') × (a ≡ a') × (b ≡ b')
@@ -65,7 +66,7 @@ here R R' a a' b b' e =
     let s = same_literal e in
     both_i (ap (same_relation R) s.0 ∙ relation_self R) (both_i (ap (eqb a) s.1 ∙ eqb_same a) (ap (eqb b) s.2 ∙ eqb_same b))
 
-pub on_has : (ls : List Literal) (R : Relation) (a b : TermNo) (i : ℕ) → get_elem? ls i ≡ some (literal R a b) → has ls R a b ≡ true
+pub on_has : (ls : List Literal) (R : Relation) (a b : TermNo) (i : ℕ) → slice_get ls i ≡ Some (literal R a b) → has ls R a b ≡ true
 unfolding has
 on_has [] R a b i e = none≢some e
 on_has (literal R' a' b' ∷ ls) R a b zero e = or_l _ (here R R' a a' b b' (some_inj e))
@@ -102,7 +103,7 @@ unfolding bound
 bound_table [] n t h = omega arith
 bound_table (literal R a b ∷ ls) n t h = let k = bound_table ls n t h in omega arith
 
-bound_literal : (ls : List Literal) (n i : ℕ) (R : Relation) (a b : TermNo) → get_elem? ls i ≡ some (literal R a b) → (a < bound ls n) × (b < bound ls n)
+bound_literal : (ls : List Literal) (n i : ℕ) (R : Relation) (a b : TermNo) → slice_get ls i ≡ Some (literal R a b) → (a < bound ls n) × (b < bound ls n)
 unfolding bound
 bound_literal [] n i R a b e = none≢some e
 bound_literal (literal R' a' b' ∷ ls) n zero R a b e =
@@ -189,18 +190,18 @@ module _ (table : Table) (branch : List Literal) where
   has_cons (literal R' a' b') ls R a b (inl h) = elim (one_true (same_relation R R' && (eqb a a' && eqb b b')) false h) [ inl p ↦ or_l _ p | inr p ↦ absurd (false≢true p) ]
   has_cons (literal R' a' b') ls R a b (inr h) = or_r (same_relation R R' && (eqb a a' && eqb b b')) h
 
-  picked : (known todo : List Literal) (x : Literal × List Literal) → next table branch known todo ≡ some x → Picked known todo x.0 x.1
+  picked : (known todo : List Literal) (x : Literal × List Literal) → next table branch known todo ≡ Some x → Picked known todo x.0 x.1
   unfolding next
   picked known [] x e = none≢some e
   picked known (l ∷ ls) x e = go (picked known ls) (one_step table branch known l) refl (next table branch known ls) refl e
     where
-      go : ((x : Literal × List Literal) → next table branch known ls ≡ some x → Picked known ls x.0 x.1) → (b : Bool) → one_step table branch known l ≡ b
-          → (m : Option (Literal × List Literal)) → next table branch known ls ≡ m → pick table branch known b l ls m ≡ some x → Picked known (l ∷ ls) x.0 x.1
+      go : ((x : Literal × List Literal) → next table branch known ls ≡ Some x → Picked known ls x.0 x.1) → (b : Bool) → one_step table branch known l ≡ b
+          → (m : Option (Literal × List Literal)) → next table branch known ls ≡ m → pick table branch known b l ls m ≡ Some x → Picked known (l ∷ ls) x.0 x.1
       go ih true p m q e =
           subst (λ (y : Literal × List Literal). Picked known (l ∷ ls) y.0 y.1) (some_inj e)
           (record { steps = p; shorter = refl; others = cons_has l ls })
-      go ih false p none q e = none≢some e
-      go ih false p (some y) q e =
+      go ih false p None q e = none≢some e
+      go ih false p (Some y) q e =
           let k = ih y q in
           subst (λ (y : Literal × List Literal). Picked known (l ∷ ls) y.0 y.1) (some_inj e)
           (record {
@@ -213,20 +214,20 @@ module _ (table : Table) (branch : List Literal) where
           })
 
   -- where none is picked, none follows in one step
-  none_picked : (known todo : List Literal) → next table branch known todo ≡ none → (R : Relation) (a b : TermNo) → has todo R a b ≡ true
+  none_picked : (known todo : List Literal) → next table branch known todo ≡ None → (R : Relation) (a b : TermNo) → has todo R a b ≡ true
       → one_step table branch known (literal R a b) ≡ true → ⊥
   unfolding next has
   none_picked known [] e R a b h s = false≢true h
   none_picked known (literal R' a' b' ∷ ls) e R a b h s =
       go (none_picked known ls) (one_step table branch known (literal R' a' b')) refl (next table branch known ls) refl e (one_true (same_relation R R' && (eqb a a' && eqb b b')) _ h)
     where
-      go : (next table branch known ls ≡ none → (R : Relation) (a b : TermNo) → has ls R a b ≡ true → one_step table branch known (literal R a b) ≡ true → ⊥)
+      go : (next table branch known ls ≡ None → (R : Relation) (a b : TermNo) → has ls R a b ≡ true → one_step table branch known (literal R a b) ≡ true → ⊥)
           → (c : Bool) → one_step table branch known (literal R' a' b') ≡ c → (m : Option (Literal × List Literal)) → next table branch known ls ≡ m
-          → pick table branch known c (literal R' a' b') ls m ≡ none → (same_relation R R' && (eqb a a' && eqb b b') ≡ true) ⊎ (has ls R a b ≡ true) → ⊥
+          → pick table branch known c (literal R' a' b') ls m ≡ None → (same_relation R R' && (eqb a a' && eqb b b') ≡ true) ⊎ (has ls R a b ≡ true) → ⊥
       go ih true p m q e k = none≢some (sym e)
-      go ih false p (some y) q e k = none≢some (sym e)
-      go ih false p none q e (inr k) = ih q R a b k s
-      go ih false p none q e (inl k) =
+      go ih false p (Some y) q e k = none≢some (sym e)
+      go ih false p None q e (inr k) = ih q R a b k s
+      go ih false p None q e (inl k) =
           let k₁ = both_true (same_relation R R') _ k in
           let k₂ = both_true (eqb a a') _ k₁.1 in
           let same : literal R a b ≡ literal R' a' b' = λ i. literal (same_relation_lem R R' k₁.0 i) (eqb-true a a' k₂.0 i) (eqb-true b b' k₂.1 i) in
@@ -237,7 +238,7 @@ module _ (table : Table) (branch : List Literal) where
       let o = has_on (literal R' a' b' ∷ []) R a b h in
       subst LiteralFollows (go o.0 o.1) f
     where
-      go : (i : ℕ) → get_elem? (literal R' a' b' ∷ []) i ≡ some (literal R a b) → literal R' a' b' ≡ literal R a b
+      go : (i : ℕ) → slice_get (literal R' a' b' ∷ []) i ≡ Some (literal R a b) → literal R' a' b' ≡ literal R a b
       go zero e = some_inj e
       go (suc i) e = none≢some e
 
@@ -248,9 +249,9 @@ module _ (table : Table) (branch : List Literal) where
     where
       go : ((known todo : List Literal) → AllFollow known → AllFollow (saturate table branch fuel known todo))
           → (m : Option (Literal × List Literal)) → next table branch known todo ≡ m
-          → AllFollow (elim m [ none ↦ known | some x ↦ saturate table branch fuel (x.0 ∷ known) x.1 ])
-      go ih none e = all
-      go ih (some x) e = ih (x.0 ∷ known) x.1 (λ R a b h. elim (cons_has x.0 known R a b h) [
+          → AllFollow (elim m [ None ↦ known | Some x ↦ saturate table branch fuel (x.0 ∷ known) x.1 ])
+      go ih None e = all
+      go ih (Some x) e = ih (x.0 ∷ known) x.1 (λ R a b h. elim (cons_has x.0 known R a b h) [
         | inl p ↦ one_follows x.0 (step_sound known all x.0 (picked known todo x e).steps) R a b p
         | inr p ↦ all R a b p
       ])
@@ -279,9 +280,9 @@ module _ (table : Table) (branch : List Literal) where
           → ((R : Relation) (a b : TermNo) → has (universe table branch) R a b ≡ true → (has known R a b ≡ true) ⊎ (has todo R a b ≡ true))
           → Saturated (saturate table branch fuel known todo))
           → (m : Option (Literal × List Literal)) → next table branch known todo ≡ m
-          → Saturated (elim m [ none ↦ known | some x ↦ saturate table branch fuel (x.0 ∷ known) x.1 ])
-      go ih none e = λ R a b u s. elim (all R a b u) [ inl p ↦ p | inr p ↦ absurd (none_picked known todo e R a b p s) ]
-      go ih (some x) e =
+          → Saturated (elim m [ None ↦ known | Some x ↦ saturate table branch fuel (x.0 ∷ known) x.1 ])
+      go ih None e = λ R a b u s. elim (all R a b u) [ inl p ↦ p | inr p ↦ absurd (none_picked known todo e R a b p s) ]
+      go ih (Some x) e =
           let k = picked known todo x e in
           let len' : length todo ≡ suc (length x.1) = k.shorter in
           ih (x.0 ∷ known) x.1 (omega arith) (λ R a b u. elim (all R a b u) [
@@ -442,7 +443,7 @@ module _ (table : Table) (branch : List Literal) where
       go ih (inl p) = (l, (0, refl), p)
       go ih (inr p) = let k = ih p in (k.0, (suc k.1.0, k.1.1), k.2)
 
-  denies_in : (ls : List Literal) (i : ℕ) (l : Literal) → get_elem? ls i ≡ some l → denies table branch (closure table branch) l ≡ true
+  denies_in : (ls : List Literal) (i : ℕ) (l : Literal) → slice_get ls i ≡ Some l → denies table branch (closure table branch) l ≡ true
       → any_denies table branch (closure table branch) ls ≡ true
   unfolding any_denies
   denies_in [] i l e h = none≢some e

@@ -2,7 +2,7 @@
 use mathlib.Core.Path.{◌≡◌, refl, subst}
 use mathlib.Core.Bool.{Bool, true, false, ◌||◌}
 use mathlib.Core.List.{List, [], ◌∷◌}
-use mathlib.Core.Option.{Option, some}
+use Rattle.std.specs.Prelude.{Option, Some}
 use Prim.Native.Nat.{ℕ, ◌≤◌}
 use native.Mathlib.Omega.{arith}
 use lib.Dec.{eqb}
@@ -17,14 +17,14 @@ module _ {L : Type 0} (limit : ℕ) (first : List ℕ → Option L) where
     pub letter_text : List ℕ
     pub texts : Four (List ℕ)
     pub pieces : ps ≡ letter_text ∷ l.word ∷ texts.a ∷ texts.b ∷ texts.c ∷ texts.d ∷ []
-    pub letter : first letter_text ≡ some l.letter
+    pub letter : first letter_text ≡ Some l.letter
     pub word : is_word l.word ≡ true
-    pub a : number limit texts.a ≡ some l.fields.a
-    pub b : number limit texts.b ≡ some l.fields.b
-    pub c : number limit texts.c ≡ some l.fields.c
-    pub d : number limit texts.d ≡ some l.fields.d
+    pub a : number limit texts.a ≡ Some l.fields.a
+    pub b : number limit texts.b ≡ Some l.fields.b
+    pub c : number limit texts.c ≡ Some l.fields.c
+    pub d : number limit texts.d ≡ Some l.fields.d
 
-  pub six_fields_lem : {l : Line L} (ps : List (List ℕ)) → six_fields limit first ps ≡ some l → SixFields ps l
+  pub six_fields_lem : {l : Line L} (ps : List (List ℕ)) → six_fields limit first ps ≡ Some l → SixFields ps l
   unfolding six_fields
   six_fields_lem [] e = none≢some e
   six_fields_lem (k ∷ []) e = none≢some e
@@ -44,7 +44,7 @@ module _ {L : Type 0} (limit : ℕ) (first : List ℕ → Option L) where
   six_fields_lem (k ∷ w ∷ a ∷ b ∷ c ∷ d ∷ x ∷ xs) e = none≢some e
 
 -- HOW LONG a number and a word are at least
-pub some_digit : (limit : ℕ) (p : List ℕ) {n : ℕ} → number limit p ≡ some n → 1 ≤ length p
+pub some_digit : (limit : ℕ) (p : List ℕ) {n : ℕ} → number limit p ≡ Some n → 1 ≤ length p
 unfolding number
 some_digit limit [] e = none≢some e
 some_digit limit (b ∷ p) e = omega arith

@@ -2,7 +2,7 @@
 use mathlib.Core.Path.{◌≡◌, refl, sym, ◌∙◌, ap, subst}
 use mathlib.Core.Bool.{true, false, true≢false, false≢true}
 use mathlib.Core.List.{List, [], ◌∷◌, ◌++◌, append_assoc, append-nil}
-use mathlib.Core.Option.{Option, none, some}
+use Rattle.std.specs.Prelude.{Option, None, Some}
 use mathlib.Core.Logic.{◌⊎◌, inl, inr}
 use Prim.Native.Nat.{ℕ, suc, ◌≤◌}
 use native.Mathlib.Omega.{arith}
@@ -48,24 +48,24 @@ term_ok table (Word.Operation o) n h k =
       argument_ok table (arguments o).d n.d a.3 b.3,
     )
 
-pub is_none : {A : Type 0} (m : Option A) → is_some m ≡ false → m ≡ none
-is_none none e = refl
-is_none (some x) e = absurd (true≢false e)
+pub is_none : {A : Type 0} (m : Option A) → is_some m ≡ false → m ≡ None
+is_none None e = refl
+is_none (Some x) e = absurd (true≢false e)
 
-pub line_term_lem : {σ σ' : State} {l : List ℕ} (p : LinePassed σ l σ') → line_term (shape letters l) ≡ command_term (some p.command) p.line.fields
+pub line_term_lem : {σ σ' : State} {l : List ℕ} (p : LinePassed σ l σ') → line_term (shape letters l) ≡ command_term (Some p.command) p.line.fields
 line_term_lem p = ap line_term p.shaped ∙ ap (λ m. command_term m p.line.fields) p.known
 
-pub line_literal_lem : {σ σ' : State} {l : List ℕ} (p : LinePassed σ l σ') → line_literal (shape letters l) ≡ command_literal (some p.command) p.line.fields
+pub line_literal_lem : {σ σ' : State} {l : List ℕ} (p : LinePassed σ l σ') → line_literal (shape letters l) ≡ command_literal (Some p.command) p.line.fields
 line_literal_lem p = ap line_literal p.shaped ∙ ap (λ m. command_literal m p.line.fields) p.known
 
-pub line_disjunct_lem : {σ σ' : State} {l : List ℕ} (p : LinePassed σ l σ') → line_disjunct (shape letters l) ≡ command_disjunct (some p.command) p.line.fields
+pub line_disjunct_lem : {σ σ' : State} {l : List ℕ} (p : LinePassed σ l σ') → line_disjunct (shape letters l) ≡ command_disjunct (Some p.command) p.line.fields
 line_disjunct_lem p = ap line_disjunct p.shaped ∙ ap (λ m. command_disjunct m p.line.fields) p.known
 
 -- a line adds its term, if it has one, and the table stays well formed
 pub line_table : {σ σ' : State} {l : List ℕ} (p : LinePassed σ l σ') → σ'.table ≡ σ.table ++ line_term (shape letters l)
 line_table {σ} {σ'} p = go p.command p.run.did ∙ ap (λ x. σ.table ++ x) (sym (line_term_lem p))
   where
-    go : (c : Command) → Did σ p.tree c p.line.fields σ' → σ'.table ≡ σ.table ++ command_term (some c) p.line.fields
+    go : (c : Command) → Did σ p.tree c p.line.fields σ' → σ'.table ≡ σ.table ++ command_term (Some c) p.line.fields
     go (make w) d = d.0.after
     go (assume R) d = d.0 ∙ sym (append-nil σ.table)
     go (disjoin R) d = d.0 ∙ sym (append-nil σ.table)
@@ -75,7 +75,7 @@ line_table {σ} {σ'} p = go p.command p.run.did ∙ ap (λ x. σ.table ++ x) (s
 pub line_clauses : {σ σ' : State} {l : List ℕ} (p : LinePassed σ l σ') → σ'.clauses ≡ σ.clauses ++ line_disjunct (shape letters l)
 line_clauses {σ} {σ'} p = go p.command p.run.did ∙ ap (λ x. σ.clauses ++ x) (sym (line_disjunct_lem p))
   where
-    go : (c : Command) → Did σ p.tree c p.line.fields σ' → σ'.clauses ≡ σ.clauses ++ command_disjunct (some c) p.line.fields
+    go : (c : Command) → Did σ p.tree c p.line.fields σ' → σ'.clauses ≡ σ.clauses ++ command_disjunct (Some c) p.line.fields
     go (make w) d = d.2 ∙ sym (append-nil σ.clauses)
     go (assume R) d = d.3 ∙ sym (append-nil σ.clauses)
     go (disjoin R) d = d.2.after

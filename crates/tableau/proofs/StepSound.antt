@@ -2,13 +2,14 @@
 use mathlib.Core.Path.{◌≡◌, refl, sym, ◌∙◌, ap, subst, fun_ext}
 use mathlib.Core.Bool.{Bool, true, false, ◌&&◌, cond, false≢true}
 use mathlib.Core.List.{List, [], ◌∷◌, map}
-use mathlib.Core.Option.{Option, none, some}
+use Rattle.std.specs.Prelude.{Option, None, Some}
 use mathlib.Core.Logic.{◌⊎◌, inl, inr}
 use Prim.Native.Nat.{ℕ, zero, suc, ◌+◌, ◌<◌}
 use native.Mathlib.Nat.{add-zero}
 use native.Mathlib.Omega.{arith}
 use lib.Dec.{eqb}
-use lib.ListN.{get_elem?, length}
+use lib.ListN.{length}
+use Rattle.std.specs.Prelude.{slice_get}
 use borrow.Author.Tests.{eqb-true, leb-true}
 use Rattle.tableau.specs.declared.Sort.{Sort}
 use Rattle.tableau.specs.declared.Operator.{Operator}
@@ -50,17 +51,17 @@ one_more : (k : ℕ) → 1 + k ≡ suc k
 one_more k = omega arith
 
 -- what is found stands there
-number_at : (i : ℕ) (xs : Table) (e : Term) (j : ℕ) → number_from i xs e ≡ some j → (k : ℕ) × (j ≡ i + k) × (at xs (suc k) ≡ e)
+number_at : (i : ℕ) (xs : Table) (e : Term) (j : ℕ) → number_from i xs e ≡ Some j → (k : ℕ) × (j ≡ i + k) × (at xs (suc k) ≡ e)
 unfolding number_from
 number_at i [] e j h = none≢some h
 number_at i (x ∷ xs) e j h = go (number_at (suc i) xs e j) (same_term e x) refl h
   where
-    go : (number_from (suc i) xs e ≡ some j → (k : ℕ) × (j ≡ suc i + k) × (at xs (suc k) ≡ e)) → (b : Bool) → same_term e x ≡ b
-        → cond b (some i) (number_from (suc i) xs e) ≡ some j → (k : ℕ) × (j ≡ i + k) × (at (x ∷ xs) (suc k) ≡ e)
+    go : (number_from (suc i) xs e ≡ Some j → (k : ℕ) × (j ≡ suc i + k) × (at xs (suc k) ≡ e)) → (b : Bool) → same_term e x ≡ b
+        → cond b (Some i) (number_from (suc i) xs e) ≡ Some j → (k : ℕ) × (j ≡ i + k) × (at (x ∷ xs) (suc k) ≡ e)
     go ih true q h = (0, sym (some_inj h) ∙ sym (add-zero i), sym (same_term_lem e x q))
     go ih false q h = let r = ih h in (suc r.0, r.1 ∙ shift i r.0, r.2)
 
-found_at : (table : Table) (e : Term) (j : TermNo) → number_of table e ≡ some j → at table j ≡ e
+found_at : (table : Table) (e : Term) (j : TermNo) → number_of table e ≡ Some j → at table j ≡ e
 found_at table e j h = let r = number_at 1 table e j h in ap (at table) (r.1 ∙ one_more r.0) ∙ r.2
 
 module _ (table : Table) (C : Clauses) (H : FiniteHeap) where
@@ -73,8 +74,8 @@ module _ (table : Table) (C : Clauses) (wf : WellFormed (at table)) (H : FiniteH
   module _ (ρ : Values H) where
     -- the value of the term that a letter stands for
     abbrev letter_value : Option TermNo → Value H
-    letter_value none = reference H.nul
-    letter_value (some n) = value ρ (at table) n
+    letter_value None = reference H.nul
+    letter_value (Some n) = value ρ (at table) n
 
     abbrev φ : Letters → ℕ → Value H
     φ σ x = letter_value (σ x)
@@ -83,20 +84,20 @@ module _ (table : Table) (C : Clauses) (wf : WellFormed (at table)) (H : FiniteH
     under σ x m e = ap letter_value e
 
     -- the value of a field of a term that is made
-    field_made : (fld : Argument) (k : Pattern) (σ : Letters) (n : TermNo) → if_argument fld (made table k σ) (some 0) ≡ some n
-        → (made table k σ ≡ some n → value ρ (at table) n ≡ ⟦◌⟧ H k (φ σ))
+    field_made : (fld : Argument) (k : Pattern) (σ : Letters) (n : TermNo) → if_argument fld (made table k σ) (Some 0) ≡ Some n
+        → (made table k σ ≡ Some n → value ρ (at table) n ≡ ⟦◌⟧ H k (φ σ))
         → if_argument fld (value ρ (at table) n) (reference H.nul) ≡ if_argument fld (⟦◌⟧ H k (φ σ)) (reference H.nul)
     field_made unused k σ n e f = refl
     field_made (of s) k σ n e f = f e
 
-    made_value : (k : Pattern) (σ : Letters) (n : TermNo) → made table k σ ≡ some n → value ρ (at table) n ≡ ⟦◌⟧ H k (φ σ)
+    made_value : (k : Pattern) (σ : Letters) (n : TermNo) → made table k σ ≡ Some n → value ρ (at table) n ≡ ⟦◌⟧ H k (φ σ)
     unfolding made
     made_value (letter x) σ n e = sym (under σ x n e)
     made_value (operator o k l m j) σ n e =
-        let a = then_inv (if_argument (arguments o).a (made table k σ) (some 0)) _ e in
-        let b = then_inv (if_argument (arguments o).b (made table l σ) (some 0)) _ a.2 in
-        let c = then_inv (if_argument (arguments o).c (made table m σ) (some 0)) _ b.2 in
-        let d = then_inv (if_argument (arguments o).d (made table j σ) (some 0)) _ c.2 in
+        let a = then_inv (if_argument (arguments o).a (made table k σ) (Some 0)) _ e in
+        let b = then_inv (if_argument (arguments o).b (made table l σ) (Some 0)) _ a.2 in
+        let c = then_inv (if_argument (arguments o).c (made table m σ) (Some 0)) _ b.2 in
+        let d = then_inv (if_argument (arguments o).d (made table j σ) (Some 0)) _ c.2 in
         value_apply (at table) wf H ρ n o (four a.0 b.0 c.0 d.0) (found_at table (apply o (four a.0 b.0 c.0 d.0)) n d.2)
         ∙ (λ i. operation H o (four
         (field_made (arguments o).a k σ a.0 a.1 (made_value k σ a.0) i) (field_made (arguments o).b l σ b.0 b.1 (made_value l σ b.0) i)
@@ -104,7 +105,7 @@ module _ (table : Table) (C : Clauses) (wf : WellFormed (at table)) (H : FiniteH
     made_value – σ n e = none≢some e
 
     -- where the literals made cannot all be true, the patterns cannot all hold
-    literals_made : (ls : List LiteralPattern) (σ : Letters) (k : List Literal) → made_literals table ls σ ≡ some k
+    literals_made : (ls : List LiteralPattern) (σ : Letters) (k : List Literal) → made_literals table ls σ ≡ Some k
         → (AllTrue ρ (at table) k → ⊥) → CannotHold H (φ σ) ls
     unfolding made_literals
     literals_made [] σ k e f = f (subst (AllTrue ρ (at table)) (some_inj e) tt)
@@ -119,7 +120,7 @@ module _ (table : Table) (C : Clauses) (wf : WellFormed (at table)) (H : FiniteH
         )))
 
   refuted_alternatives : (ρ : Values H) (B : List Literal) → EveryClauseTrue ρ (at table) C → AllTrue ρ (at table) B → (ls : List (List LiteralPattern)) (σ : Letters) (ks : List (List Literal))
-      → made_alternatives table ls σ ≡ some ks → Refuted table C H B ks → SomeHolds H false (φ ρ σ) ls → ⊥
+      → made_alternatives table ls σ ≡ Some ks → Refuted table C H B ks → SomeHolds H false (φ ρ σ) ls → ⊥
   unfolding made_alternatives
   refuted_alternatives ρ B u t [] σ ks e r s = s
   refuted_alternatives ρ B u t (l ∷ ls) σ ks e r s =
@@ -130,17 +131,17 @@ module _ (table : Table) (C : Clauses) (wf : WellFormed (at table)) (H : FiniteH
 
   -- a fresh w: the refuted_alternatives are refuted at each value that it may take
   module _ (B : List Literal) (w : TermNo) (n : ℕ) (is-w : at table w ≡ variable Sort.Reference n) (absent : mentioned (at table) w (disjuncts C) ≡ false)
-      (new : mentioned (at table) w B ≡ false) (ρ : Values H) (u : EveryClauseTrue ρ (at table) C) (t : AllTrue ρ (at table) B) (σ : Letters) (σw : σ letter_w ≡ some w) (clean : Clean (at table) wf w n is-w σ) where
+      (new : mentioned (at table) w B ≡ false) (ρ : Values H) (u : EveryClauseTrue ρ (at table) C) (t : AllTrue ρ (at table) B) (σ : Letters) (σw : σ letter_w ≡ Some w) (clean : Clean (at table) wf w n is-w σ) where
     -- what the letters stand for, where w takes the value x
     moved : (x : Ref H) (z : ℕ) (o : Option TermNo) → σ z ≡ o → (eqb z letter_w ≡ true) ⊎ (eqb z letter_w ≡ false)
         → letter_value (with_rfv ρ n x) o ≡ cond (eqb z letter_w) (reference x) (letter_value ρ o)
     moved x z o e (inl p) = ap (letter_value (with_rfv ρ n x)) (sym e ∙ ap σ (eqb-true z letter_w p) ∙ σw)
         ∙ w_value (at table) wf w n is-w H ρ x ∙ sym (ap (λ b. cond b (reference x) (letter_value ρ o)) p)
-    moved x z none e (inr p) = sym (ap (λ b. cond b (reference x) (reference H.nul)) p)
-    moved x z (some m) e (inr p) = same_value (at table) wf w n is-w H ρ x m (clean z m p e)
+    moved x z None e (inr p) = sym (ap (λ b. cond b (reference x) (reference H.nul)) p)
+    moved x z (Some m) e (inr p) = same_value (at table) wf w n is-w H ρ x m (clean z m p e)
         ∙ sym (ap (λ b. cond b (reference x) (value ρ (at table) m)) p)
 
-    refuted_alternatives_fresh : (ls : List (List LiteralPattern)) (ks : List (List Literal)) → made_alternatives table ls σ ≡ some ks
+    refuted_alternatives_fresh : (ls : List (List LiteralPattern)) (ks : List (List Literal)) → made_alternatives table ls σ ≡ Some ks
         → Refuted table C H B ks → SomeHolds H true (φ ρ σ) ls → ⊥
     unfolding made_alternatives
     refuted_alternatives_fresh [] ks e r s = s
@@ -167,9 +168,9 @@ fresh_inv table C B w h =
   where
     go : (b : Bool) (p : Option ℕ) (c : Bool) → require_fresh true (fresh_if b p c) ≡ passed tt → (b ≡ true) × (c ≡ false) × (is_some p ≡ false)
     go false p c h = refused≢passed h
-    go true (some p) c h = refused≢passed h
-    go true none true h = refused≢passed h
-    go true none false h = (refl, refl, refl)
+    go true (Some p) c h = refused≢passed h
+    go true None true h = refused≢passed h
+    go true None false h = (refl, refl, refl)
 
 module _ (table : Table) (C : Clauses) (wf : WellFormed (at table)) (H : FiniteHeap) (ρ : Values H) where
   place_true : (B : List Literal) (n : ℕ) → AllTrue ρ (at table) B → IfAny (at table) wf H ρ (literal_at B n)
@@ -178,7 +179,7 @@ module _ (table : Table) (C : Clauses) (wf : WellFormed (at table)) (H : FiniteH
 
   -- a literal on a branch without w is without w
   literal_without : (w : TermNo) (n : ℕ) (is-w : at table w ≡ variable Sort.Reference n) (B : List Literal) (k : ℕ) → mentioned (at table) w B ≡ false
-      → WithoutAny (at table) wf w n is-w (get_elem? B k)
+      → WithoutAny (at table) wf w n is-w (slice_get B k)
   literal_without w n is-w [] k h = tt
   literal_without w n is-w (literal R a b ∷ B) zero h =
       let c = (not_mentioned (at table) w (literal R a b) B h).0 in
@@ -198,14 +199,14 @@ module _ (table : Table) (C : Clauses) (wf : WellFormed (at table)) (H : FiniteH
     Q = literal_at B q
 
     given_clean : (n : ℕ) (is-w : at table w ≡ variable Sort.Reference n) → Clean (at table) wf w n is-w (given true T w)
-    given_clean n is-w z m h e = none≢some (sym (ap (λ b. cond b (some w) none) h) ∙ e)
+    given_clean n is-w z m h e = none≢some (sym (ap (λ b. cond b (Some w) None) h) ∙ e)
 
     -- a row, with the sorts that are asked of t and w
     row_sound : (k : Four Use) (fresh : Bool) (ns : List Need) (ads : List (List LiteralPattern)) → RowSound H k (record { needs = ns; fresh = fresh; adds = ads })
         → Asked H k.c (value ρ (at table) T) → Asked H k.d (value ρ (at table) w)
-        → (σ : Letters) → met (at table) ns P Q (given fresh T w) ≡ some σ
+        → (σ : Letters) → met (at table) ns P Q (given fresh T w) ≡ Some σ
         → require_fresh fresh (freshness table C B w) ≡ passed tt
-        → (ls : List (List Literal)) → made_alternatives table ads σ ≡ some ls → Refuted table C H B ls → ⊥
+        → (ls : List (List Literal)) → made_alternatives table ads σ ≡ Some ls → Refuted table C H B ls → ⊥
     row_sound k false ns ads s a_t aw σ e f ls m r =
         let x : Extends (given false T w) σ = met_extends (at table) wf H ρ P Q ns (given false T w) σ e in
         let z = under table C wf H ρ σ in
@@ -224,8 +225,8 @@ module _ (table : Table) (C : Clauses) (wf : WellFormed (at table)) (H : FiniteH
 
     -- what a rule concludes: where its refuted_alternatives are refuted, the branch is not true
     abbrev Sound : Option Conclusion → Type 0
-    Sound m = (c : Conclusion) → m ≡ some c → require_fresh c.fresh (freshness table C B w) ≡ passed tt
-        → (ls : List (List Literal)) → c.adds ≡ some ls → Refuted table C H B ls → ⊥
+    Sound m = (c : Conclusion) → m ≡ Some c → require_fresh c.fresh (freshness table C B w) ≡ passed tt
+        → (ls : List (List Literal)) → c.adds ≡ Some ls → Refuted table C H B ls → ⊥
 
     rows_sound : (k : Four Use) → Asked H k.c (value ρ (at table) T) → Asked H k.d (value ρ (at table) w) → (Rs : List Row) → RowsSound H k Rs
         → Sound (conclude_rows table P Q T w Rs)
@@ -234,18 +235,18 @@ module _ (table : Table) (C : Clauses) (wf : WellFormed (at table)) (H : FiniteH
     rows_sound k a_t aw (R ∷ Rs) s c e f ls m r =
         go (rows_sound k a_t aw Rs s.1 c) (met (at table) R.needs P Q (given R.fresh T w)) refl e
       where
-        go : (conclude_rows table P Q T w Rs ≡ some c → require_fresh c.fresh (freshness table C B w) ≡ passed tt
-            → (ls : List (List Literal)) → c.adds ≡ some ls → Refuted table C H B ls → ⊥)
+        go : (conclude_rows table P Q T w Rs ≡ Some c → require_fresh c.fresh (freshness table C B w) ≡ passed tt
+            → (ls : List (List Literal)) → c.adds ≡ Some ls → Refuted table C H B ls → ⊥)
             → (o : Option Letters) → met (at table) R.needs P Q (given R.fresh T w) ≡ o
-            → or_else table P Q T w o R (conclude_rows table P Q T w Rs) ≡ some c → ⊥
-        go ih none h e = ih e f ls m r
-        go ih (some σ) h e =
+            → or_else table P Q T w o R (conclude_rows table P Q T w Rs) ≡ Some c → ⊥
+        go ih None h e = ih e f ls m r
+        go ih (Some σ) h e =
             let c' = some_inj e in
             row_sound k R.fresh R.needs R.adds s.0 a_t aw σ h
             (ap (λ (d : Conclusion). require_fresh d.fresh (freshness table C B w)) c' ∙ f) ls (ap (λ (d : Conclusion). d.adds) c' ∙ m) r
 
     -- one literal, true
-    one_sound : (l : Literal) → True ρ (at table) l → Sound (some (adds_one l))
+    one_sound : (l : Literal) → True ρ (at table) l → Sound (Some (adds_one l))
     one_sound l h c e f ls m r =
         let q : (l ∷ []) ∷ [] ≡ ls = some_inj (ap (λ (d : Conclusion). d.adds) (some_inj e) ∙ m) in
         let r' : Refuted table C H B ((l ∷ []) ∷ []) = subst (Refuted table C H B) (sym q) r in
@@ -305,7 +306,7 @@ module _ (table : Table) (C : Clauses) (wf : WellFormed (at table)) (H : FiniteH
     any_refuted (l ∷ D) (inl h) r = r.0 ρ u t (h, tt)
     any_refuted (l ∷ D) (inr h) r = any_refuted D h r.1
 
-    cla_sound : 0 < length (clause_of C T) → Sound (some (splits_into (clause_of C T)))
+    cla_sound : 0 < length (clause_of C T) → Sound (Some (splits_into (clause_of C T)))
     cla_sound n c e f ls m r =
         let q : map (λ l. l ∷ []) (clause_of C T) ≡ ls = some_inj (ap (λ (d : Conclusion). d.adds) (some_inj e) ∙ m) in
         any_refuted (clause_of C T) (u T n) (subst (Refuted table C H B) (sym q) r)

@@ -2,7 +2,7 @@
 use mathlib.Core.Path.{◌≡◌, refl, sym, ◌∙◌, ap, subst}
 use mathlib.Core.Bool.{Bool, true, false, cond, true≢false}
 use mathlib.Core.List.{[], ◌∷◌, ◌++◌}
-use mathlib.Core.Option.{none, some}
+use Rattle.std.specs.Prelude.{None, Some}
 use mathlib.Core.Logic.{◌⊎◌, inl, inr}
 use Prim.Native.Nat.{ℕ, zero, suc, ◌<◌, ◌≤◌}
 use native.Mathlib.Nat.{not-suc-le-zero}
@@ -48,13 +48,13 @@ same_term_refl (apply o k) =
     both_i (eqb_same (operator_index o)) (both_i (eqb_same k.a) (both_i (eqb_same k.b) (both_i (eqb_same k.c) (eqb_same k.d))))
 
 -- what is not found does not stand there
-not_found : (i : ℕ) (table : Table) (e : Term) → number_from i table e ≡ none → (k : ℕ) → k < length table → at table (suc k) ≡ e → ⊥
+not_found : (i : ℕ) (table : Table) (e : Term) → number_from i table e ≡ None → (k : ℕ) → k < length table → at table (suc k) ≡ e → ⊥
 unfolding number_from
 not_found i [] e h k l q = not-suc-le-zero l
 not_found i (x ∷ xs) e h k l q = go (not_found (suc i) xs e) k l q (same_term e x) refl h
   where
-    go : (number_from (suc i) xs e ≡ none → (k : ℕ) → k < length xs → at xs (suc k) ≡ e → ⊥) → (k : ℕ) → k < suc (length xs) → at (x ∷ xs) (suc k) ≡ e
-        → (b : Bool) → same_term e x ≡ b → cond b (some i) (number_from (suc i) xs e) ≡ none → ⊥
+    go : (number_from (suc i) xs e ≡ None → (k : ℕ) → k < length xs → at xs (suc k) ≡ e → ⊥) → (k : ℕ) → k < suc (length xs) → at (x ∷ xs) (suc k) ≡ e
+        → (b : Bool) → same_term e x ≡ b → cond b (Some i) (number_from (suc i) xs e) ≡ None → ⊥
     go ih k l q true s h = none≢some (sym h)
     go ih zero l q false s h = clash (ap (same_term e) q ∙ same_term_refl e) s
     go ih (suc k) l q false s h = ih h k (omega arith) q
@@ -84,7 +84,7 @@ no_variable e s n p q = let z : true ≡ false = cc in absurd (true≢false z)
 pub empty_well_formed : WellFormed (at [])
 empty_well_formed = record { ok = λ t. ok_no_term (at []) t; unique = λ t t' s n p q. no_variable no_term s n refl p }
 
-module _ (table : Table) (e : Term) (wf : WellFormed (at table)) (ok : OkTerm (at table) (suc (length table)) e) (new : number_of table e ≡ none) where
+module _ (table : Table) (e : Term) (wf : WellFormed (at table)) (ok : OkTerm (at table) (suc (length table)) e) (new : number_of table e ≡ None) where
   abbrev n : ℕ
   n = length table
 

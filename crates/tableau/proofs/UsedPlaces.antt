@@ -2,7 +2,7 @@
 use mathlib.Core.Path.{◌≡◌, refl, sym, ◌∙◌, ap, subst}
 use mathlib.Core.Bool.{Bool, true, false}
 use mathlib.Core.List.{List, [], ◌∷◌}
-use mathlib.Core.Option.{Option, none, some}
+use Rattle.std.specs.Prelude.{Option, None, Some}
 use mathlib.Core.Logic.{inl, inr, ⊎_elim}
 use Prim.Native.Nat.{ℕ, zero, suc, ◌+◌}
 use native.Mathlib.Omega.{arith}
@@ -56,9 +56,9 @@ fresh_says true table C B w = go (is_rfv (at table w)) refl (first_place (at tab
     go : (b : Bool) → is_rfv (at table w) ≡ b → (p : Option Place) → first_place (at table) w B ≡ p → (c : Bool) → mentioned (at table) w (disjuncts C) ≡ c
         → OfReason (ReasonSays (PlaceSays table C B w)) (require_fresh true (fresh_if b p c))
     go false i p e c m = inl i
-    go true i (some p) e c m = at_place p i (first_mention table w B p e)
-    go true i none e true m = inr (m, no_mention table w B e)
-    go true i none e false m = tt
+    go true i (Some p) e c m = at_place p i (first_mention table w B p e)
+    go true i None e true m = inr (m, no_mention table w B e)
+    go true i None e false m = tt
 
 -- A LINE, where the tree is open: only a step's reason has a place
 abbrev OpenPlace : State → Tree → Command → Four ℕ → Place → Type 0

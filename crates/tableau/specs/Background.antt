@@ -1,7 +1,7 @@
 -- Document 02, 'Let the checker close on equalities by itself': `bck`. The equalities and the order of classes that follow from a branch, and when it closes.
 use Rattle.std.specs.Prelude.{◌≡◌, true, List, ℕ}
-use Rattle.std.proofs.Math.Option.{some}
-use Rattle.std.proofs.Math.ListN.{get_elem?}
+use Rattle.std.specs.Prelude.{Some}
+use Rattle.std.specs.Prelude.{slice_get}
 use Rattle.tableau.specs.declared.Sort.{Sort}
 use Rattle.tableau.specs.declared.Operator.{Operator}
 use Rattle.tableau.specs.declared.Relation.{Relation}
@@ -11,7 +11,7 @@ use Rattle.tableau.specs.Steps.{takes_terms}
 
 -- the literal stands on the branch
 abbrev pub On : List Literal → Literal → Type 0
-On branch l = (i : ℕ) × (get_elem? branch i ≡ some l)
+On branch l = (i : ℕ) × (slice_get branch i ≡ Some l)
 
 -- THE TWO RELATIONS, `Follows table branch Relation.Eq` and `Follows table branch Relation.Le`: "the smallest pair of relations over the terms in the table that holds the branch's eq
 -- and le literals and is closed under `ref`, `sym` on eq, `trn`, `sub` with several differing arguments at once, `ler`, `let`, `lea`, and putting equals for equals in le". A line for each; what no

@@ -1,22 +1,22 @@
 -- What the files of the specification share: optional values, the four number fields of a line, quoted text as bytes.
 use Rattle.std.specs.Prelude.{Bool, true, false, ◌&&◌, List, [], ◌∷◌, ℕ, eqb}
-use Rattle.std.proofs.Math.Option.{Option, none, some}
+use Rattle.std.specs.Prelude.{Option, None, Some}
 use Prim.Native.Char.{code}
 use Prim.Native.String.{String}
 
 -- go on with the value, if there is one
 abbrev pub then : {A B : Type 0} → Option A → (A → Option B) → Option B
-then none k = none
-then (some x) k = k x
+then None k = None
+then (Some x) k = k x
 
 -- go on if the test holds
 abbrev pub guard : {A : Type 0} → Bool → Option A → Option A
 guard true m = m
-guard false m = none
+guard false m = None
 
 abbrev pub is_some : {A : Type 0} → Option A → Bool
-is_some none = false
-is_some (some x) = true
+is_some None = false
+is_some (Some x) = true
 
 -- Fields 3 to 6 of a line, or what is said of each of them.
 pub record Four (A : Type 0) : Type 0 where
@@ -57,5 +57,5 @@ abbrev pub ◌↣◌ : {A : Type 0} → String → A → Named A
 s ↣ x = record { text = s; is = x }
 
 unfoldable pub lookup : {A : Type 0} → List (Named A) → List ℕ → Option A
-lookup [] w = none
-lookup (n ∷ ns) w = elim (same_bytes (bytes n.text) w) [ true ↦ some n.is | false ↦ lookup ns w ]
+lookup [] w = None
+lookup (n ∷ ns) w = elim (same_bytes (bytes n.text) w) [ true ↦ Some n.is | false ↦ lookup ns w ]

@@ -1,6 +1,6 @@
 -- What is claimed of a checker: a file's assumed literals and clauses, the demands, the counts, the place, what files within a limit of digits keep.
 use Rattle.std.specs.Prelude.{◌≡◌, Bool, true, false, ◌&&◌, ◌||◌, cond, List, [], ◌∷◌, ◌++◌, ◌⊎◌, ℕ, zero, suc, ◌+◌, ◌<◌, ◌≤◌, eqb, length, take, drop}
-use Rattle.std.proofs.Math.Option.{Option, none, some}
+use Rattle.std.specs.Prelude.{Option, None, Some}
 use Rattle.tableau.specs.declared.Letter.{Letter}
 use Rattle.tableau.specs.Basics.{is_some, Four, bytes, same_bytes}
 use Rattle.tableau.specs.File.{Line, same_letter, digits, shape, letters, split, LF, comma}
@@ -23,37 +23,37 @@ lines_of file = all_but_last (split LF file)
 
 -- WHAT A FILE ASSUMES: the literals "on its A lines" and the clauses of its C lines, over the terms of its T lines, as they stand, with no check.
 abbrev pub command_term : Option Command → Four ℕ → Table
-command_term none n = []
-command_term (some (make w)) n = written w n ∷ []
-command_term (some (assume R)) n = []
-command_term (some (disjoin R)) n = []
-command_term (some (infer x)) n = []
+command_term None n = []
+command_term (Some (make w)) n = written w n ∷ []
+command_term (Some (assume R)) n = []
+command_term (Some (disjoin R)) n = []
+command_term (Some (infer x)) n = []
 
 abbrev pub command_literal : Option Command → Four ℕ → List Literal
-command_literal none n = []
-command_literal (some (make w)) n = []
-command_literal (some (assume R)) n = literal R n.a n.b ∷ []
-command_literal (some (disjoin R)) n = []
-command_literal (some (infer x)) n = []
+command_literal None n = []
+command_literal (Some (make w)) n = []
+command_literal (Some (assume R)) n = literal R n.a n.b ∷ []
+command_literal (Some (disjoin R)) n = []
+command_literal (Some (infer x)) n = []
 
 abbrev pub command_disjunct : Option Command → Four ℕ → Clauses
-command_disjunct none n = []
-command_disjunct (some (make w)) n = []
-command_disjunct (some (assume R)) n = []
-command_disjunct (some (disjoin R)) n = record { clause = n.c; is = literal R n.a n.b } ∷ []
-command_disjunct (some (infer x)) n = []
+command_disjunct None n = []
+command_disjunct (Some (make w)) n = []
+command_disjunct (Some (assume R)) n = []
+command_disjunct (Some (disjoin R)) n = record { clause = n.c; is = literal R n.a n.b } ∷ []
+command_disjunct (Some (infer x)) n = []
 
 abbrev pub line_term : Option (Line Letter) → Table
-line_term none = []
-line_term (some l) = command_term (command_of l.letter l.word) l.fields
+line_term None = []
+line_term (Some l) = command_term (command_of l.letter l.word) l.fields
 
 abbrev pub line_literal : Option (Line Letter) → List Literal
-line_literal none = []
-line_literal (some l) = command_literal (command_of l.letter l.word) l.fields
+line_literal None = []
+line_literal (Some l) = command_literal (command_of l.letter l.word) l.fields
 
 abbrev pub line_disjunct : Option (Line Letter) → Clauses
-line_disjunct none = []
-line_disjunct (some l) = command_disjunct (command_of l.letter l.word) l.fields
+line_disjunct None = []
+line_disjunct (Some l) = command_disjunct (command_of l.letter l.word) l.fields
 
 unfoldable pub terms_in : List (List ℕ) → Table
 terms_in [] = []
@@ -107,12 +107,12 @@ ExactlyContradicted test = (table : Table) (branch : List Literal) → (test tab
 
 -- THE FILE'S OWN COUNTS: lines by their first field, `cls`, `emp` and `bck` lines by their second, clauses by the numbers on C lines.
 abbrev pub has_letter : Letter → Option (Line Letter) → Bool
-has_letter k none = false
-has_letter k (some l) = same_letter k l.letter
+has_letter k None = false
+has_letter k (Some l) = same_letter k l.letter
 
 abbrev pub closes_branch : Option (Line Letter) → Bool
-closes_branch none = false
-closes_branch (some l) = same_letter Letter.S l.letter && (same_bytes (bytes "cls") l.word || (same_bytes (bytes "emp") l.word || same_bytes (bytes "bck") l.word))
+closes_branch None = false
+closes_branch (Some l) = same_letter Letter.S l.letter && (same_bytes (bytes "cls") l.word || (same_bytes (bytes "emp") l.word || same_bytes (bytes "bck") l.word))
 
 unfoldable pub count_if : (Option (Line Letter) → Bool) → List (List ℕ) → ℕ
 count_if f [] = 0
@@ -150,7 +150,7 @@ RightCounts checker = (file : List ℕ) → CountsOf file (checker file) (checke
 
 -- WHERE W IS ALREADY USED: "the first branch place that mentions w".
 abbrev pub MentionsAt : Table → List Literal → TermNo → Place → Type 0
-MentionsAt table B w p = (l : Literal) × (literal_at B p ≡ some l) × (mentioned_in (at table) w l ≡ true)
+MentionsAt table B w p = (l : Literal) × (literal_at B p ≡ Some l) × (mentioned_in (at table) w l ≡ true)
 
 pub record FirstMention (table : Table) (B : List Literal) (w : TermNo) (p : Place) : Type 0 where
   pub here : MentionsAt table B w p
@@ -166,7 +166,7 @@ pub record StepPlace (σ : State) (text : List ℕ) (p : Place) : Type 0 where
   pub tree : Tree
   pub tree_open : σ.status ≡ is_open tree
   pub line : Line Letter
-  pub shaped : shape letters text ≡ some line
+  pub shaped : shape letters text ≡ Some line
   pub is_step : line.letter ≡ Letter.S
   pub says : PlaceSays σ.table σ.clauses tree.branch line.fields.d p
 

@@ -1,6 +1,6 @@
 -- 'The file': from bytes to lines of six fields.
 use Rattle.std.specs.Prelude.{Bool, true, false, ◌&&◌, ◌||◌, not, List, [], ◌∷◌, ℕ, ◌+◌, ◌*◌, ◌-◌, eqb, leb, length}
-use Rattle.std.proofs.Math.Option.{Option, none, some}
+use Rattle.std.specs.Prelude.{Option, None, Some}
 use Rattle.tableau.specs.declared.Letter.{Letter}
 use Rattle.tableau.specs.Basics.{then, guard, Four, four, Named, ◌↣◌, lookup}
 
@@ -60,12 +60,12 @@ abbrev pub max_digits : ℕ
 max_digits = 5
 
 unfoldable pub digits : List ℕ → ℕ → Option ℕ
-digits [] n = some n
+digits [] n = Some n
 digits (b ∷ bs) n = guard (is_digit b) (digits bs (10 * n + (b - 48)))
 
 -- a number of at most so many digits
 unfoldable pub number : ℕ → List ℕ → Option ℕ
-number limit [] = none
+number limit [] = None
 number limit (b ∷ bs) = guard (leb (length (b ∷ bs)) limit && (not (eqb b 48) || eqb (length bs) 0)) (digits (b ∷ bs) 0)
 
 -- a line of a file whose lines begin with letters of a kind L
@@ -76,18 +76,18 @@ pub record Line (L : Type 0) : Type 0 where
 
 -- "Each line has six fields parted by five commas." The first is a letter by the test that the file's letters give, a number has at most so many digits.
 unfoldable pub six_fields : {L : Type 0} → ℕ → (List ℕ → Option L) → List (List ℕ) → Option (Line L)
-six_fields limit first [] = none
-six_fields limit first (k ∷ []) = none
-six_fields limit first (k ∷ w ∷ []) = none
-six_fields limit first (k ∷ w ∷ a ∷ []) = none
-six_fields limit first (k ∷ w ∷ a ∷ b ∷ []) = none
-six_fields limit first (k ∷ w ∷ a ∷ b ∷ c ∷ []) = none
+six_fields limit first [] = None
+six_fields limit first (k ∷ []) = None
+six_fields limit first (k ∷ w ∷ []) = None
+six_fields limit first (k ∷ w ∷ a ∷ []) = None
+six_fields limit first (k ∷ w ∷ a ∷ b ∷ []) = None
+six_fields limit first (k ∷ w ∷ a ∷ b ∷ c ∷ []) = None
 six_fields limit first (k ∷ w ∷ a ∷ b ∷ c ∷ d ∷ []) =
     then (first k) λ letter'.
     guard (is_word w)
     (then (number limit a) λ a'. then (number limit b) λ b'. then (number limit c) λ c'. then (number limit d) λ d'.
-    some (record { letter = letter'; word = w; fields = four a' b' c' d' }))
-six_fields limit first (k ∷ w ∷ a ∷ b ∷ c ∷ d ∷ e ∷ fs) = none
+    Some (record { letter = letter'; word = w; fields = four a' b' c' d' }))
+six_fields limit first (k ∷ w ∷ a ∷ b ∷ c ∷ d ∷ e ∷ fs) = None
 
 -- the fields of a line, its LF taken off, in a file with these letters, whose numbers have at most so many digits
 abbrev pub shape_within : {L : Type 0} → ℕ → List (Named L) → List ℕ → Option (Line L)

@@ -1,6 +1,6 @@
 -- `bck`, computed. Nobody need believe this file: `contradicted` is true exactly where `Contradicted` of Background.antt holds (`ExactlyContradicted`, proofs/SaturationExact.antt).
 use Rattle.std.specs.Prelude.{Bool, true, false, ◌&&◌, ◌||◌, List, [], ◌∷◌, ◌++◌, ℕ, zero, suc, max, eqb, length}
-use Rattle.std.proofs.Math.Option.{Option, none, some}
+use Rattle.std.specs.Prelude.{Option, None, Some}
 use Rattle.tableau.specs.declared.Sort.{Sort}
 use Rattle.tableau.specs.declared.Relation.{Relation}
 use Rattle.tableau.specs.Basics.{every}
@@ -51,15 +51,15 @@ module _ (table : Table) (branch : List Literal) (known : List Literal) where
 
   -- the first of the literals that follows, and the others
   abbrev pub behind : Literal → Option (Literal × List Literal) → Option (Literal × List Literal)
-  behind l none = none
-  behind l (some x) = some (x.0, l ∷ x.1)
+  behind l None = None
+  behind l (Some x) = Some (x.0, l ∷ x.1)
 
   abbrev pub pick : Bool → Literal → List Literal → Option (Literal × List Literal) → Option (Literal × List Literal)
-  pick true l ls m = some (l, ls)
+  pick true l ls m = Some (l, ls)
   pick false l ls m = behind l m
 
   unfoldable pub next : List Literal → Option (Literal × List Literal)
-  next [] = none
+  next [] = None
   next (l ∷ ls) = pick (one_step l) l ls (next ls)
 
 -- every eq and le literal of numbers below n
@@ -75,7 +75,7 @@ module _ (table : Table) (branch : List Literal) where
   -- from no literal on, as long as some eq or le literal follows in one step from those found, it is added to them: at most `fuel` more, out of `todo`
   unfoldable pub saturate : ℕ → List Literal → List Literal → List Literal
   saturate zero known todo = known
-  saturate (suc fuel) known todo = elim (next table branch known todo) [ none ↦ known | some x ↦ saturate fuel (x.0 ∷ known) x.1 ]
+  saturate (suc fuel) known todo = elim (next table branch known todo) [ None ↦ known | Some x ↦ saturate fuel (x.0 ∷ known) x.1 ]
 
   abbrev pub universe : List Literal
   universe = all_below (bound branch (length table)) (bound branch (length table))

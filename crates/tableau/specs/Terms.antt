@@ -1,6 +1,6 @@
 -- 'T lines', 'A lines' and C lines: terms and their table, literals, clauses.
 use Rattle.std.specs.Prelude.{Bool, true, false, ◌&&◌, ◌||◌, cond, List, [], ◌∷◌, map, ℕ, zero, suc, eqb, leb, length}
-use Rattle.std.proofs.Math.Option.{Option, none, some}
+use Rattle.std.specs.Prelude.{Option, None, Some}
 use Rattle.tableau.specs.declared.Sort.{Sort}
 use Rattle.tableau.specs.declared.Operator.{Operator}
 use Rattle.tableau.specs.declared.Word.{Word}
@@ -115,8 +115,8 @@ at (e ∷ es) (suc (suc n)) = at es (suc n)
 
 -- "No term is written twice, so equal terms have equal numbers": the number of a term, if it stands in the table
 unfoldable pub number_from : ℕ → Table → Term → Option TermNo
-number_from i [] e = none
-number_from i (x ∷ xs) e = cond (same_term e x) (some i) (number_from (suc i) xs e)
+number_from i [] e = None
+number_from i (x ∷ xs) e = cond (same_term e x) (Some i) (number_from (suc i) xs e)
 
 abbrev pub number_of : Table → Term → Option TermNo
 number_of = number_from 1
@@ -159,8 +159,8 @@ mentioned_in table w (literal R m n) = mentions table w m || mentions table w n
 
 -- "the first branch place that mentions w", if there is one; the literals' places count from i
 unfoldable pub place_from : Place → (TermNo → Term) → TermNo → List Literal → Option Place
-place_from i table w [] = none
-place_from i table w (l ∷ ls) = cond (mentioned_in table w l) (some i) (place_from (suc i) table w ls)
+place_from i table w [] = None
+place_from i table w (l ∷ ls) = cond (mentioned_in table w l) (Some i) (place_from (suc i) table w ls)
 
 abbrev pub first_place : (TermNo → Term) → TermNo → List Literal → Option Place
 first_place = place_from 1

@@ -1,7 +1,7 @@
 -- The tree: the branch, the alternatives that wait, splits and closings, and the checks 11 to 16 of a step.
 use Rattle.std.specs.Prelude.{Bool, true, false, ◌&&◌, List, [], ◌∷◌, ◌++◌, map, ℕ, zero, suc, ◌+◌, leb, length, take}
-use Rattle.std.proofs.Math.Option.{Option, none, some}
-use Rattle.std.proofs.Math.ListN.{get_elem?}
+use Rattle.std.specs.Prelude.{Option, None, Some}
+use Rattle.std.specs.Prelude.{slice_get}
 use Rattle.tableau.specs.declared.Freshness.{Freshness}
 use Rattle.tableau.specs.declared.Reason.{Reason}
 use Rattle.tableau.specs.declared.Rule.{Rule}
@@ -31,8 +31,8 @@ require true r = passed tt
 require false r = refused r
 
 abbrev pub require_some : {A : Type 0} → Option A → Reason → Checked A
-require_some none r = refused r
-require_some (some x) r = passed x
+require_some None r = refused r
+require_some (Some x) r = passed x
 
 -- "A branch starts with no literals and has room for 1,000."
 abbrev pub max_places : ℕ
@@ -61,8 +61,8 @@ root = record { branch = []; waiting = [] }
 
 -- the literal at a place, counted from 1
 abbrev pub literal_at : List Literal → Place → Option Literal
-literal_at B zero = none
-literal_at B (suc n) = get_elem? B n
+literal_at B zero = None
+literal_at B (suc n) = slice_get B n
 
 -- check 11: "a place used is not on the branch", "a `cla` on no clause"
 abbrev pub on_branch : List Literal → Place → Bool

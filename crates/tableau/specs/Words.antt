@@ -1,6 +1,6 @@
 -- The words of the lines: what each stands for, by the letter of its line.
 use Rattle.std.specs.Prelude.{List, [], ◌∷◌, ℕ}
-use Rattle.std.proofs.Math.Option.{Option, none, some}
+use Rattle.std.specs.Prelude.{Option, None, Some}
 use Rattle.tableau.specs.declared.Letter.{Letter}
 use Rattle.tableau.specs.declared.Sort.{Sort}
 use Rattle.tableau.specs.declared.Operator.{Operator}
@@ -87,8 +87,8 @@ pub data Command : Type 0 where
   infer : Rule → Command
 
 abbrev pub some_of : {A : Type 0} → (A → Command) → Option A → Option Command
-some_of f none = none
-some_of f (some x) = some (f x)
+some_of f None = None
+some_of f (Some x) = Some (f x)
 
 unfoldable pub command_of : Letter → List ℕ → Option Command
 command_of Letter.T w = some_of make (lookup words w)

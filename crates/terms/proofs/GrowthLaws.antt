@@ -2,7 +2,7 @@
 use mathlib.Core.Path.{◌≡◌, refl, sym, ◌∙◌, subst}
 use mathlib.Core.Bool.{true}
 use mathlib.Core.List.{[], ◌∷◌, ◌++◌}
-use mathlib.Core.Option.{none}
+use Rattle.std.specs.Prelude.{None}
 use Prim.Native.Nat.{ℕ, suc, ◌+◌, ◌<◌, ◌≤◌}
 use native.Mathlib.Omega.{arith}
 use lib.ListN.{length, get_or, set, replicate}
@@ -36,7 +36,7 @@ pub record Passed (table : Table) (term : Term) : Type 0 where
   pub arguments : ArgumentsMade table term
   pub sorts : every (of_sort table) (word_fields (word_in term)) (fields_in term) ≡ true
   pub packable : Packable (term_in term)
-  pub new : number_of table (term_in term) ≡ none
+  pub new : number_of table (term_in term) ≡ None
 
 -- the arrays with it, as `table::add` and `mentions::note` leave them
 pub record Added (old new : Arrays) (n p : ℕ) (e : specification.Term) : Type 0 where

@@ -2,7 +2,7 @@
 use mathlib.Core.Path.{◌≡◌, refl, sym, ◌∙◌, ap}
 use mathlib.Core.Bool.{Bool, true, false, ◌&&◌, not, and-true}
 use mathlib.Core.List.{[], ◌∷◌, ◌++◌}
-use mathlib.Core.Option.{Option, none, some}
+use Rattle.std.specs.Prelude.{Option, None, Some}
 use Prim.Native.Nat.{ℕ, ◌≤◌}
 use native.Mathlib.Omega.{arith}
 use lib.Dec.{leb, ltb}
@@ -54,12 +54,12 @@ term_line_lem table term e₆ e₇ e₈ e₉ e₁₀ = λ i.
 
 -- what a search for the term says of check 10
 pub found_old : (o : Option TermNo) (v : TermNumber) → found_of o ≡ Found.At v → not (is_some o) ≡ false
-found_old none v e = cc
-found_old (some t) v e = refl
+found_old None v e = cc
+found_old (Some t) v e = refl
 
-pub found_new : (o : Option TermNo) → found_of o ≡ Found.Nothing → o ≡ none
-found_new none e = refl
-found_new (some t) e = cc
+pub found_new : (o : Option TermNo) → found_of o ≡ Found.Nothing → o ≡ None
+found_new None e = refl
+found_new (Some t) e = cc
 
 -- AN A LINE: a literal leaves fields 5 and 6 to be 0, and both its sides are terms
 abbrev pub literal_checks : Bool → Bool → specification.Literal → Checked specification.Literal

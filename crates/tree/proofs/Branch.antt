@@ -3,19 +3,20 @@ use Prim.Native.Nat.{ℕ, zero, suc, ◌+◌, ◌-◌, ◌≤◌, ◌<◌}
 use mathlib.Core.Path.{◌≡◌, refl, sym, ap, ◌∙◌}
 use mathlib.Core.Bool.{true, ◌&&◌}
 use mathlib.Core.List.{List, [], ◌∷◌, ◌++◌, map, append-nil, append_assoc}
-use mathlib.Core.Option.{some}
+use Rattle.std.specs.Prelude.{Some}
 use native.Mathlib.Numerals.{add-one}
 use native.Mathlib.Omega.{arith}
 use borrow.Author.Tests.{leb-true}
 use lib.Dec.{leb}
-use lib.ListN.{length, take, get_or, set, get_elem?, replicate, length-append, length-set, length-replicate}
+use lib.ListN.{length, take, get_or, set, replicate, length-append, length-set, length-replicate, length-take}
+use Rattle.std.specs.Prelude.{slice_get}
 use lib.Seq.{take-suc-set}
 use Rattle.tableau.specs.declared.Relation.{Relation}
 use Rattle.tableau.specs.Terms.{Literal, literal}
 use Rattle.tableau.specs.Tree.{max_places, literal_at}
 use Rattle.tableau.proofs.Bools.{both_true}
 use Rattle.packing.specs.Packing.{code_limit}
-use Rattle.tree.specs.State.{HasPlace, IsBranch, Appended}
+use Rattle.tree.specs.State.{AreCodes, HasPlace, IsBranch, Appended}
 use Rattle.clauses.proofs.Arrays.{all_set}
 
 -- check 11 holds of the places from 1 to n
@@ -27,13 +28,13 @@ from_check n p h =
     (leb-true 1 p b.0, leb-true p n b.1)
 
 -- the code at a place
-at_index : (f : ℕ → Literal) (b : List ℕ) (n m : ℕ) → m < n → n ≤ length b → get_elem? (map f (take n b)) m ≡ some (f (get_or b m 0))
+at_index : (f : ℕ → Literal) (b : List ℕ) (n m : ℕ) → m < n → n ≤ length b → slice_get (map f (take n b)) m ≡ Some (f (get_or b m 0))
 at_index f [] n m h g = absurd (omega arith)
 at_index f (x ∷ b) zero m h g = absurd (omega arith)
 at_index f (x ∷ b) (suc n) zero h g = refl
 at_index f (x ∷ b) (suc n) (suc m) h g = at_index f b n m (omega arith) (omega arith)
 
-pub at_place : (f : ℕ → Literal) (b : List ℕ) (n p : ℕ) → (1 ≤ p) × (p ≤ n) → n ≤ length b → literal_at (map f (take n b)) p ≡ some (f (get_or b (p - 1) 0))
+pub at_place : (f : ℕ → Literal) (b : List ℕ) (n p : ℕ) → (1 ≤ p) × (p ≤ n) → n ≤ length b → literal_at (map f (take n b)) p ≡ Some (f (get_or b (p - 1) 0))
 at_place f b n zero h l = absurd (omega arith)
 at_place f b n (suc m) h l = let e : suc m - 1 ≡ m = omega arith in rw e (at_index f b n m (omega arith) l)
 
@@ -55,3 +56,13 @@ append_one {b} {n} {more} {b'} {n'} n'' x a room h next = record {
       ∙ ap (λ (l : List ℕ). l ++ (x ∷ [])) a.codes
       ∙ append_assoc (take n b) more (x ∷ []);
 }
+
+-- the codes of a branch alone, without what lies behind them in its array
+taken_bounded : (b : List ℕ) (n limit k : ℕ) → 0 < limit → ((j : ℕ) → get_or b j 0 < limit) → get_or (take n b) k 0 < limit
+taken_bounded b zero limit k l h = l
+taken_bounded [] (suc n) limit k l h = l
+taken_bounded (x ∷ b) (suc n) limit zero l h = h zero
+taken_bounded (x ∷ b) (suc n) limit (suc k) l h = taken_bounded b n limit k l (λ j. h (suc j))
+
+pub are_codes : (array : List ℕ) (n : ℕ) → IsBranch array n → AreCodes (take n array)
+are_codes array n B = record { room = omega (arith, B.room, length-take n array); bounded = λ k. taken_bounded array n code_limit k (omega arith) B.bounded }

@@ -1,10 +1,11 @@
 -- The literals of a branch and their codes.
 use mathlib.Core.Path.{◌≡◌, refl, subst}
 use mathlib.Core.List.{List, [], ◌∷◌}
-use mathlib.Core.Option.{some}
+use Rattle.std.specs.Prelude.{Some}
 use Prim.Native.Nat.{ℕ, zero, suc, ◌<◌, ◌≤◌}
 use native.Mathlib.Omega.{arith}
-use lib.ListN.{length, get_or, get_elem?}
+use lib.ListN.{length, get_or}
+use Rattle.std.specs.Prelude.{slice_get}
 use Rattle.tableau.specs.declared.Relation.{Relation}
 use Rattle.tableau.specs.Terms.{TermNo, Literal, literal}
 use Rattle.tableau.specs.Background.{On}
@@ -22,7 +23,7 @@ code_on (x ∷ xs) (suc n) (suc i) h l = let k = code_on xs n i (omega arith) (o
 pub on_branch_lem : (xs : List ℕ) (n i : ℕ) → IsBranch xs n → i < n → On (branch_of xs n) (unpack_literal (get_or xs i 0))
 on_branch_lem xs n i W l = code_on xs n i (omega (arith, W.size, W.room)) l
 
-code_of : (xs : List ℕ) (n j : ℕ) (l : Literal) → get_elem? (branch_of xs n) j ≡ some l → (i : ℕ) × (i < n) × (unpack_literal (get_or xs i 0) ≡ l)
+code_of : (xs : List ℕ) (n j : ℕ) (l : Literal) → slice_get (branch_of xs n) j ≡ Some l → (i : ℕ) × (i < n) × (unpack_literal (get_or xs i 0) ≡ l)
 code_of [] zero j l e = none≢some e
 code_of [] (suc n) j l e = none≢some e
 code_of (x ∷ xs) zero j l e = none≢some e

@@ -1,6 +1,6 @@
 -- What the arrays of the tree state hold. A literal is a number here, its code; the definitions are for any reading f of the codes.
 use Rattle.std.specs.Prelude.{◌≡◌, Bool, List, [], ◌∷◌, ◌++◌, map, ℕ, zero, suc, ◌+◌, ◌*◌, ◌/◌, ◌%◌, ◌^◌, ◌≤◌, ◌<◌, length, take, get_or}
-use Rattle.std.proofs.Math.Option.{some}
+use Rattle.std.specs.Prelude.{Some}
 use Rattle.tableau.specs.Terms.{Literal}
 use Rattle.tableau.specs.Tree as specification
 use Rattle.tableau.specs.Tree.{literal_at, on_branch, max_places, max_waiting, Waiting}
@@ -48,6 +48,11 @@ pub record IsBranch (array : List ℕ) (n : ℕ) : Type 0 where
   pub room : n ≤ max_places
   pub bounded : (k : ℕ) → get_or array k 0 < code_limit
 
+-- the codes of a branch alone
+pub record AreCodes (codes : List ℕ) : Type 0 where
+  pub room : length codes ≤ max_places
+  pub bounded : (k : ℕ) → get_or codes k 0 < code_limit
+
 -- the branch that the first n codes of an array stand for
 abbrev pub branch_of : List ℕ → ℕ → List Literal
 branch_of array n = map unpack_literal (take n array)
@@ -59,7 +64,7 @@ HasPlace n p r = (B : List Literal) → length B ≡ n → r ≡ on_branch B p
 -- r is the code at place p
 pub record IsAt (array : List ℕ) (n p r : ℕ) : Type 0 where
   pub bounded : r < code_limit
-  pub literal : (f : ℕ → Literal) → literal_at (map f (take n array)) p ≡ some (f r)
+  pub literal : (f : ℕ → Literal) → literal_at (map f (take n array)) p ≡ Some (f r)
 
 -- more codes behind the first n, and the new length
 pub record Appended (array : List ℕ) (n : ℕ) (more : List ℕ) (array' : List ℕ) (n' : ℕ) : Type 0 where

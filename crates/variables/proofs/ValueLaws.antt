@@ -3,7 +3,7 @@ use mathlib.Core.Path.{◌≡◌, refl, sym, ◌∙◌, ap, subst}
 use mathlib.Core.Bool.{true}
 use mathlib.Core.List.{List}
 use mathlib.Core.Logic.{◌⊎◌, inl, inr}
-use mathlib.Core.Option.{Option, none, some}
+use Rattle.std.specs.Prelude.{Option, None, Some}
 use Prim.Native.Nat.{ℕ, suc, ◌+◌, ◌*◌, ◌/◌, ◌%◌, ◌<◌, ◌≤◌}
 use native.Mathlib.Omega.{arith}
 use lib.Dec.{eqb}
@@ -51,8 +51,8 @@ module _ {facts : Facts} (p : Passable facts) where
   outside_none n x f o = go (find facts FactWord.Arv (four n x f 0)) refl o
     where
       go : (m : Option (Four ℕ)) → find facts FactWord.Arv (four n x f 0) ≡ m → ((sizes facts).a ≤ x) ⊎ ((sizes facts).b ≤ f) → (fields_or0 m).d ≡ 0
-      go none e o = refl
-      go (some k) e o =
+      go None e o = refl
+      go (Some k) e o =
           let w = found p FactWord.Arv (four n x f 0) k e in
           let s = every_true eqb (subject_of FactWord.Arv (four n x f 0)) (subject_of FactWord.Arv k) w.subject in
           let r = every_true (in_range (sizes facts)) (fact_fields FactWord.Arv) k w.ranges in

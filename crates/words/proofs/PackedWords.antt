@@ -1,7 +1,7 @@
 -- A word's packed number stands for the word: a table looked up by the number is the table looked up by the word.
 use mathlib.Core.Bool.{Bool, true, false, cond, ◌&&◌}
 use mathlib.Core.List.{List, [], ◌∷◌}
-use mathlib.Core.Option.{some}
+use Rattle.std.specs.Prelude.{Some}
 use mathlib.Core.Path.{◌≡◌, refl}
 use Prim.Native.Nat.{ℕ}
 use lib.Dec.{eqb}
@@ -28,7 +28,7 @@ lookup_packed_lem (n ∷ ns) h w g =
     (lookup_packed_lem ns k.1 w g)
   where
     pick : (x y : Bool) → y ≡ x → lookup_packed ns (pack_word w) ≡ lookup ns w
-        → cond x (some n.is) (lookup_packed ns (pack_word w)) ≡ elim y [ true ↦ some n.is | false ↦ lookup ns w ]
+        → cond x (Some n.is) (lookup_packed ns (pack_word w)) ≡ elim y [ true ↦ Some n.is | false ↦ lookup ns w ]
     pick true y e r = rw e
     pick false y e r = rw e r
 

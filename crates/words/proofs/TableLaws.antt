@@ -1,7 +1,8 @@
 -- Laws of the word tables: the index of a word in a byte string, and a table looked up by it.
 use mathlib.Core.Bool.{Bool, true, false, cond}
 use mathlib.Core.List.{List, [], ◌∷◌}
-use mathlib.Core.Option.{Option, none, some, some-injective}
+use Rattle.std.specs.Prelude.{Option, None, Some}
+use Rattle.std.proofs.lemmas.Option.{same_Some}
 use mathlib.Core.Path.{◌≡◌, refl, ap}
 use Prim.Native.Nat.{ℕ, suc, ◌+◌, ◌≤◌, ◌<◌}
 use native.Mathlib.Numerals.{add-one, add-two, add-four}
@@ -62,7 +63,7 @@ rows_of row [] = []
 rows_of row (n ∷ ns) = row n.is ∷ rows_of row ns
 
 -- WHAT THE INDEX OF A WORD SAYS OF IT. The row there is that of the entry that is looked up: what holds of every entry and its row holds here.
-module _ {A B : Type 0} (row : A → B) (P : Option A → B → Type 0) (holds : (x : A) → P (some x) (row x)) (d : B) where
+module _ {A B : Type 0} (row : A → B) (P : Option A → B → Type 0) (holds : (x : A) → P (Some x) (row x)) (d : B) where
   at_index : (t : List (Named A)) (w : ℕ) → index_of w (packed_texts t) < length (rows_of row t)
       → P (lookup_packed t w) (get_or (rows_of row t) (index_of w (packed_texts t)) d)
   unfolding lookup_packed index_of packed_texts rows_of
@@ -71,7 +72,7 @@ module _ {A B : Type 0} (row : A → B) (P : Option A → B → Type 0) (holds :
     where
       pick : (here : Bool) (i : ℕ) (x : Option A) → (i < length (rows_of row ns) → P x (get_or (rows_of row ns) i d))
           → cond here 0 (suc i) < length (rows_of row (n ∷ ns))
-          → P (cond here (some n.is) x) (get_or (rows_of row (n ∷ ns)) (cond here 0 (suc i)) d)
+          → P (cond here (Some n.is) x) (get_or (rows_of row (n ∷ ns)) (cond here 0 (suc i)) d)
       pick true i x k h = holds n.is
       pick false i x k h = k (omega arith)
 
@@ -82,19 +83,19 @@ module _ {A B : Type 0} (row : A → B) (P : Option A → B → Type 0) (holds :
 -- So it is with two tables in one order: what the entries stand for, and a number of each.
 pub found_rows : {A : Type 0} (number : A → ℕ) (d : A) (t : List (Named A)) (w i : ℕ) → i ≡ index_of w (packed_texts t) → i < length (rows_of (λ x. x) t)
     → i < length (rows_of number t)
-    → (lookup_packed t w ≡ some (get_or (rows_of (λ x. x) t) i d)) × (get_or (rows_of number t) i 0 ≡ number (get_or (rows_of (λ x. x) t) i d))
+    → (lookup_packed t w ≡ Some (get_or (rows_of (λ x. x) t) i d)) × (get_or (rows_of number t) i 0 ≡ number (get_or (rows_of (λ x. x) t) i d))
 found_rows {A = A} number d t w i e h h' =
-    let here = found (λ x. x) (λ o x. o ≡ some x) (λ x. refl) d t w i e h in
-    (here, found number (λ o n. (x : A) → o ≡ some x → n ≡ number x) (λ x y q. ap number (some-injective x y q)) 0 t w i e h' _ here)
+    let here = found (λ x. x) (λ o x. o ≡ Some x) (λ x. refl) d t w i e h in
+    (here, found number (λ o n. (x : A) → o ≡ Some x → n ≡ number x) (λ x y q. ap number (same_Some x y q)) 0 t w i e h' _ here)
 
 -- Past the rows there is no such entry.
-pub not_found : {A : Type 0} (t : List (Named A)) (w i : ℕ) → i ≡ index_of w (packed_texts t) → length t ≤ i → lookup_packed t w ≡ none
+pub not_found : {A : Type 0} (t : List (Named A)) (w i : ℕ) → i ≡ index_of w (packed_texts t) → length t ≤ i → lookup_packed t w ≡ None
 unfolding lookup_packed index_of packed_texts
 not_found [] w i e h = refl
 not_found {A = A} (n ∷ ns) w i e h =
     pick (eqb w (pack_word (bytes n.text))) (index_of w (packed_texts ns)) (lookup_packed ns w) (not_found ns w _ refl) (rw e at h)
   where
-    pick : (here : Bool) (i : ℕ) (x : Option A) → (length ns ≤ i → x ≡ none) → length (n ∷ ns) ≤ cond here 0 (suc i)
-        → cond here (some n.is) x ≡ none
+    pick : (here : Bool) (i : ℕ) (x : Option A) → (length ns ≤ i → x ≡ None) → length (n ∷ ns) ≤ cond here 0 (suc i)
+        → cond here (Some n.is) x ≡ None
     pick true i x k h = absurd (omega arith)
     pick false i x k h = k (omega arith)

@@ -1,6 +1,6 @@
 -- The letters and the word tables of the specification, looked up by a byte and by a packed word.
 use Rattle.std.specs.Prelude.{cond, List, [], ◌∷◌, ◌≡◌, ℕ, suc, eqb}
-use Rattle.std.proofs.Math.Option.{Option, none, some}
+use Rattle.std.specs.Prelude.{Option, None, Some}
 use Rattle.tableau.specs.Basics.{bytes, Named, lookup}
 use Rattle.tableau.specs.File.{letters}
 use Rattle.tableau.specs.Words.{words, relations, rule_names}
@@ -16,8 +16,8 @@ use Rattle.lines.specs.Lines.{pack_word}
 
 -- what the first entry stands for whose text packs to w
 unfoldable pub lookup_packed : {A : Type 0} → List (Named A) → ℕ → Option A
-lookup_packed [] w = none
-lookup_packed (n ∷ ns) w = cond (eqb w (pack_word (bytes n.text))) (some n.is) (lookup_packed ns w)
+lookup_packed [] w = None
+lookup_packed (n ∷ ns) w = cond (eqb w (pack_word (bytes n.text))) (Some n.is) (lookup_packed ns w)
 
 -- a row has the mask of its word
 abbrev pub WordFits : WordRow → Type 0
@@ -28,20 +28,20 @@ RuleFits row = row.used.0 ≡ mask_of (rule_uses row.rule)
 
 -- what is found of a letter's byte, and of a packed word, is what the table has of it
 abbrev pub LetterKnown : ℕ → LetterFound → Type 0
-LetterKnown b (LetterFound.Known l) = lookup letters (b ∷ []) ≡ some l
-LetterKnown b LetterFound.Unknown = lookup letters (b ∷ []) ≡ none
+LetterKnown b (LetterFound.Known l) = lookup letters (b ∷ []) ≡ Some l
+LetterKnown b LetterFound.Unknown = lookup letters (b ∷ []) ≡ None
 
 abbrev pub WordKnown : ℕ → WordFound → Type 0
-WordKnown w (WordFound.Known row) = (lookup_packed words w ≡ some row.word) × WordFits row
-WordKnown w WordFound.Unknown = lookup_packed words w ≡ none
+WordKnown w (WordFound.Known row) = (lookup_packed words w ≡ Some row.word) × WordFits row
+WordKnown w WordFound.Unknown = lookup_packed words w ≡ None
 
 abbrev pub RelationKnown : ℕ → RelationFound → Type 0
-RelationKnown w (RelationFound.Known R) = lookup_packed relations w ≡ some R
-RelationKnown w RelationFound.Unknown = lookup_packed relations w ≡ none
+RelationKnown w (RelationFound.Known R) = lookup_packed relations w ≡ Some R
+RelationKnown w RelationFound.Unknown = lookup_packed relations w ≡ None
 
 abbrev pub RuleKnown : ℕ → RuleFound → Type 0
-RuleKnown w (RuleFound.Known row) = (lookup_packed rule_names w ≡ some row.rule) × RuleFits row
-RuleKnown w RuleFound.Unknown = lookup_packed rule_names w ≡ none
+RuleKnown w (RuleFound.Known row) = (lookup_packed rule_names w ≡ Some row.rule) × RuleFits row
+RuleKnown w RuleFound.Unknown = lookup_packed rule_names w ≡ None
 
 -- The words of a byte string, packed: three bytes each, and a space.
 unfoldable pub words_of : List ℕ → List ℕ

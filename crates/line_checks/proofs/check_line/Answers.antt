@@ -2,7 +2,7 @@
 use mathlib.Core.Path.{◌≡◌, ◌∙◌, ap, subst}
 use mathlib.Core.Bool.{true}
 use mathlib.Core.List.{[], ◌∷◌}
-use mathlib.Core.Option.{some}
+use Rattle.std.specs.Prelude.{Some}
 use Rattle.tableau.specs.declared.Letter.{Letter}
 use Rattle.tableau.specs.Basics.{lookup}
 use Rattle.tableau.specs.File.{letters, in_order}
@@ -16,21 +16,21 @@ use Rattle.line_checks.proofs.check_line.Goals.{Else-rank, In-Known}
 pub returns-in_default : goal.returns-in_default
 returns-in_default c table C H K P = no_letter table C _ _ _ _ _ _ _ (subst (LetterKnown _) c.in_default.is c.letter_of.ensures)
 
-known : (c : goal.In-Known) → lookup letters (c.args.f.letter ∷ []) ≡ some c.in-Known.letter
+known : (c : goal.In-Known) → lookup letters (c.args.f.letter ∷ []) ≡ Some c.in-Known.letter
 known c = subst (LetterKnown _) c.in-Known.is c.letter_of.ensures
 
 -- an S line
 pub check-requires : goal.check-requires
-check-requires c = record { held = c.requires.held; ready = (c.requires.ready.0, c.requires.ready.1, known (goal.at.check-requires c).In-Known ∙ ap some c.in-S.is, c.requires.ready.3) }
+check-requires c = record { held = c.requires.held; ready = (c.requires.ready.0, c.requires.ready.1, known (goal.at.check-requires c).In-Known ∙ ap Some c.in-S.is, c.requires.ready.3) }
 
 -- out of order
 pub returns-then-rank : goal.returns-then-rank
 returns-then-rank c table C H K P = out_of_order table C _ _ _ _ _ _ _ _ (known (goal.at.returns-then-rank c).In-Known) (disordered _ _ c.rank-2.ensures c.rank.ensures c.if-rank.true)
 
 in_order_lem : (c : goal.Else-rank) {k : Letter} → c.in-Known.letter ≡ k
-    → (lookup letters (c.args.f.letter ∷ []) ≡ some k) × (in_order c.args.progress.letter k ≡ true)
+    → (lookup letters (c.args.f.letter ∷ []) ≡ Some k) × (in_order c.args.progress.letter k ≡ true)
 in_order_lem c q = (
-  (subst (LetterKnown _) c.in-Known.is c.letter_of.ensures) ∙ ap some q,
+  (subst (LetterKnown _) c.in-Known.is c.letter_of.ensures) ∙ ap Some q,
   subst (λ (k : Letter). in_order c.args.progress.letter k ≡ true) q (ordered _ _ c.rank-2.ensures c.rank.ensures c.if-rank.false),
 )
 

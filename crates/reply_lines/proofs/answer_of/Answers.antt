@@ -1,5 +1,5 @@
 -- The byte string has the words of the table, and the answers are those of the table: antt computes both.
-use mathlib.Core.Option.{some}
+use Rattle.std.specs.Prelude.{Some}
 use mathlib.Core.Path.{◌≡◌, refl}
 use Rattle.tableau.specs.Basics.{bytes}
 use Rattle.words.specs.Words.{words_of}
@@ -10,7 +10,7 @@ use Rattle.reply_lines.proofs.answer_of.Goals as goal
 pub returns-then-index-lt-ANSWER_COUNT : goal.returns-then-index-lt-ANSWER_COUNT
 unfolding words_of packed_texts rows_of answers bytes
 returns-then-index-lt-ANSWER_COUNT c =
-    found (λ b. b) (λ x b. x ≡ some b) (λ b. refl) _ answers
+    found (λ b. b) (λ x b. x ≡ Some b) (λ b. refl) _ answers
     c.args.word c.search-index.result c.search-index.ensures c.if-index-lt-ANSWER_COUNT.true
 
 pub returns : goal.returns

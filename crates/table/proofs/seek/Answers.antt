@@ -7,8 +7,8 @@ use Rattle.table.proofs.seek.Goals as goal
 
 pub loop-t-init : goal.loop-t-init
 loop-t-init c =
-    seek_within c.requires (λ n C. seek_start _ _ _ _ C c.wide-t.result
-    (c.wide-t.ensures ∙ ap (λ (h : ℕ). get_or c.args.chains.now h 0) c.hash-h.ensures.0))
+    seek_within c.requires (λ n C. seek_start _ _ _ _ C c.from-t.result
+    (c.from-t.ensures ∙ ap (λ (h : ℕ). get_or c.args.chains.now h 0) c.hash-h.ensures.0))
 
 pub returns-then-hops-ge-HOPS : goal.returns-then-hops-ge-HOPS
 returns-then-hops-ge-HOPS c n C = c.scan.ensures n (c.loop-t.invariant.1 n C)
@@ -19,7 +19,7 @@ returns-then-terms-t c n C = (omega arith, (c.loop-t.invariant.1 n C).within, c.
 pub loop-t-preserved : goal.loop-t-preserved
 loop-t-preserved c =
     seek_within c.requires (λ n C. seek_next _ _ _ _ C _ _ (omega arith) (c.loop-t.invariant.1 n C) c.if-terms-t.false
-    c.wide-t-in-loop-t.ensures)
+    c.from-t-in-loop-t.ensures)
 
 pub returns : goal.returns
 returns c n C = λ j l m q. (c.loop-t.invariant.1 n C).passed j (omega arith) (omega arith) q

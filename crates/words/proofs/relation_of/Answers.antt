@@ -1,5 +1,5 @@
 -- The byte string has the words of the table, and the relations are those of the table: antt computes both.
-use mathlib.Core.Option.{some}
+use Rattle.std.specs.Prelude.{Some}
 use mathlib.Core.Path.{◌≡◌, refl}
 use Rattle.tableau.specs.Basics.{bytes}
 use Rattle.tableau.specs.Words.{relations}
@@ -10,7 +10,7 @@ use Rattle.words.proofs.relation_of.Goals as goal
 pub returns-then-index-lt-RELATION_COUNT : goal.returns-then-index-lt-RELATION_COUNT
 unfolding words_of packed_texts rows_of relations bytes
 returns-then-index-lt-RELATION_COUNT c =
-    found (λ R. R) (λ x R. x ≡ some R) (λ R. refl) _ relations
+    found (λ R. R) (λ x R. x ≡ Some R) (λ R. refl) _ relations
     c.args.word c.search-index.result c.search-index.ensures c.if-index-lt-RELATION_COUNT.true
 
 pub returns : goal.returns

@@ -1,5 +1,5 @@
 -- The byte string has the words of the table, and the words are those of the table: antt computes both.
-use mathlib.Core.Option.{some}
+use Rattle.std.specs.Prelude.{Some}
 use mathlib.Core.Path.{◌≡◌, refl}
 use Rattle.tableau.specs.Basics.{bytes}
 use Rattle.evaluation.specs.Facts.{fact_words}
@@ -10,7 +10,7 @@ use Rattle.facts.proofs.fields.word_of.Goals as goal
 pub returns-then-index-lt-WORD_COUNT : goal.returns-then-index-lt-WORD_COUNT
 unfolding words_of packed_texts rows_of fact_words bytes
 returns-then-index-lt-WORD_COUNT c =
-    found (λ x. x) (λ o x. o ≡ some x) (λ x. refl) _ fact_words
+    found (λ x. x) (λ o x. o ≡ Some x) (λ x. refl) _ fact_words
     c.args.word c.search-index.result c.search-index.ensures c.if-index-lt-WORD_COUNT.true
 
 pub returns : goal.returns

@@ -1,7 +1,7 @@
 -- Each return knows what the line was taken for, and the check that failed.
 use mathlib.Core.Path.{◌≡◌, sym, subst, ap, ◌∙◌}
 use mathlib.Core.Bool.{true}
-use mathlib.Core.Option.{some}
+use Rattle.std.specs.Prelude.{Some}
 use Rattle.tableau.specs.Basics.{every}
 use Rattle.tableau.specs.Terms.{literal}
 use Rattle.tableau.specs.Words.{relations}
@@ -15,7 +15,7 @@ use Rattle.line_checks.proofs.LiteralLines.{read_unknown, read_unused, read_take
 use Rattle.line_checks.proofs.literal_line.read.Goals as goal
 use Rattle.line_checks.proofs.literal_line.read.Goals.{In-Known, In-Literal}
 
-known : (c : goal.In-Known) → lookup_packed relations c.args.f.word ≡ some c.in-Known.relation
+known : (c : goal.In-Known) → lookup_packed relations c.args.f.word ≡ Some c.in-Known.relation
 known c = subst (RelationKnown _) c.in-Known.is c.relation_of.ensures
 
 -- and the line is taken apart

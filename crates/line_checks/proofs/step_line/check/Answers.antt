@@ -1,6 +1,6 @@
 -- Each return names the first of the checks 4 to 6 that the line breaks.
 use mathlib.Core.Path.{◌≡◌, subst}
-use mathlib.Core.Option.{some}
+use Rattle.std.specs.Prelude.{Some}
 use Rattle.tableau.specs.Words.{rule_names}
 use Rattle.words.specs.Words.{lookup_packed, RuleKnown, RuleFits}
 use Rattle.parsing.specs.Taken.{StepTakenAs}
@@ -9,7 +9,7 @@ use Rattle.line_checks.proofs.step_line.check.Goals as goal
 use Rattle.line_checks.proofs.step_line.check.Goals.{In-Known}
 
 known : (c : goal.In-Known)
-    → (lookup_packed rule_names c.args.f.word ≡ some c.in-Known.row.rule) × RuleFits c.in-Known.row
+    → (lookup_packed rule_names c.args.f.word ≡ Some c.in-Known.row.rule) × RuleFits c.in-Known.row
 known c = subst (RuleKnown _) c.in-Known.is c.rule_of.ensures
 
 -- check 4

@@ -1,7 +1,7 @@
 -- Each return knows what the line was taken for, and the check that failed.
 use mathlib.Core.Path.{◌≡◌, sym, subst, ap₂, ◌∙◌}
 use mathlib.Core.Bool.{true}
-use mathlib.Core.Option.{some}
+use Rattle.std.specs.Prelude.{Some}
 use Prim.Native.Nat.{ℕ, ◌<◌}
 use native.Mathlib.Omega.{arith}
 use Rattle.tableau.specs.declared.Word.{Word}
@@ -21,7 +21,7 @@ use Rattle.line_checks.proofs.term_line.check.Goals.{In-Known, In-Term}
 
 -- the word is known
 known : (c : goal.In-Known)
-    → (lookup_packed words c.args.f.word ≡ some c.in-Known.row.word) × WordFits c.in-Known.row
+    → (lookup_packed words c.args.f.word ≡ Some c.in-Known.row.word) × WordFits c.in-Known.row
 known c = subst (WordKnown _) c.in-Known.is c.word_of.ensures
 
 taken : (c : goal.In-Term)

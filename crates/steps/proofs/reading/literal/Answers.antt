@@ -1,6 +1,6 @@
 -- The literal at the place is read; of place 0 nothing is said.
 use mathlib.Core.Path.{sym, ap, ◌∙◌}
-use mathlib.Core.Option.{some}
+use Rattle.std.specs.Prelude.{Some}
 use native.Mathlib.Omega.{arith}
 use Rattle.packing.specs.Packing.{unpack_literal, literal_of}
 use Rattle.packing.proofs.PackingLaws.{literal_of_view, literal_view_small}
@@ -17,4 +17,4 @@ pub returns : goal.returns
 returns c =
     let e = c.view.ensures in
     let a = c.literal_at.ensures in
-    record { small = literal_view_small _ _ e; is = λ h. a.literal unpack_literal ∙ ap some (sym (ap literal_of e ∙ literal_of_view _)) }
+    record { small = literal_view_small _ _ e; is = λ h. a.literal unpack_literal ∙ ap Some (sym (ap literal_of e ∙ literal_of_view _)) }
