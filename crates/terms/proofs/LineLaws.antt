@@ -1,8 +1,8 @@
 -- A T line and an A line, from what each of their checks comes to.
-use mathlib.Core.Path.{◌≡◌, refl, sym, ◌∙◌, ap}
-use mathlib.Core.Bool.{Bool, true, false, ◌&&◌, not, and-true}
+use mathlib.Core.Path.{◌≡◌, refl, sym, ◌∙◌, ap, subst}
+use mathlib.Core.Bool.{Bool, true, false, ◌&&◌, not, and-true, true≢false, false≢true}
 use mathlib.Core.List.{[], ◌∷◌, ◌++◌}
-use Rattle.std.specs.Prelude.{Option, None, Some}
+use Rattle.std.specs.Prelude.{Option, None, Some, IsSome, IsNone}
 use Prim.Native.Nat.{ℕ, ◌≤◌}
 use native.Mathlib.Omega.{arith}
 use lib.Dec.{leb, ltb}
@@ -23,7 +23,6 @@ use Rattle.syntax.specs.declared.Term.{Term}
 use Rattle.syntax.specs.declared.Literal.{Literal}
 use Rattle.syntax.specs.Syntax.{word_in, fields_in, term_in, literal_in, sides_in}
 use Rattle.packing.specs.Packing.{PackableLiteral}
-use Rattle.table.specs.declared.Found.{Found}
 use Rattle.table.specs.Held.{found_of}
 use Rattle.terms.specs.Lines.{sides_sorted}
 
@@ -53,13 +52,13 @@ term_line_lem table term e₆ e₇ e₈ e₉ e₁₀ = λ i.
     term_checks (e₆ i) (e₇ i) (e₈ i) (e₉ i) ((ap (is_new table) (written_term term) ∙ e₁₀) i) (table ++ (written_term term i ∷ []))
 
 -- what a search for the term says of check 10
-pub found_old : (o : Option TermNo) (v : TermNumber) → found_of o ≡ Found.At v → not (is_some o) ≡ false
-found_old None v e = cc
-found_old (Some t) v e = refl
+pub found_old : (o : Option TermNo) {r : Option TermNumber} → r ≡ found_of o → IsSome r → not (is_some o) ≡ false
+found_old None e h = absurd (false≢true (subst IsSome e h))
+found_old (Some t) e h = refl
 
-pub found_new : (o : Option TermNo) → found_of o ≡ Found.Nothing → o ≡ None
-found_new None e = refl
-found_new (Some t) e = cc
+pub found_new : (o : Option TermNo) {r : Option TermNumber} → r ≡ found_of o → IsNone r → o ≡ None
+found_new None e h = refl
+found_new (Some t) e h = absurd (true≢false (subst IsNone e h))
 
 -- AN A LINE: a literal leaves fields 5 and 6 to be 0, and both its sides are terms
 abbrev pub literal_checks : Bool → Bool → specification.Literal → Checked specification.Literal

@@ -1,5 +1,7 @@
 -- What T, A and C lines give.
 use Rattle.std.specs.Prelude.{◌≡◌, Bool, ◌&&◌, [], ◌∷◌, ◌++◌, ℕ, ◌+◌, ◌<◌}
+use Rattle.std.specs.Prelude.{Result, Ok, Err, IfOk, MatchResult}
+use Rattle.tableau.specs.declared.Reason.{Reason}
 use Rattle.tableau.specs.declared.Relation.{Relation}
 use Rattle.tableau.specs.Basics.{Four, four, every}
 use Rattle.tableau.specs.Fields.{Argument, unused, of, sides}
@@ -11,8 +13,6 @@ use Rattle.syntax.specs.Syntax.{word_in, fields_in, term_in}
 use Rattle.packing.specs.Packing.{pack_literal, code_limit}
 use Rattle.terms.specs.declared.arguments.ArgumentSort.{ArgumentSort}
 use Rattle.terms.specs.declared.arguments.ArgumentRow.{ArgumentRow}
-use Rattle.terms.specs.declared.Making.{Making}
-use Rattle.terms.specs.declared.Assumption.{Assumption}
 use Rattle.terms.specs.Arrays.{Arrays, Held}
 
 -- AN OPERATOR'S ROW, as the specification has it
@@ -24,16 +24,15 @@ abbrev pub row_in : ArgumentRow → Four Argument
 row_in r = four (argument_in r.a) (argument_in r.b) (argument_in r.c) (argument_in r.d)
 
 -- A T LINE: its reply, and what the arrays hold afterwards
-abbrev pub making_of : Checked Table → Making
-making_of (refused r) = Making.Refused r
-making_of (passed table) = Making.Made
+abbrev pub making_of : Checked Table → Result (Unit {0}) Reason
+making_of (refused r) = Err r
+making_of (passed table) = Ok tt
 
 -- a term that is made is added to the table; after a refusal the arrays are as before
-abbrev pub After : Making → Table → Term → Arrays → Arrays → ℕ → Type 0
-After Making.Made table term old new n = Held (table ++ (term_in term ∷ [])) new (n + 1)
-After (Making.Refused r) table term old new n = new ≡ old
+abbrev pub After : Result (Unit {0}) Reason → Table → Term → Arrays → Arrays → ℕ → Type 0
+After r table term old new n = MatchResult r (λ _. Held (table ++ (term_in term ∷ [])) new (n + 1)) (λ _. new ≡ old)
 
-pub record MakesTerm (table : Table) (term : Term) (old new : Arrays) (n : ℕ) (r : Making) : Type 0 where
+pub record MakesTerm (table : Table) (term : Term) (old new : Arrays) (n : ℕ) (r : Result (Unit {0}) Reason) : Type 0 where
   pub reply : r ≡ making_of (term_line table (word_in term) (fields_in term))
   pub after : After r table term old new n
 
@@ -41,10 +40,9 @@ pub record MakesTerm (table : Table) (term : Term) (old new : Arrays) (n : ℕ) 
 abbrev pub sides_sorted : Table → Relation → Four ℕ → Bool
 sides_sorted table R k = every (of_sort table) (sides R) k && one_sort R (sort_of (at table k.a)) (sort_of (at table k.b))
 
-abbrev pub assumption_of : Checked Literal → Assumption
-assumption_of (refused r) = Assumption.Refused r
-assumption_of (passed l) = Assumption.Assumed (pack_literal l)
+abbrev pub assumption_of : Checked Literal → Result ℕ Reason
+assumption_of (refused r) = Err r
+assumption_of (passed l) = Ok (pack_literal l)
 
-abbrev pub SmallCode : Assumption → Type 0
-SmallCode (Assumption.Assumed c) = c < code_limit
-SmallCode (Assumption.Refused r) = Unit {0}
+abbrev pub SmallCode : Result ℕ Reason → Type 0
+SmallCode r = IfOk r (λ c. c < code_limit)

@@ -15,42 +15,26 @@ ghost use Rattle.terms.specs.Lines.{MakesTerm, assumption_of, SmallCode};
 
 use packing::term_codes::pack;
 use syntax::{Literal, Term};
-use table::Found;
 use tableau::{Reason, TermNumber};
 
 mod arguments;
 mod sides;
 
-// The checks 7 to 10 of a T line.
-#[derive(Clone, Copy)]
-pub enum Making {
-    Made,
-    Refused(Reason),
-}
-
-// The checks 8 and 9 of an A or C line: the packed literal.
-#[derive(Clone, Copy)]
-pub enum Assumption {
-    Assumed(u32),
-    Refused(Reason),
-}
-
 // Check 8 of a field that holds a term, where n terms are made. (Check 9 is `table::has_sort`.)
 pub fn is_term(n: usize, t: TermNumber) -> bool
     ensures { (table : Table) → length table ≡ n → result ≡ is_term table t.0 }
 {
-    let field = t.0;
-    0 < field && field <= n
+    0 < t.0 && t.0 <= n
 }
 
-// A T line, where n terms are made.
+// The checks 7 to 10 of a T line, where n terms are made.
 pub fn make_term(
     terms: &mut [u64; table::NUMBERS],
     chains: &mut [u16; table::LINKS],
     rows: &mut [u64; mentions::WORDS],
     n: usize,
     term: Term,
-) -> Making
+) -> Result<(), Reason>
     requires held { (table : Table) × Held table (arrays terms.old chains.old rows.old) n }
     requires term_value { (every zero_if_unused (word_fields (word_in term)) (fields_in term) ≡ true) × ((fields_in term).a < name_limit) }
     ensures { (table : Table) → Held table (arrays terms.old chains.old rows.old) n
@@ -58,36 +42,40 @@ pub fn make_term(
         (arrays terms.new chains.new rows.new) n result }
 {
     if table::TERMS <= n {
-        return Making::Refused(Reason::TooManyTerms);
+        return Err(Reason::TooManyTerms);
     }
     if !arguments::are_made(n, term) {
-        return Making::Refused(Reason::NoSuchTerm);
+        return Err(Reason::NoSuchTerm);
     }
-    if !arguments::have_sorts(&*terms, term) {
-        return Making::Refused(Reason::WrongSort);
+    if !arguments::have_sorts(terms, term) {
+        return Err(Reason::WrongSort);
     }
     let packed = pack(term);
-    if let Found::At(_) = table::search(&*terms, &*chains, packed) {
-        return Making::Refused(Reason::TermRepeated);
+    if table::search(terms, chains, packed).is_some() {
+        return Err(Reason::TermRepeated);
     }
     let number = TermNumber(n + 1);
     table::add(terms, chains, number, packed);
     mentions::note(rows, number, term);
-    Making::Made
+    Ok(())
 }
 
-// An A or C line, where n terms are made.
-pub fn assume_literal(terms: &[u64; table::NUMBERS], n: usize, literal: Literal) -> Assumption
+// The checks 8 and 9 of an A or C line, where n terms are made: the packed literal.
+pub fn assume_literal(
+    terms: &[u64; table::NUMBERS],
+    n: usize,
+    literal: Literal,
+) -> Result<u32, Reason>
     requires { (table : Table) × Entries table terms.now × (length table ≡ n) }
     ensures value { (table : Table) → Entries table terms.now → length table ≡ n
         → result ≡ assumption_of (literal_line table (sides literal.relation) literal.relation (sides_in literal)) }
     ensures small_code { SmallCode result }
 {
     if !sides::are_made(n, literal) {
-        return Assumption::Refused(Reason::NoSuchTerm);
+        return Err(Reason::NoSuchTerm);
     }
     if !sides::have_sorts(terms, literal) {
-        return Assumption::Refused(Reason::WrongSort);
+        return Err(Reason::WrongSort);
     }
-    Assumption::Assumed(packing::literals::pack(literal))
+    Ok(packing::literals::pack(literal))
 }

@@ -8,7 +8,7 @@ use Rattle.tableau.specs.Terms.{Table}
 use Rattle.tableau.specs.Reply.{term_or_name}
 use Rattle.syntax.specs.Syntax.{literal_in, sides_in}
 use Rattle.packing.specs.Packing.{PackableLiteral}
-use Rattle.terms.specs.declared.Assumption.{Assumption}
+use Rattle.std.specs.Prelude.{Ok}
 use Rattle.terms.specs.Lines.{assumption_of}
 use Rattle.terms.proofs.LineLaws.{literal_line_lem, sides_packable}
 use Rattle.terms.proofs.assume_literal.Goals as goal
@@ -49,7 +49,7 @@ pub returns : goal.returns
 returns c =
     record {
       value = λ table E q.
-          ap Assumption.Assumed c.pack.ensures.0
+          ap Ok c.pack.ensures.0
           ∙ sym (ap assumption_of (literal_line_lem table c.args.literal (eight (goal.at.returns c).Else-not-are_made table q)
           (sym (c.have_sorts.ensures table E) ∙ c.if-not-have_sorts.false)));
       small_code = c.pack.ensures.1;

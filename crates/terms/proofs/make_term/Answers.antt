@@ -40,15 +40,15 @@ nine : (c : goal.Else-not-have_sorts) (table : Table) → (Held table (arrays c.
 nine c table H = sym (c.have_sorts.ensures table H.searchable.entries) ∙ c.if-not-have_sorts.false
 
 found : (c : goal.After-search) (table : Table) → (Held table (arrays c.args.terms.now c.args.chains.now c.args.rows.now) c.args.n)
-    → found_of (number_of table (term_in (c.args.term))) ≡ c.search.result
-found c table H = sym (c.search.ensures table H.searchable _
+    → c.search.result ≡ found_of (number_of table (term_in c.args.term))
+found c table H = c.search.ensures table H.searchable _
     (record {
       is = c.pack-packed.ensures;
       packable = (term_packable table c.args.term ((record {
         unused_zero = c.requires.term_value.0;
         made = sym (c.are_made.ensures table H.count) ∙ c.if-not-are_made.false;
       })) H.searchable.entries.few c.requires.term_value.1);
-    }))
+    })
 
 -- so check 10 decides
 line : (c : goal.After-search) (table : Table) → (Held table (arrays c.args.terms.now c.args.chains.now c.args.rows.now) c.args.n) → {ten : Bool} → is_new table (term_in (c.args.term)) ≡ ten
@@ -92,11 +92,12 @@ pack-packed-requires c = let p = c.requires.held in packable (goal.at.pack-packe
 pub search-requires : goal.search-requires
 search-requires c = let p = c.requires.held in (p.0, p.1.searchable)
 
-pub returns-in-At : goal.returns-in-At
-returns-in-At c =
+pub returns-then-is_some : goal.returns-then-is_some
+returns-then-is_some c =
     λ table H.
+    let at = (goal.at.returns-then-is_some c).After-search in
     record {
-      reply = sym (ap making_of (line (goal.at.returns-in-At c).After-search table H (found_old (number_of table (term_in (c.args.term))) _ (found (goal.at.returns-in-At c).After-search table H ∙ c.in-At.is))));
+      reply = sym (ap making_of (line at table H (found_old (number_of table (term_in c.args.term)) (found at table H) (sym c.is_some.ensures ∙ c.if-is_some.true))));
       after = refl;
     }
 
@@ -110,7 +111,7 @@ note-requires c =
 pub returns : goal.returns
 returns c =
     λ table H.
-    let new = found_new (number_of table (term_in (c.args.term))) (found (goal.at.returns c).After-search table H ∙ c.in_default.is) in record {
+    let new = found_new (number_of table (term_in (c.args.term))) (found (goal.at.returns c).After-search table H) (sym c.is_some.ensures ∙ c.if-is_some.false) in record {
       reply = sym (ap making_of (line (goal.at.returns c).After-search table H (ap (λ (o : Option TermNo). not (is_some o)) new)));
       after = held_grown table (c.args.term) _ _ _ _ H
           (record {
