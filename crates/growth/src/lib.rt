@@ -15,7 +15,7 @@ use clauses::Span;
 use reply::{Counts, Verdict};
 use rules::outcome::Outcome;
 use tableau::{ClauseNumber, Letter, Reason, Rule};
-use tree::{Change, Extent, Growth, Tree, least};
+use tree::{Change, Extent, Growth, Tree};
 
 // How far a file is read: the letter of its last line, whether the tree is closed, the lines so far and their counts, the number of the last clause. The first `noted`
 // literals of the branch have their rows of mentions.
@@ -186,7 +186,7 @@ impl Progress {
             letter,
             closed: self.closed,
             lines: self.lines,
-            noted: least(self.noted, len),
+            noted: self.noted.min(len),
             clauses: self.clauses,
             counts,
         }

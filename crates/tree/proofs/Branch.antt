@@ -28,15 +28,14 @@ from_check n p h =
     (leb-true 1 p b.0, leb-true p n b.1)
 
 -- the code at a place
-at_index : (f : ℕ → Literal) (b : List ℕ) (n m : ℕ) → m < n → n ≤ length b → slice_get (map f (take n b)) m ≡ Some (f (get_or b m 0))
-at_index f [] n m h g = absurd (omega arith)
-at_index f (x ∷ b) zero m h g = absurd (omega arith)
-at_index f (x ∷ b) (suc n) zero h g = refl
-at_index f (x ∷ b) (suc n) (suc m) h g = at_index f b n m (omega arith) (omega arith)
+at_index : (f : ℕ → Literal) (b : List ℕ) (m : ℕ) → m < length b → slice_get (map f b) m ≡ Some (f (get_or b m 0))
+at_index f [] m h = absurd (omega arith)
+at_index f (x ∷ b) zero h = refl
+at_index f (x ∷ b) (suc m) h = at_index f b m (omega arith)
 
-pub at_place : (f : ℕ → Literal) (b : List ℕ) (n p : ℕ) → (1 ≤ p) × (p ≤ n) → n ≤ length b → literal_at (map f (take n b)) p ≡ Some (f (get_or b (p - 1) 0))
-at_place f b n zero h l = absurd (omega arith)
-at_place f b n (suc m) h l = let e : suc m - 1 ≡ m = omega arith in rw e (at_index f b n m (omega arith) l)
+pub at_place : (f : ℕ → Literal) (b : List ℕ) (p : ℕ) → (1 ≤ p) × (p ≤ length b) → literal_at (map f b) p ≡ Some (f (get_or b (p - 1) 0))
+at_place f b zero h = absurd (omega arith)
+at_place f b (suc m) h = let e : suc m - 1 ≡ m = omega arith in rw e (at_index f b m (omega arith))
 
 -- nothing is appended, and one code more
 pub append_none : {b : List ℕ} {n : ℕ} → IsBranch b n → Appended b n [] b n

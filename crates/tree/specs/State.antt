@@ -62,9 +62,9 @@ abbrev pub HasPlace : ℕ → ℕ → Bool → Type 0
 HasPlace n p r = (B : List Literal) → length B ≡ n → r ≡ on_branch B p
 
 -- r is the code at place p
-pub record IsAt (array : List ℕ) (n p r : ℕ) : Type 0 where
+pub record IsAt (codes : List ℕ) (p r : ℕ) : Type 0 where
   pub bounded : r < code_limit
-  pub literal : (f : ℕ → Literal) → literal_at (map f (take n array)) p ≡ Some (f r)
+  pub literal : (f : ℕ → Literal) → literal_at (map f codes) p ≡ Some (f r)
 
 -- more codes behind the first n, and the new length
 pub record Appended (array : List ℕ) (n : ℕ) (more : List ℕ) (array' : List ℕ) (n' : ℕ) : Type 0 where

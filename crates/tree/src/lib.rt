@@ -3,13 +3,13 @@
 // worked out from its extent alone, and then stored in place, one array a call.
 #![tactic(auto)]
 
-ghost use Rattle.std.specs.Prelude.{◌≡◌, true, [], ◌∷◌, map, ℕ, suc, ◌+◌, ◌-◌, ◌≤◌, ◌<◌, min, max, get_or};
+ghost use Rattle.std.specs.Prelude.{◌≡◌, true, [], ◌∷◌, map, ℕ, suc, ◌+◌, ◌-◌, ◌≤◌, ◌<◌, length, get_or};
 ghost use Rattle.tableau.specs.Terms.{Literal};
 ghost use Rattle.tableau.specs.Tree.{max_places, max_waiting, root, passed, close, grown};
 ghost use Rattle.tableau.specs.Reply.{max_clause_lines};
 ghost use Rattle.packing.specs.Packing.{code_limit};
 ghost use Rattle.clauses.specs.Held.{codes_at};
-ghost use Rattle.tree.specs.State.{codes_of, AtMost, one_code, packed, packed_one, cut_of, unpacked, IsBranch, HasPlace, IsAt, Appended};
+ghost use Rattle.tree.specs.State.{codes_of, AtMost, one_code, packed, packed_one, cut_of, unpacked, AreCodes, IsBranch, HasPlace, IsAt, Appended};
 ghost use Rattle.tree.specs.State.{IsStack, top_of, begun_of, MayWait, Pushed, tree_of, Within};
 ghost use Rattle.tree.specs.Change.{no_literals, none_begun, unchanged_from, InLimits, Gives};
 
@@ -68,18 +68,6 @@ pub enum Growth {
     To(Change),
     Closed,
     Refused(Reason),
-}
-
-pub fn least(a: usize, b: usize) -> usize
-    ensures { result ≡ min a b }
-{
-    if a < b { a } else { b }
-}
-
-fn greatest(a: usize, b: usize) -> usize
-    ensures { result ≡ max a b }
-{
-    if a < b { b } else { a }
 }
 
 impl Alternative {
@@ -216,7 +204,7 @@ impl Extent {
     {
         let len = self.len;
         let count = self.count;
-        if Tree::PLACES < len + greatest(first.count, second.count) {
+        if Tree::PLACES < len + first.count.max(second.count) {
             return Growth::Refused(Reason::BranchFull);
         }
         if Tree::WAITING < count + 1 {
@@ -241,7 +229,7 @@ impl Extent {
     {
         let len = self.len;
         let count = self.count;
-        if Tree::PLACES < len + greatest(first.count, greatest(second.count, third.count)) {
+        if Tree::PLACES < len + first.count.max(second.count).max(third.count) {
             return Growth::Refused(Reason::BranchFull);
         }
         if Tree::WAITING < count + 2 {
@@ -271,7 +259,7 @@ impl Extent {
         }
         let recorded = Alternative::cut(top);
         Growth::To(Change {
-            cut: least(recorded, len),
+            cut: recorded.min(len),
             adds: Alternative::unpack(top),
             kept: count - 1,
             begun: Begun::none(),
@@ -302,12 +290,11 @@ impl Tree {
         1 <= place.0 && place.0 <= len
     }
 
-    pub fn literal_at(branch: &[u32; Tree::PLACES], len: usize, place: Place) -> u32
-        requires { IsBranch branch.now len × HasPlace len place.0 true }
-        ensures { IsAt branch.now len place.0 result }
+    pub fn literal_at(branch: &[u32], place: Place) -> u32
+        requires { AreCodes branch.now × HasPlace (length branch.now) place.0 true }
+        ensures { IsAt branch.now place.0 result }
     {
-        let i = place.0 - 1;
-        branch[i]
+        branch[place.0 - 1]
     }
 
     // The result is the new length.

@@ -11,5 +11,5 @@ returns-then-count-eq0 c = close_last _ c.if-count-eq0.true
 
 pub returns : goal.returns
 returns c =
-    let cut : c.least.result ≡ min (cut_of c.args.self.top) c.args.self.len = omega arith in
+    let cut : c.min.result ≡ min (cut_of c.args.self.top) c.args.self.len = omega arith in
     rw (c.none.ensures, c.unpack.ensures, cut) (close_more _ c.if-count-eq0.false)

@@ -5,8 +5,8 @@ use Rattle.tree.proofs.Waiting.{begins_one}
 use Rattle.tree.proofs.Changes.{branch_full, waiting_full, steps_to}
 use Rattle.tree.proofs.Extent.split2.Goals as goal
 
-pub returns-then-len-greatest-gt-PLACES : goal.returns-then-len-greatest-gt-PLACES
-returns-then-len-greatest-gt-PLACES c = branch_full _ c.args.first (c.args.second ∷ []) (omega arith) (omega arith)
+pub returns-then-len-max-gt-PLACES : goal.returns-then-len-max-gt-PLACES
+returns-then-len-max-gt-PLACES c = branch_full _ c.args.first (c.args.second ∷ []) (omega arith) (omega arith)
 
 pub returns-then-count-gt-WAITING : goal.returns-then-count-gt-WAITING
 returns-then-count-gt-WAITING c = waiting_full _ c.args.first (c.args.second ∷ []) (omega arith) (omega arith) (omega arith)

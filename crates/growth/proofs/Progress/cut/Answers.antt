@@ -1,4 +1,0 @@
-use Rattle.growth.proofs.Progress.cut.Goals as goal
-
-pub returns : goal.returns
-returns c = rw c.least.ensures
