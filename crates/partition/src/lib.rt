@@ -1,73 +1,73 @@
-// A partition of the numbers below 1,024 into blocks, in an array that the caller lends: blocks[x] is the number that stands for the block of x. Two numbers are in one block where their entries
-// are equal. Terms are put into one block where it follows that they are equal.
+// Terms in blocks: two terms are put into one block where it follows that they are equal.
 #![tactic(auto)]
 
-ghost use Rattle.std.specs.Prelude.{◌≡◌, ◌||◌, eqb, length};
-ghost use Rattle.packing.specs.Packing.{Small};
-ghost use Rattle.partition.specs.Blocks.{block_of, IsPartition, renamed_as, Renamed, Joined, Singletons};
+ghost use Rattle.partition.specs.Array.{IsPartition, Renamed};
 
 use table::NUMBERS;
 use tableau::TermNumber;
 
-// Every number in a block of its own.
-pub fn singletons() -> [u16; NUMBERS]
-    ensures { Singletons result }
-{
-    let mut blocks = [0; NUMBERS];
-    let mut i = 0;
-    while i < NUMBERS {
-        blocks[i] = i as u16;
-        i += 1;
-    }
-    blocks
+// A partition of the numbers below NUMBERS: blocks[x] is the number that stands for the block of x.
+#[derive(Drop)]
+pub struct Partition {
+    blocks: [u16; NUMBERS],
+    pub ghost valid: { IsPartition blocks },
 }
 
-fn renamed(x: u16, from: u16, to: u16) -> u16
-    ensures { result ≡ renamed_as x from to }
-{
-    if x == from { to } else { x }
-}
-
-// The block `from` becomes part of the block `to`. One loop over the array, with no branch, takes less time than a forest of numbers and its searches.
+// The block `from` becomes part of the block `to`. One loop over the array, with no branch, takes
+// less time than a forest of numbers and its searches.
 fn merge(blocks: &mut [u16; NUMBERS], from: u16, to: u16)
-    requires { length blocks.old ≡ 1024 }
     ensures { Renamed blocks.old blocks.new from to }
 {
-    let mut i = 0;
-    while i < NUMBERS {
-        blocks[i] = renamed(blocks[i], from, to);
-        i += 1;
+    for x in blocks.iter_mut() {
+        *x = if *x == from { to } else { *x };
     }
 }
 
-// Joins the blocks of a and b, and says whether they were apart. Which of its numbers stands for the joined block is free:
-// whoever asks compares two entries, or takes an entry as the block's name.
-pub fn join(blocks: &mut [u16; NUMBERS], a: usize, b: usize) -> bool
-    requires { IsPartition blocks.old × Small a × Small b }
-    ensures { Joined blocks.old blocks.new a b result }
-{
-    let from = blocks[a];
-    let to = blocks[b];
-    if from == to {
-        return false;
+impl Partition {
+    ghost use Rattle.std.specs.Prelude.{◌≡◌, eqb};
+    ghost use Rattle.packing.specs.Packing.{Small};
+    ghost use Rattle.partition.specs.Blocks.{block_of, Joined, Singletons};
+
+    // Every number in a block of its own.
+    pub fn singletons() -> Self
+        ensures { Singletons result }
+    {
+        let mut blocks = [0; NUMBERS];
+        for (i, x) in blocks.iter_mut().enumerate() {
+            *x = i as u16;
+        }
+        Partition { blocks }
     }
-    merge(blocks, from, to);
-    true
-}
 
-// Are the terms in one block?
-pub fn together(blocks: &[u16; NUMBERS], a: TermNumber, b: TermNumber) -> bool
-    requires { Small a.0 × Small b.0 }
-    ensures { result ≡ eqb (block_of blocks.now a.0) (block_of blocks.now b.0) }
-{
-    let left = a.0;
-    let right = b.0;
-    blocks[left] == blocks[right]
-}
+    // The number that stands for the block of a term.
+    pub fn block(&self, a: TermNumber) -> TermNumber
+        requires { Small a.0 }
+        ensures small { Small result.0 }
+        ensures block { result.0 ≡ block_of self.now a.0 }
+    {
+        TermNumber(usize::from(self.blocks[a.0]))
+    }
 
-// Whether either of two changes was one.
-pub fn either(a: bool, b: bool) -> bool
-    ensures { result ≡ (a || b) }
-{
-    if a { true } else { b }
+    // Are the terms in one block?
+    pub fn together(&self, a: TermNumber, b: TermNumber) -> bool
+        requires { Small a.0 × Small b.0 }
+        ensures { result ≡ eqb (block_of self.now a.0) (block_of self.now b.0) }
+    {
+        self.blocks[a.0] == self.blocks[b.0]
+    }
+
+    // Joins the blocks of a and b, and says whether they were apart. Which of its numbers stands for
+    // the joined block is free: whoever asks compares two blocks, or takes one as a name.
+    pub fn join(&mut self, a: TermNumber, b: TermNumber) -> bool
+        requires { Small a.0 × Small b.0 }
+        ensures { Joined self.old self.new a.0 b.0 result }
+    {
+        let from = self.blocks[a.0];
+        let to = self.blocks[b.0];
+        if from == to {
+            return false;
+        }
+        merge(&mut self.blocks, from, to);
+        true
+    }
 }

@@ -1,10 +1,11 @@
--- The invariant: the entries before i are renamed, and the others as they were.
-use Prim.Native.Nat.{◌-◌}
-use Rattle.partition.proofs.ArrayLaws.{Part}
+-- The entries before the index are renamed, and the others as they were.
+use Rattle.std.proofs.Common.{◌≡◌, ℕ, ◌<◌, ◌≤◌, length, get_or}
+use Rattle.partition.specs.Array.{renamed_as}
 use Rattle.partition.proofs.merge.Given as goal
 
-abbrev pub invariant-loop-i : goal.invariant-loop-i
-invariant-loop-i l = Part l.initial.blocks l.blocks l.from l.to l.i
-
-abbrev pub decreases-loop-i : goal.decreases-loop-i
-decreases-loop-i l = 1024 - l.i
+abbrev pub invariant-loop-x : goal.invariant-loop-x
+invariant-loop-x l = record {
+  size : length l.blocks ≡ length l.initial.blocks;
+  done : (k : ℕ) → k < l.x-index → get_or l.blocks k 0 ≡ renamed_as (get_or l.initial.blocks k 0) l.from l.to;
+  left : (k : ℕ) → l.x-index ≤ k → get_or l.blocks k 0 ≡ get_or l.initial.blocks k 0;
+}
