@@ -12,73 +12,78 @@ use packing::{LiteralView, TermView};
 use rules::outcome;
 use rules::outcome::{Outcome, literal};
 use rules::searches::on_none;
-use table::Found;
 use tableau::{Operator, Reason, Relation, TermNumber};
 
 // u in sin(v) gives u eq v.
-pub fn sge(p: LiteralView, terms: &[u64; table::NUMBERS]) -> Outcome
+pub fn sge(p: LiteralView, terms: &[u64; table::NUMBERS]) -> Result<Outcome, Reason>
     requires held_by { (table : Table) × HeldBy terms.now table }
     requires small_literal { SmallLiteral p }
     ensures { Concludes (HeldBy terms.now) Rule.Sge (Some (literal_of p)) None 0 0 result }
 {
     let LiteralView::In(u, x) = p else {
-        return Outcome::Refused(Reason::NeedNotMet);
+        return Err(Reason::NeedNotMet);
     };
     let TermView::Sin(v) = table::view(terms, x) else {
-        return Outcome::Refused(Reason::NeedNotMet);
+        return Err(Reason::NeedNotMet);
     };
-    outcome::adds_one(literal(Relation::Eq, u, v))
+    Ok(outcome::adds_one(literal(Relation::Eq, u, v)))
 }
 
 // t = sin(u) gives u ni all ∥ u in t.
-pub fn sgi(t: TermNumber, terms: &[u64; table::NUMBERS], chains: &[u16; table::LINKS]) -> Outcome
+pub fn sgi(
+    t: TermNumber,
+    terms: &[u64; table::NUMBERS],
+    chains: &[u16; table::LINKS],
+) -> Result<Outcome, Reason>
     requires searchable_by { (table : Table) × SearchableBy terms.now chains.now table }
     requires small { Small t.0 }
     ensures { Concludes (SearchableBy terms.now chains.now) Rule.Sgi None None t.0 0 result }
 {
     let TermView::Sin(u) = table::view(terms, t) else {
-        return Outcome::Refused(Reason::NeedNotMet);
+        return Err(Reason::NeedNotMet);
     };
-    let Found::At(a) = on_none(terms, chains, Operator::All) else {
-        return Outcome::Refused(Reason::TermNotMade);
-    };
-    outcome::splits(literal(Relation::Ni, u, a), literal(Relation::In, u, t))
+    let a = on_none(terms, chains, Operator::All)?;
+    Ok(outcome::splits(literal(Relation::Ni, u, a), literal(Relation::In, u, t)))
 }
 
 // reference t, region w gives t in w ∥ t ni w. Their sorts are asked before, by check 9.
-pub fn cut(t: TermNumber, w: TermNumber) -> Outcome
+pub fn cut(t: TermNumber, w: TermNumber) -> Result<Outcome, Reason>
     requires { Small t.0 × Small w.0 }
     ensures { Concludes Anywhere Rule.Cut None None t.0 w.0 result }
 {
-    outcome::splits(literal(Relation::In, t, w), literal(Relation::Ni, t, w))
+    Ok(outcome::splits(literal(Relation::In, t, w), literal(Relation::Ni, t, w)))
 }
 
 // u in r gives u in all.
-pub fn all(p: LiteralView, terms: &[u64; table::NUMBERS], chains: &[u16; table::LINKS]) -> Outcome
+pub fn all(
+    p: LiteralView,
+    terms: &[u64; table::NUMBERS],
+    chains: &[u16; table::LINKS],
+) -> Result<Outcome, Reason>
     requires searchable_by { (table : Table) × SearchableBy terms.now chains.now table }
     requires small_literal { SmallLiteral p }
     ensures { Concludes (SearchableBy terms.now chains.now) Rule.All (Some (literal_of p)) None 0 0 result }
 {
     let LiteralView::In(u, _) = p else {
-        return Outcome::Refused(Reason::NeedNotMet);
+        return Err(Reason::NeedNotMet);
     };
-    let Found::At(a) = on_none(terms, chains, Operator::All) else {
-        return Outcome::Refused(Reason::TermNotMade);
-    };
-    outcome::adds_one(literal(Relation::In, u, a))
+    let a = on_none(terms, chains, Operator::All)?;
+    Ok(outcome::adds_one(literal(Relation::In, u, a)))
 }
 
 // u in r gives u ne nul.
-pub fn nul(p: LiteralView, terms: &[u64; table::NUMBERS], chains: &[u16; table::LINKS]) -> Outcome
+pub fn nul(
+    p: LiteralView,
+    terms: &[u64; table::NUMBERS],
+    chains: &[u16; table::LINKS],
+) -> Result<Outcome, Reason>
     requires searchable_by { (table : Table) × SearchableBy terms.now chains.now table }
     requires small_literal { SmallLiteral p }
     ensures { Concludes (SearchableBy terms.now chains.now) Rule.Nul (Some (literal_of p)) None 0 0 result }
 {
     let LiteralView::In(u, _) = p else {
-        return Outcome::Refused(Reason::NeedNotMet);
+        return Err(Reason::NeedNotMet);
     };
-    let Found::At(n) = on_none(terms, chains, Operator::Nul) else {
-        return Outcome::Refused(Reason::TermNotMade);
-    };
-    outcome::adds_one(literal(Relation::Ne, u, n))
+    let n = on_none(terms, chains, Operator::Nul)?;
+    Ok(outcome::adds_one(literal(Relation::Ne, u, n)))
 }

@@ -1,35 +1,33 @@
 -- What the arms of a `let .. else` say: a literal of another relation, a term of another operator, a search that finds nothing; and what an outcome adds.
 use mathlib.Core.Path.{◌≡◌, refl, sym, ◌∙◌, ap, subst}
 use mathlib.Core.Bool.{Bool, true, false}
-use mathlib.Core.List.{List, [], ◌∷◌}
-use Rattle.std.specs.Prelude.{Option, None, Some}
-use Prim.Native.Nat.{ℕ, suc, ◌≤◌}
+use mathlib.Core.List.{List}
+use Rattle.std.specs.Prelude.{Option, None, Some, Result, Ok, Err, IsErrAnd}
+use Rattle.std.proofs.lemmas.Result.{IfOk-at_ok, err_from_is_err_and}
+use Prim.Native.Nat.{ℕ, suc}
 use native.Mathlib.Omega.{arith}
 use borrow.Author.Tests.{eq-eqb}
 use denote.Enum.Declared as Declared
 use Rattle.tableau.specs.declared.Operator.{Operator}
+use Rattle.tableau.specs.declared.Reason.{Reason}
 use Rattle.tableau.specs.declared.Relation.{Relation}
 use Rattle.tableau.specs.declared.TermNumber.{TermNumber}
 use Rattle.tableau.specs.Basics.{Four, four, guard}
 use Rattle.tableau.specs.Fields.{arguments}
 use Rattle.tableau.specs.Terms.{TermNo, Table, Term, Literal, variable, apply, literal, operator_index, relation_index, sort_index, same_operator, same_relation, number_of}
 use Rattle.tableau.specs.Rules.{rule}
-use Rattle.tableau.specs.Tree.{passed, answer}
+use Rattle.tableau.specs.Tree.{answer}
 use Rattle.tableau.specs.Steps.{arguments_of, fits, fits_literal, met, made, made_literals, made_alternatives, conclude_rows, conclude}
 use Rattle.tableau.proofs.Match.{same_operator_lem}
 use Rattle.packing.specs.declared.TermView.{TermView}
 use Rattle.packing.specs.declared.LiteralView.{LiteralView}
-use Rattle.packing.specs.Packing.{view_of, view_apply, literal_of, relation_of, left_of, right_of, number, unpack_literal, pack_literal, PackableLiteral, SmallView}
+use Rattle.packing.specs.Packing.{view_of, view_apply, literal_of, relation_of, left_of, right_of, number, unpack_literal, pack_literal, PackableLiteral, Small, SmallView}
 use Rattle.packing.proofs.PackingLaws.{literal_unpack_pack}
 use Rattle.packing.proofs.ViewLaws.{operator_tag}
 pub use Rattle.packing.proofs.ViewLaws.{is_not}
 use Rattle.packing.specs.contracts.TermView as term-view
-use Rattle.table.specs.declared.Found.{Found}
-use Rattle.table.specs.Held.{found_of, FoundAs, ViewAt}
-use Rattle.tree.specs.declared.Alternative.{Alternative}
-use Rattle.tree.specs.State.{AtMost}
-use Rattle.rules.specs.declared.outcome.Outcome.{Outcome}
-use Rattle.rules.specs.Answer.{Builds, Forms}
+use Rattle.table.specs.Held.{ViewAt}
+use Rattle.rules.specs.Answer.{SearchableBy, Finds, made_as}
 
 -- The answer of a rule, computed: to unfold this is to unfold all that runs a row.
 unfoldable pub computing : Type 0
@@ -186,34 +184,29 @@ pub view_small : {A : Table → Type 0} {n : TermNo} {x y : TermView} → ((tabl
 view_small w f e = subst SmallView e (f w.0 w.1).small
 
 -- A SEARCH: the number that it finds is the term's, and where it finds nothing the term has none
-number_found : {f : Found} {n : TermNumber} (m : Option TermNo) → f ≡ found_of m → f ≡ Found.At n → m ≡ Some n.0
-number_found None p q = cc
-number_found (Some k) p q = cc
+found_as : {f : Result TermNumber Reason} {n : TermNumber} (m : Option TermNo) → f ≡ made_as m → f ≡ Ok n → m ≡ Some n.0
+found_as None p q = cc
+found_as (Some k) p q = cc
 
-no_number : {f : Found} (m : Option TermNo) → f ≡ found_of m → f ≡ Found.Nothing → m ≡ None
-no_number None p q = refl
-no_number (Some k) p q = cc
+missing_as : {f : Result TermNumber Reason} {d : Reason} (m : Option TermNo) → f ≡ made_as m → f ≡ Err d → (m ≡ None) × (d ≡ Reason.TermNotMade)
+missing_as None p q = (refl, (cc))
+missing_as (Some k) p q = ((cc), (cc))
 
-pub found_at : {table : Table} {e : Term} {f : Found} {n : TermNumber} → FoundAs table e f → f ≡ Found.At n → number_of table e ≡ Some n.0
-found_at k q = number_found _ k.is q
+module _ {terms chains : List ℕ} {e : Term} {f : Result TermNumber Reason} (F : Finds terms chains e f) where
+  pub found_small : {n : TermNumber} → f ≡ Ok n → Small n.0
+  found_small q = IfOk-at_ok (λ n. Small n.0) q F.small
 
-pub found_nothing : {table : Table} {e : Term} {f : Found} → FoundAs table e f → f ≡ Found.Nothing → number_of table e ≡ None
-found_nothing k q = no_number _ k.is q
+  module _ {table : Table} (S : SearchableBy terms chains table) where
+    pub found : {n : TermNumber} → f ≡ Ok n → number_of table e ≡ Some n.0
+    found q = found_as _ (F.is table S) q
 
--- AN ALTERNATIVE of at most m codes has at most n
-pub at_most_lem : (n : ℕ) {m : ℕ} {a : Alternative} → m ≤ n → AtMost m a → AtMost n a
-at_most_lem n h k = record { count = omega arith; first = k.first; second = k.second; third = k.third }
+    pub missing : {d : Reason} → f ≡ Err d → (number_of table e ≡ None) × (d ≡ Reason.TermNotMade)
+    missing q = missing_as _ (F.is table S) q
+
+-- THE EXIT OF A `?`: the reason goes on to the caller
+pub passed_on : {A : Type 0} {r : Result A Reason} {d : Reason} → IsErrAnd r (λ e. e ≡ d) → r ≡ Err d
+passed_on {r} h = let p = err_from_is_err_and r h in cc
 
 -- a packed literal is read back
 pub packed_back : (l : Literal) {p : ℕ} → PackableLiteral l → p ≡ pack_literal l → unpack_literal p ≡ l
 packed_back l h e = ap unpack_literal e ∙ literal_unpack_pack l h
-
--- what an outcome of alternatives adds, by what they are
-pub adds : {n : ℕ} {k : Alternative} {ls : List Literal} → n ≤ 3 → Forms n k ls → Builds (Outcome.Adds k) (ls ∷ [])
-adds h f = record { room = at_most_lem 3 h f.at_most; adds = ap (λ l. passed (l ∷ [])) f.is }
-
-pub splits : {m n : ℕ} {k l : Alternative} {ks ls : List Literal} → m ≤ 3 → n ≤ 2 → Forms m k ks → Forms n l ls → Builds (Outcome.Splits k l) (ks ∷ ls ∷ [])
-splits h i f g = record {
-  room = (at_most_lem 3 h f.at_most, at_most_lem 2 i g.at_most);
-  adds = λ i. passed (f.is i ∷ g.is i ∷ []);
-}

@@ -6,12 +6,12 @@ ghost use Rattle.rules.specs.Answer.{literal_with, Forms, Builds};
 
 use packing::literals::pack;
 use syntax::Literal;
-use tableau::{Reason, Relation, TermNumber};
+use tableau::{Relation, TermNumber};
 use tree::Alternative;
 
+// What a rule makes of a branch: it closes, or goes on by alternatives.
 #[derive(Clone, Copy)]
 pub enum Outcome {
-    Refused(Reason),
     Closes,
     Adds(Alternative),
     Splits(Alternative, Alternative),

@@ -1,12 +1,11 @@
-// The search for a term that a rule would add, by its operator and arguments.
+// The search for a term that a rule would add, by its operator and arguments: its number, or refusal 14 where it is not made.
 ghost use Rattle.tableau.specs.Basics.{four};
 ghost use Rattle.tableau.specs.Terms.{Table, apply};
 ghost use Rattle.packing.specs.Packing.{Small};
 ghost use Rattle.rules.specs.Answer.{SearchableBy, Finds};
 
 use syntax::{Arguments, Term};
-use table::Found;
-use tableau::{Operator, TermNumber};
+use tableau::{Operator, Reason, TermNumber};
 
 // An operator on three terms; on fewer, the others are 0.
 pub fn on_three(
@@ -16,7 +15,7 @@ pub fn on_three(
     a: TermNumber,
     b: TermNumber,
     c: TermNumber,
-) -> Found
+) -> Result<TermNumber, Reason>
     requires searchable_by { (table : Table) × SearchableBy terms.now chains.now table }
     requires small { Small a.0 × Small b.0 × Small c.0 }
     ensures { Finds terms.now chains.now (apply operator (four a.0 b.0 c.0 0)) result }
@@ -27,7 +26,7 @@ pub fn on_three(
         c,
         d: TermNumber(0),
     };
-    table::find(terms, chains, Term::Apply(operator, arguments))
+    table::find(terms, chains, Term::Apply(operator, arguments)).ok_or(Reason::TermNotMade)
 }
 
 pub fn on_one(
@@ -35,7 +34,7 @@ pub fn on_one(
     chains: &[u16; table::LINKS],
     operator: Operator,
     a: TermNumber,
-) -> Found
+) -> Result<TermNumber, Reason>
     requires searchable_by { (table : Table) × SearchableBy terms.now chains.now table }
     requires small { Small a.0 }
     ensures { Finds terms.now chains.now (apply operator (four a.0 0 0 0)) result }
@@ -47,7 +46,7 @@ pub fn on_none(
     terms: &[u64; table::NUMBERS],
     chains: &[u16; table::LINKS],
     operator: Operator,
-) -> Found
+) -> Result<TermNumber, Reason>
     requires { (table : Table) × SearchableBy terms.now chains.now table }
     ensures { Finds terms.now chains.now (apply operator (four 0 0 0 0)) result }
 {

@@ -4,10 +4,6 @@ use Rattle.rules.proofs.Laws.{computing}
 use Rattle.rules.proofs.Rows.{always}
 use Rattle.member_rules.proofs.cut.Goals as goal
 
-pub splits-requires : goal.splits-requires
-unfolding computing
-splits-requires c = let g = c.requires in rw (c.literal.ensures, c.literal-2.ensures) (g, g)
-
 pub returns : goal.returns
 unfolding computing
 returns c = always refl (λ table. refl) (rw (c.literal.ensures, c.literal-2.ensures) at c.splits.ensures)

@@ -1,14 +1,10 @@
 -- `sge` answers what its row says.
-use mathlib.Core.Path.{refl, sym, ◌∙◌}
+use mathlib.Core.Path.{refl, ◌∙◌}
 use Rattle.tableau.specs.declared.Relation.{Relation}
 use Rattle.tableau.specs.Terms.{at}
-use Rattle.rules.proofs.Laws.{computing, is_not, is_sin, view_small}
+use Rattle.rules.proofs.Laws.{computing, is_not, is_sin}
 use Rattle.rules.proofs.Rows.{other_p, other_region}
 use Rattle.member_rules.proofs.sge.Goals as goal
-
--- u in sin(v)
-pub adds_one-requires : goal.adds_one-requires
-adds_one-requires c = rw c.literal.ensures ((rw c.in-In.is at c.requires.small_literal).0, view_small c.requires.held_by c.view.ensures c.in-Sin.is)
 
 pub returns : goal.returns
 unfolding computing
@@ -18,17 +14,13 @@ returns c =
       room = built.room;
       answers = λ table h fresh.
           let K = is_sin (at table c.in-In.x.0) _ ((c.view.ensures table h).is ∙ c.in-Sin.is) in
-          rw (c.in-In.is, K.3) (sym built.adds);
+          rw (c.in-In.is, K.3, built.adds);
     }
 
 -- p is not u in x
 pub returns-in_default : goal.returns-in_default
 unfolding computing
 returns-in_default c = let p = c.args.p in other_p p refl (is_not Relation.In p c.in_default.not-In)
-
-pub view-requires : goal.view-requires
-unfolding computing
-view-requires c = record { entries = c.requires.held_by; small = (rw c.in-In.is at c.requires.small_literal).1 }
 
 -- x is not sin(v)
 pub returns-in_default-view : goal.returns-in_default-view

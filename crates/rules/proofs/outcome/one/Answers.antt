@@ -11,9 +11,3 @@ returns c =
       at_most = c.one.ensures.0;
       is = ap (λ k. map unpack_literal (codes_of k)) c.one.ensures.1 ∙ ap (λ l. l ∷ []) (packed_back _ c.requires c.pack.ensures.0);
     }
-
-pub pack-requires : goal.pack-requires
-pack-requires c = c.requires
-
-pub one-requires : goal.one-requires
-one-requires c = c.pack.ensures.1

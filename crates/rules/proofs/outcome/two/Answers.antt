@@ -12,9 +12,3 @@ returns c =
       is = ap (map unpack_literal) c.two.ensures.1
           ∙ (λ i. packed_back _ s.0 c.pack.ensures.0 i ∷ packed_back _ s.1 c.pack-2.ensures.0 i ∷ []);
     }
-
-pub pack-requires : goal.pack-requires
-pack-requires c = c.requires.0
-
-pub pack-requires-2 : goal.pack-requires-2
-pack-requires-2 c = c.requires.1
