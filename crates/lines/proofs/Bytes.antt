@@ -1,7 +1,8 @@
 -- The laws by which the reader's functions are proved: what a byte, and then a field, makes of the steps in a file.
-use mathlib.Core.Bool.{Bool, true, false, cond, ◌||◌, and-false, true≢false}
+use mathlib.Core.Bool.{Bool, true, false, cond, ◌||◌, true≢false}
 use mathlib.Core.List.{List, []}
-use Rattle.std.specs.Prelude.{Option, None}
+use Rattle.std.specs.Prelude.{Option, None, Some}
+use Rattle.std.proofs.lemmas.Option.{none-some}
 use mathlib.Core.Path.{◌≡◌, refl, sym, ap, subst, ◌∙◌}
 use Prim.Native.Nat.{ℕ, suc, ◌+◌, ◌*◌, ◌-◌, ◌^◌, ◌≤◌, ◌<◌}
 use native.Mathlib.Nat.{lt_of_lt_of_le, mul-le-mul_left, pow-le-pow_right, pow-suc}
@@ -9,19 +10,16 @@ use native.Mathlib.Numerals.{add-one}
 use native.Mathlib.Omega.{arith}
 use lib.Dec.{eqb, leb, lit<}
 use lib.ListN.{drop, get_or}
-use borrow.Author.Tests.{eq-eqb, ne_eqb, le-leb, lt-leb, eqb-false, leb-true, leb-false}
+use borrow.Author.Tests.{ne_eqb, eqb-false, leb-true, leb-false}
 use Rattle.tableau.specs.declared.Reason.{Reason}
 use Rattle.tableau.specs.File.{LF, comma, is_small, is_digit, max_digits}
 use Rattle.tableau.specs.Tree.{refused, passed}
 use Rattle.tableau.proofs.Bools.{both_true}
-use Rattle.lines.specs.declared.LetterRead.{LetterRead}
-use Rattle.lines.specs.declared.ValueRead.{ValueRead}
 use Rattle.lines.specs.declared.ByteStep.{ByteStep}
-use Rattle.lines.specs.declared.FirstDigit.{FirstDigit}
-use Rattle.lines.specs.declared.LineRead.{LineRead}
+use Rattle.lines.specs.declared.LineFields.{LineFields}
 use Rattle.lines.specs.ByteSteps.{most_digits, Form, six_field_form, FieldsRead, Reading, empty, after_letter, in_word, before_number, in_number, whole, end_of, word_ends, number_ends}
 use Rattle.lines.specs.ByteSteps.{step_by, next_letter, first_digit, next_digit, LettersFit, DigitsFit, first_step, byte_step, step, ends, FieldsAt, line_end, steps_at, line_of}
-use Rattle.lines.specs.ByteSteps.{LetterSteps, ValueSteps, WordSteps, DigitsSteps, NumberSteps}
+use Rattle.lines.specs.ByteSteps.{LetterSteps, WordSteps, DigitsSteps, NumberSteps}
 use Rattle.lines.specs.Lines.{is_capital, line_at, LFAhead}
 use Rattle.lines.proofs.FileSteps.{steps_whole, line_steps_lem, ahead_next, a_byte, no_line_at}
 
@@ -36,33 +34,30 @@ end≢more e = let z : true ≡ false = cc in true≢false z
 
 -- THE LETTER, and the comma after it.
 module _ (file : List ℕ) (i : ℕ) (ahead : LFAhead file i) where
-  no_capital : is_capital (get_or file i 0) ≡ false → LetterSteps file i LetterRead.Bad
+  pub no_capital : is_capital (get_or file i 0) ≡ false → LetterSteps file i None
   unfolding LetterSteps step
   no_capital e = a_byte six_field_form empty file i refl ahead ∙ rw e (no_line_at six_field_form file (i + 1))
 
-  pub below_capitals : get_or file i 0 < 65 → LetterSteps file i LetterRead.Bad
-  below_capitals h = no_capital (rw (lt-leb 65 (get_or file i 0) h))
-
-  pub above_capitals : 90 < get_or file i 0 → LetterSteps file i LetterRead.Bad
-  above_capitals h = no_capital (rw (lt-leb (get_or file i 0) 90 h, and-false))
-
-  module _ (low : 65 ≤ get_or file i 0) (high : get_or file i 0 ≤ 90) where
+  module _ (own : is_capital (get_or file i 0) ≡ true) where
     pub comma_ahead : LFAhead file (i + 1)
-    comma_ahead = ahead_next file i ahead (λ q. omega (arith, q))
+    comma_ahead = ahead_next file i ahead (λ q. let e : is_capital LF ≡ true = rw q at own in absurd (true≢false (sym e)))
 
-    after : steps_at six_field_form empty file i ≡ steps_at six_field_form (step six_field_form (after_letter (get_or file i 0)) (get_or file (i + 1) 0)) file (i + 1 + 1)
+    next : i + 2 ≡ i + 1 + 1
+    next = omega arith
+
+    after : steps_at six_field_form empty file i ≡ steps_at six_field_form (step six_field_form (after_letter (get_or file i 0)) (get_or file (i + 1) 0)) file (i + 2)
     unfolding step
-    after = a_byte six_field_form empty file i refl ahead ∙ rw (le-leb 65 (get_or file i 0) low, le-leb (get_or file i 0) 90 high) (a_byte six_field_form (after_letter (get_or file i 0)) file (i + 1) refl comma_ahead)
+    after = a_byte six_field_form empty file i refl ahead ∙ rw (own, next) (a_byte six_field_form (after_letter (get_or file i 0)) file (i + 1) refl comma_ahead)
 
-    pub comma_read : get_or file (i + 1) 0 ≡ comma → LetterSteps file i (LetterRead.Read (get_or file i 0) (i + 1 + 1))
+    pub comma_read : get_or file (i + 1) 0 ≡ comma → LetterSteps file i (Some (get_or file i 0, i + 2))
     unfolding LetterSteps step
-    comma_read e = (after ∙ rw e, ahead_next file (i + 1) comma_ahead (λ q. omega (arith, e, q)))
+    comma_read e = (after ∙ rw e, rw next (ahead_next file (i + 1) comma_ahead (λ q. omega (arith, e, q))))
 
-    pub comma_bad : (get_or file (i + 1) 0 ≡ comma → ⊥) → LetterSteps file i LetterRead.Bad
+    pub comma_bad : (get_or file (i + 1) 0 ≡ comma → ⊥) → LetterSteps file i None
     unfolding LetterSteps step
-    comma_bad e = after ∙ rw (ne_eqb (get_or file (i + 1) 0) comma e) (no_line_at six_field_form file (i + 1 + 1))
+    comma_bad e = after ∙ rw (ne_eqb (get_or file (i + 1) 0) comma e) (no_line_at six_field_form file (i + 2))
 
-pub ruleset letter-read = (below_capitals, above_capitals, comma_read, comma_bad)
+pub ruleset letter-read = (no_capital, comma_read, comma_bad)
 
 -- A BYTE OF A WORD OR OF A NUMBER, where the steps so far come to w.
 abbrev AfterByte : Form → Option FieldsAt → (ℕ → Reading) → Reading → List ℕ → ℕ → ByteStep → Type 0
@@ -91,16 +86,6 @@ no_more Fits true false = tt
 no_more Fits false c = tt
 
 -- THE WORD.
-pub is_whole : (n : ℕ) → 2 ≤ n → n ≤ 3 → eqb n 2 || eqb n 3 ≡ true
-is_whole n h₁ h₂ = which (eqb n 2) refl
-  where
-    which : (b : Bool) → eqb n 2 ≡ b → b || eqb n 3 ≡ true
-    which true e = refl
-    which false e = eq-eqb n 3 (omega (arith, eqb-false n 2 e))
-
-pub is_short : (n : ℕ) → n < 2 → eqb n 2 || eqb n 3 ≡ false
-is_short n h = rw (ne_eqb n 2 (λ e. omega arith), ne_eqb n 3 (λ e. omega arith))
-
 letter_fits : (value count unit x : ℕ) → value < 256 ^ count → unit ≡ 256 ^ count → x < 256 → value + unit * x < 256 ^ (count + 1)
 letter_fits value count unit x small e h = rw (e, add-one, pow-suc) (omega (arith, mul-le-mul_left (256 ^ count) h))
 
@@ -134,11 +119,11 @@ module _ (file : List ℕ) (at i value count : ℕ) (ahead : LFAhead file i) (r 
     unfolding WordSoFar
     word_goes_on v = word_turn (ByteStep.More v)
 
-    pub word_is_read : r ≡ ByteStep.End → WordSteps file at (ValueRead.Read value (i + 1))
+    pub word_is_read : r ≡ ByteStep.End → WordSteps file at (Some (value, i + 1))
     unfolding WordSteps
     word_is_read e F l = (word_turn ByteStep.End e F l, λ c. ahead_next file i ahead (λ q. bad≢end (sym e ∙ word_LF value count (get_or file i 0) r is q)))
 
-    pub word_is_bad : r ≡ ByteStep.Bad → WordSteps file at ValueRead.Bad
+    pub word_is_bad : r ≡ ByteStep.Bad → WordSteps file at None
     unfolding WordSteps
     word_is_bad = word_turn ByteStep.Bad
 
@@ -159,13 +144,13 @@ word_fits value count x v r fits is e = subst (MoreFits (λ v. LettersFit v (cou
 pub ruleset word_read = (word_ahead, word_goes_on, word_is_read, word_is_bad, word_fits)
 
 -- A NUMBER of at most so many digits. Its end is below the digits.
-abbrev FirstFits : FirstDigit → Type 0
-FirstFits (FirstDigit.Digit v left) = DigitsFit v left
-FirstFits FirstDigit.Bad = Unit {0}
+abbrev FirstFits : Option (ℕ × ℕ) → Type 0
+FirstFits None = Unit {0}
+FirstFits (Some d) = DigitsFit d.0 d.1
 
-pub first_fits : (most x v left : ℕ) (r : FirstDigit) → 0 < most → most ≤ most_digits → r ≡ first_digit most x → r ≡ FirstDigit.Digit v left → DigitsFit v left
+pub first_fits : (most x v left : ℕ) → 0 < most → most ≤ most_digits → Some (v, left) ≡ first_digit most x → DigitsFit v left
 unfolding first_digit
-first_fits most x v left r pos low is e = subst FirstFits (sym is ∙ e) (which (is_digit x) (eqb x 48) refl)
+first_fits most x v left pos low is = subst FirstFits (sym is) (which (is_digit x) (eqb x 48) refl)
   where
     fits : (left : ℕ) → left < most_digits → is_digit x ≡ true → DigitsFit (x - 48) left
     fits left few own =
@@ -174,7 +159,7 @@ first_fits most x v left r pos low is e = subst FirstFits (sym is ∙ e) (which 
         let k : 10 ^ 1 ≤ 10 ^ (most_digits - left) = pow-le-pow_right (lit< tt) one in
         record { few = few; small = omega (arith, hi, k) }
 
-    which : (own lone : Bool) → is_digit x ≡ own → FirstFits (cond own (FirstDigit.Digit (x - 48) (cond lone 0 (most - 1))) FirstDigit.Bad)
+    which : (own lone : Bool) → is_digit x ≡ own → FirstFits (cond own (Some (x - 48, cond lone 0 (most - 1))) None)
     which true true e = fits 0 (omega arith) e
     which true false e = fits (most - 1) (omega (arith, pos, low)) e
     which false lone e = tt
@@ -222,11 +207,11 @@ digits_LF value left x end r is q = is ∙ ap (λ (y : ℕ). next_digit value le
 
 module _ (end : ℕ) (file : List ℕ) (i value left : ℕ) (ahead : LFAhead file i) (r : ByteStep) (is : r ≡ next_digit value left (get_or file i 0) end) where
   pub digits_ahead : (v : ℕ) → r ≡ ByteStep.More v → LFAhead file (i + 1)
-  digits_ahead v e = ahead_next file i ahead (λ q. None (eqb LF end) (sym e ∙ digits_LF value left (get_or file i 0) end r is q))
+  digits_ahead v e = ahead_next file i ahead (λ q. neither (eqb LF end) (sym e ∙ digits_LF value left (get_or file i 0) end r is q))
     where
-      none : (b : Bool) → ByteStep.More v ≡ cond b ByteStep.End ByteStep.Bad → ⊥
-      None true z = end≢more z
-      None false z = bad≢more z
+      neither : (b : Bool) → ByteStep.More v ≡ cond b ByteStep.End ByteStep.Bad → ⊥
+      neither true z = end≢more z
+      neither false z = bad≢more z
 
   end_ahead : r ≡ ByteStep.End → end ≡ comma → LFAhead file (i + 1)
   end_ahead e c = ahead_next file i ahead (λ q. bad≢end (sym e ∙ digits_LF value left (get_or file i 0) end r is q ∙ rw c))
@@ -241,103 +226,92 @@ module _ (end : ℕ) (file : List ℕ) (i value left : ℕ) (ahead : LFAhead fil
     unfolding DigitsSoFar
     digits_go_on v = digits_turn (ByteStep.More v)
 
-    pub digits_are_read : r ≡ ByteStep.End → DigitsSteps first max end file at (ValueRead.Read value (i + 1))
+    pub digits_are_read : r ≡ ByteStep.End → DigitsSteps first max end file at (Some (value, i + 1))
     unfolding DigitsSteps
     digits_are_read e F n f q = (digits_turn ByteStep.End e F n f q, end_ahead e)
 
-    pub digits_are_bad : r ≡ ByteStep.Bad → DigitsSteps first max end file at ValueRead.Bad
+    pub digits_are_bad : r ≡ ByteStep.Bad → DigitsSteps first max end file at None
     unfolding DigitsSteps
     digits_are_bad = digits_turn ByteStep.Bad
 
 pub ruleset digits-read = (digits_ahead, digits_go_on, digits_are_read, digits_are_bad, digit_fits, digit_left)
 
 -- a number by its first byte
-module _ (most end : ℕ) (file : List ℕ) (at : ℕ) (ahead : LFAhead file at) (r : FirstDigit) (is : r ≡ first_digit most (get_or file at 0)) where
-  pub first_ahead : (v left : ℕ) → r ≡ FirstDigit.Digit v left → LFAhead file (at + 1)
+module _ (most end : ℕ) (file : List ℕ) (at : ℕ) (ahead : LFAhead file at) where
+  pub first_ahead : (d : ℕ × ℕ) → Some d ≡ first_digit most (get_or file at 0) → LFAhead file (at + 1)
   unfolding first_digit
-  first_ahead v left e = ahead_next file at ahead
-      (λ q. let b : FirstDigit.Digit v left ≡ FirstDigit.Bad = sym e ∙ is ∙ ap (first_digit most) q in let z : true ≡ false = cc in true≢false z)
+  first_ahead d is = ahead_next file at ahead (λ q. none-some d (sym (is ∙ ap (first_digit most) q)))
 
-  turn : (s : FirstDigit) → r ≡ s → (F : Form) (n : ℕ) (f : FieldsRead) → F.digits ≡ most → steps_at F (before_number n f) file at ≡ steps_at F (first_step n f s) file (at + 1)
+  turn : (r : Option (ℕ × ℕ)) → r ≡ first_digit most (get_or file at 0) → (F : Form) (n : ℕ) (f : FieldsRead) → F.digits ≡ most
+      → steps_at F (before_number n f) file at ≡ steps_at F (first_step n f r) file (at + 1)
   unfolding step
-  turn s e F n f m = a_byte F (before_number n f) file at refl ahead ∙ rw (m, sym is ∙ e)
+  turn r is F n f m = a_byte F (before_number n f) file at refl ahead ∙ rw (m, sym is)
 
-  pub first_bad : r ≡ FirstDigit.Bad → NumberSteps most end file at ValueRead.Bad
+  pub first_bad : None ≡ first_digit most (get_or file at 0) → NumberSteps most end file at None
   unfolding NumberSteps
-  first_bad e F n f m q = turn FirstDigit.Bad e F n f m ∙ no_line_at F file (at + 1)
+  first_bad is F n f m q = turn None is F n f m ∙ no_line_at F file (at + 1)
 
-  pub first_read : (v left : ℕ) (y : ValueRead) → r ≡ FirstDigit.Digit v left → DigitsSteps v left end file (at + 1) y → NumberSteps most end file at y
+  pub first_read : (d : ℕ × ℕ) (y : Option (ℕ × ℕ)) → Some d ≡ first_digit most (get_or file at 0) → DigitsSteps d.0 d.1 end file (at + 1) y
+      → NumberSteps most end file at y
   unfolding NumberSteps DigitsSteps
-  first_read v left (ValueRead.Read value i) e h F n f m q = let k = h F n f q in (turn (FirstDigit.Digit v left) e F n f m ∙ k.0, k.1)
-  first_read v left ValueRead.Bad e h F n f m q = turn (FirstDigit.Digit v left) e F n f m ∙ h F n f q
+  first_read d None is h F n f m q = turn (Some d) is F n f m ∙ h F n f q
+  first_read d (Some v) is h F n f m q = let k = h F n f q in (turn (Some d) is F n f m ∙ k.0, k.1)
 
 pub ruleset number_read = (first_ahead, first_bad, first_read, first_fits)
 
 -- A LINE OF SIX FIELDS, field by field: y is what the steps come to from the start, if it is what they come to behind the field.
-abbrev pub line_steps : Reading → List ℕ → ℕ → LineRead
+abbrev pub line_steps : Reading → List ℕ → ℕ → Option LineFields
 line_steps r file at = line_of (steps_at six_field_form r file at)
 
-pub line_is : (file : List ℕ) (at : ℕ) (y : LineRead) → y ≡ line_steps empty file at → y ≡ line_at file at
+pub line_is : (file : List ℕ) (at : ℕ) (y : Option LineFields) → y ≡ line_steps empty file at → y ≡ line_at file at
 line_is file at y e = e ∙ line_steps_lem file at
 
-pub line_ends : (file : List ℕ) (i : ℕ) (f : FieldsRead) (y : LineRead) → y ≡ line_of (line_end i (passed f)) → y ≡ line_steps (whole f) file i
+pub line_ends : (file : List ℕ) (i : ℕ) (f : FieldsRead) (y : Option LineFields) → y ≡ line_of (line_end i (passed f)) → y ≡ line_steps (whole f) file i
 unfolding steps_at
 line_ends file i f y e = e ∙ ap line_of (sym (steps_whole six_field_form f (drop i file) i))
 
-module _ (file : List ℕ) (at : ℕ) (r : LetterRead) (s : LetterSteps file at r) where
-  module _ (l : ℕ) (i : ℕ) (e : r ≡ LetterRead.Read l i) where
-    read : LetterSteps file at (LetterRead.Read l i)
-    read = subst (LetterSteps file at) e s
-
-    pub behind_letter : LFAhead file i
+module _ (file : List ℕ) (at : ℕ) where
+  module _ (v : ℕ × ℕ) (s : LetterSteps file at (Some v)) where
+    pub behind_letter : LFAhead file v.1
     unfolding LetterSteps
-    behind_letter = read.1
+    behind_letter = s.1
 
-    pub letter_then : (y : LineRead) → y ≡ line_steps (in_word l 0 0) file i → y ≡ line_steps empty file at
+    pub letter_then : (y : Option LineFields) → y ≡ line_steps (in_word v.0 0 0) file v.1 → y ≡ line_steps empty file at
     unfolding LetterSteps
-    letter_then y h = h ∙ ap line_of (sym read.0)
+    letter_then y h = h ∙ ap line_of (sym s.0)
 
-  pub letter_else : r ≡ LetterRead.Bad → LineRead.BadShape ≡ line_steps empty file at
+  pub letter_else : LetterSteps file at None → None ≡ line_steps empty file at
   unfolding LetterSteps
-  letter_else e = ap line_of (sym (subst (LetterSteps file at) e s))
+  letter_else s = ap line_of (sym s)
 
--- a word or a number of a line of any form
-module _ (F : Form) (q : Reading) (then' : ℕ → Reading) (end : ℕ) (file : List ℕ) (at : ℕ) (r : ValueRead) (s : ValueSteps F q then' end file at r) where
-  pub value_read : (v i : ℕ) → r ≡ ValueRead.Read v i → (steps_at F q file at ≡ steps_at F (then' v) file i) × (end ≡ comma → LFAhead file i)
-  value_read v i e = subst (ValueSteps F q then' end file at) e s
+  -- a word or a number of a line of any form
+  module _ (v : ℕ × ℕ) (s : WordSteps file at (Some v)) where
+    pub behind_word : LFAhead file v.1
+    unfolding WordSteps
+    behind_word = (s six_field_form 0).1 refl
 
-  pub value_bad : r ≡ ValueRead.Bad → steps_at F q file at ≡ None
-  value_bad e = subst (ValueSteps F q then' end file at) e s
+    pub word_then : (l : ℕ) (y : Option LineFields) → y ≡ line_steps (word_ends six_field_form l v.0) file v.1 → y ≡ line_steps (in_word l 0 0) file at
+    unfolding WordSteps
+    word_then l y h = h ∙ ap line_of (sym (s six_field_form l).0)
 
-module _ (file : List ℕ) (at : ℕ) (r : ValueRead) (s : WordSteps file at r) where
-  pub behind_word : (v i : ℕ) → r ≡ ValueRead.Read v i → LFAhead file i
+  pub word_else : (l : ℕ) → WordSteps file at None → None ≡ line_steps (in_word l 0 0) file at
   unfolding WordSteps
-  behind_word v i e = (value_read six_field_form (in_word 0 0 0) (word_ends six_field_form 0) comma file at r (s six_field_form 0) v i e).1 refl
+  word_else l s = ap line_of (sym (s six_field_form l))
 
-  pub word_then : (l : ℕ) (v i : ℕ) (y : LineRead) → r ≡ ValueRead.Read v i → y ≡ line_steps (word_ends six_field_form l v) file i → y ≡ line_steps (in_word l 0 0) file at
-  unfolding WordSteps
-  word_then l v i y e h = h ∙ ap line_of (sym (value_read six_field_form (in_word l 0 0) (word_ends six_field_form l) comma file at r (s six_field_form l) v i e).0)
-
-  pub word_else : (l : ℕ) → r ≡ ValueRead.Bad → LineRead.BadShape ≡ line_steps (in_word l 0 0) file at
-  unfolding WordSteps
-  word_else l e = ap line_of (sym (value_bad six_field_form (in_word l 0 0) (word_ends six_field_form l) comma file at r (s six_field_form l) e))
-
-module _ (file : List ℕ) (at most end : ℕ) (r : ValueRead) (s : NumberSteps most end file at r) where
-  pub behind_number : (v i : ℕ) → end ≡ comma → r ≡ ValueRead.Read v i → LFAhead file i
-  unfolding NumberSteps
-  behind_number v i c e =
-      let F : Form = record { count = 2; digits = most } in
-      let f : FieldsRead = record { letter = 0; word = 0; numbers = [] } in
-      (value_read F (before_number 1 f) (number_ends 1 f) end file at r (s F 1 f refl (sym c)) v i e).1 c
-
-  module _ (n : ℕ) (f : FieldsRead) (m : max_digits ≡ most) (q : end_of n ≡ end) where
-    pub number_then : (v i : ℕ) (y : LineRead) → r ≡ ValueRead.Read v i → y ≡ line_steps (number_ends n f v) file i → y ≡ line_steps (before_number n f) file at
+  module _ (most end : ℕ) where
+    pub behind_number : (v : ℕ × ℕ) → NumberSteps most end file at (Some v) → end ≡ comma → LFAhead file v.1
     unfolding NumberSteps
-    number_then v i y e h = h ∙ ap line_of (sym (value_read six_field_form (before_number n f) (number_ends n f) end file at r (s six_field_form n f m q) v i e).0)
+    behind_number v s c = (s (record { count = 2; digits = most }) 1 (record { letter = 0; word = 0; numbers = [] }) refl (sym c)).1 c
 
-    pub number_else : r ≡ ValueRead.Bad → LineRead.BadShape ≡ line_steps (before_number n f) file at
-    unfolding NumberSteps
-    number_else e = ap line_of (sym (value_bad six_field_form (before_number n f) (number_ends n f) end file at r (s six_field_form n f m q) e))
+    module _ (n : ℕ) (f : FieldsRead) (m : max_digits ≡ most) (q : end_of n ≡ end) where
+      pub number_then : (v : ℕ × ℕ) → NumberSteps most end file at (Some v) → (y : Option LineFields) → y ≡ line_steps (number_ends n f v.0) file v.1
+          → y ≡ line_steps (before_number n f) file at
+      unfolding NumberSteps
+      number_then v s y h = h ∙ ap line_of (sym (s six_field_form n f m q).0)
+
+      pub number_else : NumberSteps most end file at None → None ≡ line_steps (before_number n f) file at
+      unfolding NumberSteps
+      number_else s = ap line_of (sym (s six_field_form n f m q))
 
 pub ruleset fields-ahead = (behind_letter, behind_word, behind_number)
 

@@ -3,9 +3,7 @@ use mathlib.Core.Bool.{Bool, true, false}
 use mathlib.Core.List.{List, [], ◌∷◌, ◌++◌, foldl}
 use Rattle.std.specs.Prelude.{Option, None, Some}
 use mathlib.Core.Path.{◌≡◌, refl, sym, ap, ◌∙◌}
-use mathlib.Core.Logic.{⊎_elim}
-use Prim.Native.Nat.{ℕ, zero, suc, ◌+◌, ◌-◌, ◌≤◌, ◌<◌}
-use native.Mathlib.Nat.{eq-or-lt_of_le}
+use Prim.Native.Nat.{ℕ, zero, suc, ◌+◌, ◌≤◌, ◌<◌}
 use native.Mathlib.Numerals.{add-one}
 use native.Mathlib.Omega.{arith}
 use lib.Dec.{eqb}
@@ -17,7 +15,6 @@ use Rattle.tableau.specs.Basics.{then}
 use Rattle.tableau.specs.File.{LF, on_first, split, Line}
 use Rattle.tableau.specs.Tree.{Checked, refused, passed, require_some}
 use Rattle.tableau.proofs.Pieces.{pieces}
-use Rattle.lines.specs.declared.LineRead.{LineRead}
 use Rattle.lines.specs.Lines.{any_shape, line_read, first_line, line_at, LFAhead, LinesEnd}
 use Rattle.lines.specs.ByteSteps.{next_letter, first_digit, next_digit, Form, six_field_form, FieldsRead, Reading, empty, after_letter, in_word, before_number, in_number, whole, bad}
 use Rattle.lines.specs.ByteSteps.{with_number, step, ends, fields_of, FieldsAt, line_end, goes_on, steps, steps_at, line_of}
@@ -84,7 +81,7 @@ line_steps_lem file at = ap line_of (first_steps six_field_form empty (drop at f
     shaped n None = refl
     shaped n (Some k) = refl
 
-    same : (ls : List (List ℕ)) → line_of (first_line None (line_from six_field_form empty) at ls) ≡ first_line LineRead.BadShape (λ n l. line_read n (any_shape l)) at ls
+    same : (ls : List (List ℕ)) → line_of (first_line None (line_from six_field_form empty) at ls) ≡ first_line None (λ n l. line_read n (any_shape l)) at ls
     same [] = refl
     same (l ∷ []) = refl
     same (l ∷ m ∷ ls) = ap (λ c. line_of (line_end (at + length l + 1) c)) (any_pass l) ∙ shaped (at + length l + 1) (any_shape l)
@@ -94,9 +91,9 @@ pub one_piece_behind : (file : List ℕ) (end at : ℕ) → LinesEnd file end �
 one_piece_behind file end at E h =
     uncut LF (drop at file) (λ i k q. E.last (at + i) (omega arith) (omega (arith, length-drop at file)) (sym (get_or-drop at file i 0) ∙ q))
 
-pub no_line_behind : (file : List ℕ) (end at : ℕ) → LinesEnd file end → end ≤ at → line_at file at ≡ LineRead.BadShape
+pub no_line_behind : (file : List ℕ) (end at : ℕ) → LinesEnd file end → end ≤ at → line_at file at ≡ None
 unfolding line_at
-no_line_behind file end at E h = ap (first_line LineRead.BadShape (λ n l. line_read n (any_shape l)) at) (one_piece_behind file end at E h)
+no_line_behind file end at E h = ap (first_line None (λ n l. line_read n (any_shape l)) at) (one_piece_behind file end at E h)
 
 -- THE BYTE at a position that has an LF ahead.
 pub ahead_here : (file : List ℕ) (i : ℕ) → LFAhead file i → i < length file
@@ -120,27 +117,3 @@ a_byte F r file i due a =
 pub no_line_at : (F : Form) (file : List ℕ) (i : ℕ) → steps_at F bad file i ≡ None
 unfolding steps_at
 no_line_at F file i = steps_bad F (drop i file) i
-
--- THE LAST LF, looked for from the end.
-unfoldable pub NoneBehind : List ℕ → ℕ → Type 0
-NoneBehind file end = (i : ℕ) → end ≤ i → i < length file → get_or file i 0 ≡ LF → ⊥
-
-pub none_at_end : (file : List ℕ) → NoneBehind file (length file)
-unfolding NoneBehind
-none_at_end file i h k q = omega arith
-
-module _ (file : List ℕ) (end : ℕ) (None : NoneBehind file end) where
-  pub none_before_lem : (get_or file (end - 1) 0 ≡ LF → ⊥) → NoneBehind file (end - 1)
-  unfolding NoneBehind
-  none_before_lem h i l k q = ⊎_elim
-      (λ (e : end - 1 ≡ i). h (ap (λ (n : ℕ). get_or file n 0) e ∙ q))
-      (λ (e : end - 1 < i). None i (omega arith) k q)
-      (eq-or-lt_of_le l)
-
-  pub last_here : 0 < end → end ≤ length file → get_or file (end - 1) 0 ≡ LF → LinesEnd file end
-  unfolding NoneBehind
-  last_here h k e = record { ahead = λ at l. record { position = end - 1; behind = omega arith; inside = omega arith; is_lf = e }; last = None }
-
-  pub no_last : end ≤ 0 → LinesEnd file 0
-  unfolding NoneBehind
-  no_last h = record { ahead = λ at l. absurd (omega arith); last = λ i l. None i (omega arith) }

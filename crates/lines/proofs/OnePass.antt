@@ -16,7 +16,6 @@ use Rattle.tableau.specs.File.{LF, comma, split, is_small, all_small, is_word, i
 use Rattle.tableau.specs.Tree.{refused, require_some}
 use Rattle.tableau.proofs.Pieces.{pieces}
 use Rattle.lines.specs.declared.ByteStep.{ByteStep}
-use Rattle.lines.specs.declared.FirstDigit.{FirstDigit}
 use Rattle.lines.specs.Lines.{pack_word, capital_of, capital, any_shape}
 use Rattle.lines.specs.ByteSteps.{Form, six_field_form, FieldsRead, Reading, empty, after_letter, in_word, before_number, in_number, whole, bad, end_of, with_number, word_ends, number_ends}
 use Rattle.lines.specs.ByteSteps.{step_by, next_letter, first_digit, next_digit, letter_step, first_step, byte_step, step, ends, fields_of, NoLine}
@@ -225,7 +224,7 @@ at_other F pos (before_number n f) x h p ps = which (is_digit x) refl
     more = cond (eqb x 48) 0 (F.digits - 1)
 
     which : (own : Bool) → is_digit x ≡ own
-        → remaining F (first_step n f (cond own (FirstDigit.Digit (x - 48) more) FirstDigit.Bad)) (p ∷ ps) ≡ many_numbers F n f ((x ∷ p) ∷ ps)
+        → remaining F (first_step n f (cond own (Some (x - 48, more)) None)) (p ∷ ps) ≡ many_numbers F n f ((x ∷ p) ∷ ps)
     which true e = same_number F n f (digits_from (x - 48) more) (number F.digits) p (x ∷ p) ps (number_first F.digits x p pos e)
     which false e = no_number F n f (number F.digits) (x ∷ p) ps (number_other F.digits x p e)
 at_other F pos (in_number n f value left) x h p ps = which n (is_digit x) (eqb left 0) refl refl
@@ -322,9 +321,9 @@ unended F (after_letter l) x h = which (eqb x comma)
 unended F (in_word l value count) x h = open_byte _ _ (next_letter value count x) (λ v. refl) refl
 unended F (before_number n f) x h = which (first_digit F.digits x)
   where
-    which : (s : FirstDigit) → ends (first_step n f s) ≡ refused Reason.BadShape
-    which (FirstDigit.Digit value left) = refl
-    which FirstDigit.Bad = refl
+    which : (s : Option (ℕ × ℕ)) → ends (first_step n f s) ≡ refused Reason.BadShape
+    which None = refl
+    which (Some d) = refl
 unended F (in_number (suc n) f value left) x h = open_byte _ _ (next_digit value left x comma) (λ v. refl) refl
 unended F (in_number zero f value left) x h = rw (ne_eqb x LF h) (which (is_digit x) (eqb left 0))
   where

@@ -1,16 +1,13 @@
 -- A line read in one pass: what a step makes of one byte and the fields read so far, and what the steps over a line come to.
 use Rattle.std.specs.Prelude.{Bool, true, false, cond, ◌&&◌, ◌||◌, ◌≡◌, ℕ, zero, suc, ◌+◌, ◌*◌, ◌-◌, ◌^◌, ◌<◌, ◌≤◌, eqb, leb, drop, get_or}
 use mathlib.Core.List.{List, [], ◌∷◌, ◌++◌, foldl, Mem}
-use Rattle.std.specs.Prelude.{Option, None, Some}
+use Rattle.std.specs.Prelude.{Option, None, Some, option_map}
 use Rattle.tableau.specs.declared.Reason.{Reason}
 use Rattle.tableau.specs.Basics.{then, is_some, bytes, Named, lookup}
 use Rattle.tableau.specs.File.{LF, comma, is_small, is_word, is_digit, max_digits, Line, shape}
 use Rattle.tableau.specs.Tree.{Checked, refused, passed, ◌>>=◌, require_some}
-use Rattle.lines.specs.declared.LetterRead.{LetterRead}
-use Rattle.lines.specs.declared.ValueRead.{ValueRead}
-use Rattle.lines.specs.declared.LineRead.{LineRead}
 use Rattle.lines.specs.declared.ByteStep.{ByteStep}
-use Rattle.lines.specs.declared.FirstDigit.{FirstDigit}
+use Rattle.lines.specs.declared.LineFields.{LineFields}
 use Rattle.lines.specs.Lines.{pack_word, capital, capital_of, LFAhead}
 
 -- ONE BYTE OF A FIELD. A byte of the field's own goes on with the new value, unless the field is full; the byte that ends it does so if the field is whole.
@@ -22,8 +19,8 @@ unfoldable pub next_letter : ℕ → ℕ → ℕ → ByteStep
 next_letter value count x = step_by (is_small x) (leb 3 count) (eqb x comma) (eqb count 2 || eqb count 3) (value + 256 ^ count * x)
 
 -- a number of at most so many digits by its first one: its value, and how many digits may follow, none after a 0
-unfoldable pub first_digit : ℕ → ℕ → FirstDigit
-first_digit limit x = cond (is_digit x) (FirstDigit.Digit (x - 48) (cond (eqb x 48) 0 (limit - 1))) FirstDigit.Bad
+unfoldable pub first_digit : ℕ → ℕ → Option (ℕ × ℕ)
+first_digit limit x = cond (is_digit x) (Some (x - 48, cond (eqb x 48) 0 (limit - 1))) None
 
 -- a number whose digits so far make value, where left more may follow
 unfoldable pub next_digit : ℕ → ℕ → ℕ → ℕ → ByteStep
@@ -95,9 +92,9 @@ abbrev pub letter_step : Option ℕ → Reading
 letter_step None = bad
 letter_step (Some l) = after_letter l
 
-abbrev pub first_step : ℕ → FieldsRead → FirstDigit → Reading
-first_step n f (FirstDigit.Digit value left) = in_number n f value left
-first_step n f FirstDigit.Bad = bad
+abbrev pub first_step : ℕ → FieldsRead → Option (ℕ × ℕ) → Reading
+first_step n f None = bad
+first_step n f (Some d) = in_number n f d.0 d.1
 
 abbrev pub byte_step : (ℕ → Reading) → Reading → ByteStep → Reading
 byte_step more done (ByteStep.More value) = more value
@@ -183,36 +180,37 @@ unfoldable pub steps_at : Form → Reading → List ℕ → ℕ → Option Field
 steps_at F r file at = steps F r (drop at file) at
 
 -- a line of six fields
-abbrev pub line_of : Option FieldsAt → LineRead
-line_of None = LineRead.BadShape
-line_of (Some e) =
-    LineRead.Line
-    (record {
-      letter = e.fields.letter;
-      word = e.fields.word;
-      a = get_or e.fields.numbers 0 0;
-      b = get_or e.fields.numbers 1 0;
-      c = get_or e.fields.numbers 2 0;
-      d = get_or e.fields.numbers 3 0;
-      next = record { at = e.next };
-    })
+abbrev pub six_fields_at : FieldsAt → LineFields
+six_fields_at e = record {
+  letter = e.fields.letter;
+  word = e.fields.word;
+  a = get_or e.fields.numbers 0 0;
+  b = get_or e.fields.numbers 1 0;
+  c = get_or e.fields.numbers 2 0;
+  d = get_or e.fields.numbers 3 0;
+  next = record { at = e.next };
+}
 
--- A FIELD IS READ: behind it the steps go on with the reading that has it, towards the LF that is ahead; or there is no line. Whatever stands before the field, and
+abbrev pub line_of : Option FieldsAt → Option LineFields
+line_of = option_map six_fields_at
+
+-- A FIELD IS READ, its value and the position behind it: behind it the steps go on with the reading that has it, towards the LF that is ahead; or there is no line. Whatever stands before the field, and
 -- in a line of any form in which the field can stand.
-unfoldable pub LetterSteps : List ℕ → ℕ → LetterRead → Type 0
-LetterSteps file at (LetterRead.Read l i) = (steps_at six_field_form empty file at ≡ steps_at six_field_form (in_word l 0 0) file i) × LFAhead file i
-LetterSteps file at LetterRead.Bad = steps_at six_field_form empty file at ≡ None
+unfoldable pub LetterSteps : List ℕ → ℕ → Option (ℕ × ℕ) → Type 0
+LetterSteps file at None = steps_at six_field_form empty file at ≡ None
+LetterSteps file at (Some r) =
+    (steps_at six_field_form empty file at ≡ steps_at six_field_form (in_word r.0 0 0) file r.1) × LFAhead file r.1
 
-abbrev pub ValueSteps : Form → Reading → (ℕ → Reading) → ℕ → List ℕ → ℕ → ValueRead → Type 0
-ValueSteps F r then' end file at (ValueRead.Read value i) = (steps_at F r file at ≡ steps_at F (then' value) file i) × (end ≡ comma → LFAhead file i)
-ValueSteps F r then' end file at ValueRead.Bad = steps_at F r file at ≡ None
+abbrev pub ValueSteps : Form → Reading → (ℕ → Reading) → ℕ → List ℕ → ℕ → Option (ℕ × ℕ) → Type 0
+ValueSteps F r then' end file at None = steps_at F r file at ≡ None
+ValueSteps F r then' end file at (Some v) = (steps_at F r file at ≡ steps_at F (then' v.0) file v.1) × (end ≡ comma → LFAhead file v.1)
 
-unfoldable pub WordSteps : List ℕ → ℕ → ValueRead → Type 0
+unfoldable pub WordSteps : List ℕ → ℕ → Option (ℕ × ℕ) → Type 0
 WordSteps file at r = (F : Form) (l : ℕ) → ValueSteps F (in_word l 0 0) (word_ends F l) comma file at r
 
-unfoldable pub NumberSteps : ℕ → ℕ → List ℕ → ℕ → ValueRead → Type 0
+unfoldable pub NumberSteps : ℕ → ℕ → List ℕ → ℕ → Option (ℕ × ℕ) → Type 0
 NumberSteps limit end file at r = (F : Form) (n : ℕ) (f : FieldsRead) → F.digits ≡ limit → end_of n ≡ end → ValueSteps F (before_number n f) (number_ends n f) end file at r
 
 -- the same of a number from its second byte on
-unfoldable pub DigitsSteps : ℕ → ℕ → ℕ → List ℕ → ℕ → ValueRead → Type 0
+unfoldable pub DigitsSteps : ℕ → ℕ → ℕ → List ℕ → ℕ → Option (ℕ × ℕ) → Type 0
 DigitsSteps value left end file at r = (F : Form) (n : ℕ) (f : FieldsRead) → end_of n ≡ end → ValueSteps F (in_number n f value left) (number_ends n f) end file at r

@@ -1,10 +1,9 @@
 -- What reading a line of a file gives: the specification's own cut at LF and its own six fields of a line, with the word packed in one number.
 use Rattle.std.specs.Prelude.{Bool, ◌&&◌, List, [], ◌∷◌, ◌≡◌, ℕ, ◌+◌, ◌*◌, ◌<◌, ◌≤◌, eqb, leb, length, drop, get_or}
-use Rattle.std.specs.Prelude.{Option, None, Some}
+use Rattle.std.specs.Prelude.{Option, None, Some, option_map}
 use Rattle.tableau.specs.Basics.{guard, Four, four}
 use Rattle.tableau.specs.File.{LF, comma, split, max_digits, Line, six_fields}
 use Rattle.lines.specs.declared.LineFields.{LineFields}
-use Rattle.lines.specs.declared.LineRead.{LineRead}
 
 -- the bytes of a word in one number, the first byte lowest
 abbrev pub pack_word : List ℕ → ℕ
@@ -26,19 +25,19 @@ abbrev pub any_shape : List ℕ → Option (Line ℕ)
 any_shape l = six_fields max_digits capital (split comma l)
 
 -- a line's six fields, and the position after its LF
-abbrev pub line_read : ℕ → Option (Line ℕ) → LineRead
-line_read next' None = LineRead.BadShape
-line_read next' (Some l) =
-    LineRead.Line
-    (record {
-      letter = l.letter;
-      word = pack_word l.word;
-      a = l.fields.a;
-      b = l.fields.b;
-      c = l.fields.c;
-      d = l.fields.d;
-      next = record { at = next' };
-    })
+abbrev pub line_fields : ℕ → Line ℕ → LineFields
+line_fields next' l = record {
+  letter = l.letter;
+  word = pack_word l.word;
+  a = l.fields.a;
+  b = l.fields.b;
+  c = l.fields.c;
+  d = l.fields.d;
+  next = record { at = next' };
+}
+
+abbrev pub line_read : ℕ → Option (Line ℕ) → Option LineFields
+line_read next' = option_map (line_fields next')
 
 -- The first of a text's lines, with the position after its LF. No LF follows the last piece of a text that is cut at LF, which is no line.
 abbrev pub first_line : {A : Type 0} → A → (ℕ → List ℕ → A) → ℕ → List (List ℕ) → A
@@ -47,8 +46,8 @@ first_line no_line read at (l ∷ []) = no_line
 first_line no_line read at (l ∷ m ∷ ls) = read (at + length l + 1) l
 
 -- the line that begins at a position of the file
-unfoldable pub line_at : List ℕ → ℕ → LineRead
-line_at file at = first_line LineRead.BadShape (λ next' l. line_read next' (any_shape l)) at (split LF (drop at file))
+unfoldable pub line_at : List ℕ → ℕ → Option LineFields
+line_at file at = first_line None (λ next' l. line_read next' (any_shape l)) at (split LF (drop at file))
 
 -- An LF stands at the position or behind it: the line that begins there has an end.
 pub record LFAhead (file : List ℕ) (at : ℕ) : Type 0 where

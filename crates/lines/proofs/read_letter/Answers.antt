@@ -1,23 +1,13 @@
--- No capital; after the letter the comma, another byte.
-use borrow.Author.Rules.{rules}
-use Rattle.lines.proofs.FileSteps.{ahead_here}
-use Rattle.lines.proofs.Bytes.{comma_ahead, letter-read}
+use mathlib.Core.Path.{sym, ◌∙◌}
+use Rattle.lines.proofs.Bytes.{no_capital, comma_read, comma_bad}
 use Rattle.lines.proofs.read_letter.Goals as goal
+use Rattle.lines.proofs.read_letter.Goals.{else-is_ascii_uppercase-via-then-is_ascii_uppercase+else-file-at-eq44, else-is_ascii_uppercase-via-else-is_ascii_uppercase}
 
-pub bounds-file-at : goal.bounds-file-at
-bounds-file-at c = search (rules, ahead_here)
+pub returns-then-file-at-eq44 : goal.returns-then-file-at-eq44
+returns-then-file-at-eq44 c = let own = sym c.is_ascii_uppercase.ensures.value ∙ c.if-is_ascii_uppercase.true in comma_read _ _ c.requires own c.if-file-at-eq44.true
 
-pub returns-then-letter-lt65 : goal.returns-then-letter-lt65
-returns-then-letter-lt65 c = search letter-read
-
-pub returns-then-letter-gt90 : goal.returns-then-letter-gt90
-returns-then-letter-gt90 c = search letter-read
-
-pub bounds-file-i : goal.bounds-file-i
-bounds-file-i c = search (rules, ahead_here, comma_ahead)
-
-pub returns-then-file-i-eq44 : goal.returns-then-file-i-eq44
-returns-then-file-i-eq44 c = search letter-read
-
-pub returns : goal.returns
-returns c = search letter-read
+pub returns-else-is_ascii_uppercase : goal.returns-else-is_ascii_uppercase
+returns-else-is_ascii_uppercase c = elim c.else-is_ascii_uppercase.branch [
+  | else-is_ascii_uppercase-via-then-is_ascii_uppercase+else-file-at-eq44 w ↦ comma_bad _ _ c.requires (sym c.is_ascii_uppercase.ensures.value ∙ w.if-is_ascii_uppercase.true) w.if-file-at-eq44.false
+  | else-is_ascii_uppercase-via-else-is_ascii_uppercase w ↦ no_capital _ _ c.requires (sym c.is_ascii_uppercase.ensures.value ∙ w.if-is_ascii_uppercase.false)
+]

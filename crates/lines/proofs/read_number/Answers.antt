@@ -1,20 +1,12 @@
 -- A first digit, or none.
-use borrow.Author.Rules.{rules}
-use Rattle.lines.proofs.FileSteps.{ahead_here}
 use Rattle.lines.proofs.Bytes.{number_read}
 use Rattle.lines.proofs.read_number.Goals as goal
 
-pub bounds-file-at : goal.bounds-file-at
-bounds-file-at c = search (rules, ahead_here)
-
-pub overflow_add-at : goal.overflow_add-at
-overflow_add-at c = search (rules, ahead_here)
+pub returns-in_err-value : goal.returns-in_err-value
+returns-in_err-value c = rw c.from_residual.ensures (search (number_read, c.in_err-value.ensures))
 
 pub read_digits-requires : goal.read_digits-requires
-read_digits-requires c = search number_read
+read_digits-requires c = search (number_read, c.in_ok-value.ensures)
 
-pub returns-in-Digit : goal.returns-in-Digit
-returns-in-Digit c = search number_read
-
-pub returns-in-Bad : goal.returns-in-Bad
-returns-in-Bad c = search number_read
+pub returns : goal.returns
+returns c = search (number_read, c.in_ok-value.ensures)
