@@ -2,7 +2,7 @@
 #![tactic(auto)]
 
 // The words of D lines.
-#[derive(Clone, Copy)]
+#[derive(Clone, Copy, PartialEq, Eq)]
 pub enum FactWord {
     Siz,
     Alc,
@@ -17,7 +17,7 @@ pub enum FactWord {
 }
 
 // What a number of a D line counts: references, fields and classes, "all counted from 0", or names, from 1.
-#[derive(Clone, Copy)]
+#[derive(Clone, Copy, PartialEq, Eq)]
 pub enum Domain {
     Reference,
     Field,
@@ -27,7 +27,7 @@ pub enum Domain {
 
 // What a field of a D line holds: nothing; a size, from 1 to a limit; a part of what the line speaks of, its subject; the value that the
 // line gives to the subject.
-#[derive(Clone, Copy)]
+#[derive(Clone, Copy, PartialEq, Eq)]
 pub enum FactField {
     Unused,
     Size(usize),

@@ -9,7 +9,8 @@ use native.Mathlib.Numerals.{add-one}
 use native.Mathlib.Omega.{arith}
 use lib.Pow.{pow_mono, shr-shr}
 use lib.Dec.{eqb}
-use lib.Bits.{bit_and, bit_or, bit_xor, and_shr, and_mod, xor_shr, xor_mod}
+use lib.Bits.{bit_and, bit_or, bit_xor, and_shr, and_mod, xor_shr, xor_mod, or_zero_l}
+use Rattle.std.proofs.lemmas.Nat.{or_comm}
 use borrow.Author.Tests.{eqb-true, eq-eqb}
 use Rattle.tableau.proofs.Bools.{both_true, both_i, one_true}
 use Rattle.mentions.specs.Mentions.{bit_at}
@@ -62,11 +63,14 @@ bits_ext (suc k) m n a b h =
 
 -- WHAT A ROW GIVES for the field of members: one reference more
 module _ (row : List ℕ) (members f : ℕ) where
-  pub reach_more : (x : ℕ) (test : Bool) (v out r : ℕ) → test ≡ bit_at members x → v ≡ entry row x f → r ≡ single_if test v → out ≡ reached_below row members f x
-      → bit_or r out ≡ reached_below row members f (x + 1)
+  pub reach_member : (x out : ℕ) → bit_at members x ≡ true → out ≡ reached_below row members f x
+      → bit_or out (one_bit (entry row x f)) ≡ reached_below row members f (x + 1)
   unfolding reached_below
-  reach_more x test v out r t e one rest =
-      (λ i. bit_or ((one ∙ λ j. single_if (t j) (e j)) i) (rest i)) ∙ ap (λ (n : ℕ). reached_below row members f n) (sym (add-one x))
+  reach_member x out is e = or_comm out (one_bit (entry row x f)) ∙ (λ j. bit_or (single_if (sym is j) (entry row x f)) (e j)) ∙ ap (reached_below row members f) (sym (add-one x))
+
+  pub reach_other : (x out : ℕ) → bit_at members x ≡ false → out ≡ reached_below row members f x → out ≡ reached_below row members f (x + 1)
+  unfolding reached_below
+  reach_other x out is e = sym (or_zero_l out) ∙ (λ j. bit_or (single_if (sym is j) (entry row x f)) (e j)) ∙ ap (reached_below row members f) (sym (add-one x))
 
   bit_if : (test : Bool) (v q : ℕ) → q < 64 → bit_at (single_if test v) q ≡ (test && eqb (v % 64) q)
   bit_if true v q l = bit_one v q l

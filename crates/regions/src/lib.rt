@@ -5,7 +5,7 @@ ghost use Rattle.std.specs.Prelude.{◌≡◌, ◌<◌, length};
 ghost use Rattle.std.specs.Int.Bits.{bit_and, bit_or, bit_xor};
 ghost use Rattle.tableau.specs.Basics.{same_bytes};
 ghost use Rattle.mentions.specs.Mentions.{bit_at};
-ghost use Rattle.regions.specs.Masks.{row_length, single_if, one_bit, reached_below, image_mask};
+ghost use Rattle.regions.specs.Masks.{row_length, one_bit, reached_below, image_mask};
 
 // The bytes of a row.
 pub const ROW: usize = 1024;
@@ -21,12 +21,6 @@ pub struct HeapTables {
     pub under: [u64; 16],
 }
 
-pub fn wide(x: u8) -> u64
-    ensures { result ≡ x }
-{
-    x as u64
-}
-
 // Is x in the region?
 pub fn has(region: u64, x: u64) -> bool
     requires { x < 64 }
@@ -35,26 +29,16 @@ pub fn has(region: u64, x: u64) -> bool
     (region >> x) % 2 == 1
 }
 
-// The region of one reference where the test holds, else none.
-fn single_if(test: bool, x: u64) -> u64
-    ensures { result ≡ single_if test x }
-{
-    if test {
-        return 1 << (x % 64);
-    }
-    0
-}
-
 // What a heap value gives for the field of some members.
 fn reached(row: &[u8], members: u64, field: usize) -> u64
     requires { (length row.now ≡ row_length) × (field < 16) }
     ensures { result ≡ reached_below row.now members field 64 }
 {
     let mut out: u64 = 0;
-    let mut x: usize = 0;
-    while x < 64 {
-        out = single_if(has(members, x as u64), wide(row[x * 16 + field])) | out;
-        x += 1;
+    for x in 0..64 {
+        if has(members, x as u64) {
+            out |= 1 << (row[x * 16 + field] % 64);
+        }
     }
     out
 }
@@ -71,7 +55,7 @@ pub fn image(row: &[u8], region: u64, having: u64, field: usize, all: u64) -> u6
 pub fn single(x: u64, all: u64) -> u64
     ensures { result ≡ bit_and all (one_bit x) }
 {
-    all & single_if(true, x)
+    all & 1 << (x % 64)
 }
 
 // `cup`, `cap` and `dif`
@@ -93,16 +77,9 @@ pub fn difference(a: u64, b: u64) -> u64
     a ^ (a & b)
 }
 
-// Are two rows equal? What differs is gathered to the end, with no way out before it, so that the loop takes many bytes a step.
+// Are two rows equal?
 pub fn same_rows(g: &[u8], h: &[u8]) -> bool
-    requires { (length g.now ≡ row_length) × (length h.now ≡ row_length) }
     ensures { result ≡ same_bytes g.now h.now }
 {
-    let mut different: u8 = 0;
-    let mut i: usize = 0;
-    while i < ROW {
-        different = different | (g[i] ^ h[i]);
-        i += 1;
-    }
-    different == 0
+    g == h
 }
