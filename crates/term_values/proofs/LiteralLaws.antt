@@ -1,16 +1,16 @@
 -- A literal of an A line that passed: its sides, and that its test is its truth.
 use mathlib.Core.Path.{◌≡◌, sym, ◌∙◌, ap, subst}
-use mathlib.Core.Bool.{Bool, true, false, not, ◌&&◌, cond}
+use mathlib.Core.Bool.{true, not, ◌&&◌}
 use mathlib.Core.List.{List}
 use Prim.Native.Nat.{ℕ, ◌<◌, ◌≤◌}
 use native.Mathlib.Nat.{mod-eq_of_lt}
 use native.Mathlib.Omega.{arith}
-use lib.Dec.{eqb, leb}
+use lib.Dec.{leb}
 use lib.ListN.{length, get_or}
 use borrow.Author.Tests.{leb-true}
 use Rattle.tableau.specs.declared.Sort.{Sort}
 use Rattle.tableau.specs.declared.Relation.{Relation}
-use Rattle.tableau.specs.Basics.{Four, every, same_bytes}
+use Rattle.tableau.specs.Basics.{Four, every}
 use Rattle.tableau.specs.Fields.{sides}
 use Rattle.tableau.specs.Terms.{TermNo, Table, Literal, literal, at, sort_of, same_sort, one_sort, max_terms}
 use Rattle.tableau.specs.Meaning.{FiniteHeap, Value, Values, value, as_ref, as_class, is_in, is_le, kind}
@@ -34,7 +34,7 @@ use Rattle.term_values.specs.Literals.{member_test, equal_test, under_test, lite
 abbrev pub Sides : LiteralView → Type 0
 Sides p = (left_of p ≤ max_terms) × (right_of p ≤ max_terms)
 
-pub sides_of : {p q : LiteralView} → p ≡ q → Sides p → Sides q
+sides_of : {p q : LiteralView} → p ≡ q → Sides p → Sides q
 sides_of e s = subst Sides e s
 
 view_sides : (R : Relation) (m n : TermNo) → m ≤ max_terms → n ≤ max_terms → Sides (literal_view_as R (number m) (number n))
@@ -67,13 +67,6 @@ module _ (table : Table) where
       let P = literal_passed table (sides I.0) I.0 I.1 I.2 in
       let w = two_within l I.0 I.1 P in
       sides_of (sym (e ∙ ap literal_view_of P.is)) (view_sides I.0 I.1.a I.1.b (omega (arith, w.0, E.few)) (omega (arith, w.1, E.few)))
-
--- EQUALITY, by the sort that was tested
-pub rows_equal : (s : Sort) (m n : ℕ) (g h : List ℕ) (test r : Bool) → test ≡ same_sort Sort.Heap s → test ≡ true → r ≡ same_bytes g h → r ≡ same_shown s m n g h
-rows_equal s m n g h test r e t q = q ∙ ap (λ (b : Bool). cond b (same_bytes g h) (eqb m n)) (sym t ∙ e)
-
-pub numbers_equal : (s : Sort) (m n : ℕ) (g h : List ℕ) (test r : Bool) → test ≡ same_sort Sort.Heap s → test ≡ false → r ≡ eqb m n → r ≡ same_shown s m n g h
-numbers_equal s m n g h test r e t q = q ∙ ap (λ (b : Bool). cond b (same_bytes g h) (eqb m n)) (sym t ∙ e)
 
 -- THE TEST IS THE TRUTH
 module _ (H : FiniteHeap) (ρ : Values H) (table : Table) (A : HeapTables) (numbers rows : List ℕ) (E : Evaluable H ρ table A numbers rows) where

@@ -1,9 +1,7 @@
 -- The arguments of a view.
-use mathlib.Core.Path.{◌≡◌, refl, sym, ◌∙◌, subst}
-use mathlib.Core.List.{List, [], ◌∷◌}
-use Prim.Native.Nat.{ℕ, ◌%◌, ◌<◌, ◌≤◌}
-use native.Mathlib.Omega.{arith}
-use lib.ListN.{set}
+use mathlib.Core.Path.{◌≡◌, refl, subst}
+use mathlib.Core.List.{List}
+use Prim.Native.Nat.{ℕ}
 use Rattle.tableau.specs.declared.TermNumber.{TermNumber}
 use Rattle.tableau.specs.declared.Operator.{Operator}
 use Rattle.tableau.specs.Basics.{Four}
@@ -13,32 +11,13 @@ use Rattle.tableau.proofs.WellFormed.{OkTerm, WellFormed}
 use Rattle.packing.specs.declared.TermView.{TermView}
 use Rattle.packing.specs.Packing.{view_apply, view_of}
 use Rattle.table.specs.Held.{ViewAt}
-use Rattle.regions.specs.Masks.{place}
-use Rattle.term_values.specs.Values.{number_at, row_of, view_arguments, AllBelow, written_row, Written, RowComputed}
+use Rattle.term_values.specs.Values.{view_arguments, AllBelow, RowComputed}
 
 -- of a view that an arm knows
 pub arguments_of_lem : (n : ℕ) {view w : TermView} → view ≡ w → AllBelow n (view_arguments view) → AllBelow n (view_arguments w)
 arguments_of_lem n e l = subst (λ (x : TermView). AllBelow n (view_arguments x)) e l
 
-pub below_more : (m n : ℕ) → m ≤ n → (k : List TermNo) → AllBelow m k → AllBelow n k
-below_more m n l [] b = tt
-below_more m n l (x ∷ k) b = ((let o : x < n = omega (arith, b.0) in o), below_more m n l k b.1)
-
--- the row of a `wri`, and no other row
-module _ (numbers old new : List ℕ) (t : TermNo) {view : TermView} where
-  pub row_written : {h x f v : TermNumber} → view ≡ TermView.Wri h x f v → (m n w i value : ℕ) → m ≡ number_at numbers x.0 → n ≡ number_at numbers f.0
-      → w ≡ number_at numbers v.0 → i ≡ place (m % 64) (n % 16) → value ≡ w % 64 → Written old new h.0 t i value → RowComputed view numbers old new t
-  row_written {h} {x} {f} {v} e m n w i value p q r k l W = record {
-    row = λ h' x' f' v' e'. W.row ∙ (λ j. set (row_of old h.0) ((k ∙ λ z. place (p z % 64) (q z % 16)) j) ((l ∙ λ z. r z % 64) j)) ∙ same h' x' f' v' (sym e ∙ e');
-    size = W.size;
-    earlier = W.earlier;
-  }
-    where
-      same : (h' x' f' v' : TermNumber) → TermView.Wri h x f v ≡ TermView.Wri h' x' f' v'
-          → written_row (row_of old h.0) (number_at numbers x.0) (number_at numbers f.0) (number_at numbers v.0)
-          ≡ written_row (row_of old h'.0) (number_at numbers x'.0) (number_at numbers f'.0) (number_at numbers v'.0)
-      same h' x' f' v' z = cc
-
+-- a row that is not written
 pub row_kept : (numbers rows : List ℕ) (t : TermNo) (view : TermView) → ((h x f v : TermNumber) → view ≡ TermView.Wri h x f v → ⊥)
     → RowComputed view numbers rows rows t
 row_kept numbers rows t view o = record { row = λ h x f v e. absurd (o h x f v e); size = refl; earlier = λ j l. refl }

@@ -10,81 +10,68 @@ ghost use Rattle.regions.specs.Shown.{same_shown};
 ghost use Rattle.term_values.specs.Values.{number_at, row_of};
 ghost use Rattle.term_values.specs.Literals.{literal_test, IsAssumption, Evaluable};
 
-use crate::{ROWS, number, row};
+use crate::TermValues;
 use packing::LiteralView;
 use regions::{HeapTables, has, same_rows};
 use table::{NUMBERS, has_sort};
 use tableau::{Sort, TermNumber};
 
-// `in`
-fn is_member(numbers: &[u64; NUMBERS], m: TermNumber, n: TermNumber) -> bool
-    requires { Small m.0 × Small n.0 }
-    ensures { result ≡ bit_at (number_at numbers.now n.0) (number_at numbers.now m.0 % 64) }
-{
-    has(number(numbers, n), number(numbers, m) % 64)
-}
-
-// `le`
-fn is_under(tables: HeapTables, numbers: &[u64; NUMBERS], m: TermNumber, n: TermNumber) -> bool
-    requires { Small m.0 × Small n.0 }
-    ensures { result ≡ bit_at (get_or tables.under (number_at numbers.now m.0 % 16) 0) (number_at numbers.now n.0 % 64) }
-{
-    let class = (number(numbers, m) % 16) as usize;
-    has(tables.under[class], number(numbers, n) % 64)
-}
-
-// `eq`: heap values by their rows, all others by their numbers.
-fn is_equal(
-    terms: &[u64; NUMBERS],
-    numbers: &[u64; NUMBERS],
-    rows: &[u8; ROWS],
-    m: TermNumber,
-    n: TermNumber,
-) -> bool
-    requires entries { (table : Table) × Entries table terms.now }
-    requires m_le_max_terms { (m.0 ≤ max_terms) × (n.0 ≤ max_terms) }
-    ensures { (table : Table) → Entries table terms.now → result ≡ same_shown (sort_of (at table m.0))
-        (number_at numbers.now m.0) (number_at numbers.now n.0) (row_of rows.now m.0) (row_of rows.now n.0) }
-{
-    if has_sort(terms, Sort::Heap, m) {
-        return same_rows(row(rows, m), row(rows, n));
+impl TermValues {
+    // `in`
+    fn is_member(&self, m: TermNumber, n: TermNumber) -> bool
+        requires { Small m.0 × Small n.0 }
+        ensures { result ≡ bit_at (number_at self.now.numbers n.0) (number_at self.now.numbers m.0 % 64) }
+    {
+        has(self.number(n), self.number(m) % 64)
     }
-    number(numbers, m) == number(numbers, n)
-}
 
-fn test(
-    literal: LiteralView,
-    terms: &[u64; NUMBERS],
-    numbers: &[u64; NUMBERS],
-    rows: &[u8; ROWS],
-    tables: HeapTables,
-) -> bool
-    requires entries { (table : Table) × Entries table terms.now }
-    requires literal_bound { (left_of literal ≤ max_terms) × (right_of literal ≤ max_terms) }
-    ensures { (table : Table) → Entries table terms.now
-        → result ≡ literal_test tables table numbers.now rows.now (literal_of literal) }
-{
-    match literal {
-        LiteralView::In(m, n) => is_member(numbers, m, n),
-        LiteralView::Ni(m, n) => !is_member(numbers, m, n),
-        LiteralView::Eq(m, n) => is_equal(terms, numbers, rows, m, n),
-        LiteralView::Ne(m, n) => !is_equal(terms, numbers, rows, m, n),
-        LiteralView::Le(m, n) => is_under(tables, numbers, m, n),
-        LiteralView::Nl(m, n) => !is_under(tables, numbers, m, n),
+    // `le`
+    fn is_under(&self, tables: &HeapTables, m: TermNumber, n: TermNumber) -> bool
+        requires { Small m.0 × Small n.0 }
+        ensures { result ≡ bit_at (get_or tables.now.under (number_at self.now.numbers m.0 % 16) 0)
+            (number_at self.now.numbers n.0 % 64) }
+    {
+        let class = (self.number(m) % 16) as usize;
+        has(tables.under[class], self.number(n) % 64)
     }
-}
 
-// Is a packed literal true?
-pub fn is_true(
-    code: u32,
-    terms: &[u64; NUMBERS],
-    numbers: &[u64; NUMBERS],
-    rows: &[u8; ROWS],
-    tables: HeapTables,
-) -> bool
-    requires { (table : Table) × Entries table terms.now × IsAssumption table (unpack_literal code) }
-    ensures { (H : FiniteHeap) (ρ : Values H) (table : Table) → Entries table terms.now → IsAssumption table (unpack_literal code)
-        → Evaluable H ρ table tables numbers.now rows.now → result ≡ is_true ρ (at table) (unpack_literal code) }
-{
-    test(packing::literals::view(code), terms, numbers, rows, tables)
+    // `eq`: heap values by their rows, all others by their numbers.
+    fn is_equal(&self, terms: &[u64; NUMBERS], m: TermNumber, n: TermNumber) -> bool
+        requires entries { (table : Table) × Entries table terms.now }
+        requires m_le_max_terms { (m.0 ≤ max_terms) × (n.0 ≤ max_terms) }
+        ensures { (table : Table) → Entries table terms.now → result ≡ same_shown (sort_of (at table m.0))
+            (number_at self.now.numbers m.0) (number_at self.now.numbers n.0)
+            (row_of self.now.rows m.0) (row_of self.now.rows n.0) }
+    {
+        if has_sort(terms, Sort::Heap, m) {
+            same_rows(self.row(m), self.row(n))
+        } else {
+            self.number(m) == self.number(n)
+        }
+    }
+
+    fn test(&self, literal: LiteralView, terms: &[u64; NUMBERS], tables: &HeapTables) -> bool
+        requires entries { (table : Table) × Entries table terms.now }
+        requires literal_bound { (left_of literal ≤ max_terms) × (right_of literal ≤ max_terms) }
+        ensures { (table : Table) → Entries table terms.now
+            → result ≡ literal_test tables.now table self.now.numbers self.now.rows (literal_of literal) }
+    {
+        match literal {
+            LiteralView::In(m, n) => self.is_member(m, n),
+            LiteralView::Ni(m, n) => !self.is_member(m, n),
+            LiteralView::Eq(m, n) => self.is_equal(terms, m, n),
+            LiteralView::Ne(m, n) => !self.is_equal(terms, m, n),
+            LiteralView::Le(m, n) => self.is_under(tables, m, n),
+            LiteralView::Nl(m, n) => !self.is_under(tables, m, n),
+        }
+    }
+
+    // Is a packed literal true?
+    pub fn is_true(&self, code: u32, terms: &[u64; NUMBERS], tables: &HeapTables) -> bool
+        requires { (table : Table) × Entries table terms.now × IsAssumption table (unpack_literal code) }
+        ensures { (H : FiniteHeap) (ρ : Values H) (table : Table) → Entries table terms.now → IsAssumption table (unpack_literal code)
+            → Evaluable H ρ table tables.now self.now.numbers self.now.rows → result ≡ is_true ρ (at table) (unpack_literal code) }
+    {
+        self.test(packing::literals::view(code), terms, tables)
+    }
 }

@@ -1,12 +1,8 @@
-use borrow.Author.Rules.{rules}
-use Rattle.term_values.proofs.CopyLaws.{copy_start, copy_more, copy_end}
+use native.Mathlib.Omega.{arith}
+use Rattle.term_values.proofs.CopyLaws.{row_copied}
 use Rattle.term_values.proofs.operations.write_row.Goals as goal
 
-pub loop-i-init : goal.loop-i-init
-loop-i-init c = search (rules, copy_start)
-
-pub loop-i-preserved : goal.loop-i-preserved
-loop-i-preserved c = search (rules, copy_more)
-
 pub returns : goal.returns
-returns c = search (rules, copy_end)
+returns c =
+    let copy = c.copy_within.ensures in
+    row_copied _ _ _ _ _ (omega arith) (omega arith) (omega arith) c.told-rows copy.len copy.by_index.0 copy.by_index.1 _ _ (omega arith)
