@@ -2,13 +2,15 @@
 use mathlib.Core.Path.{◌≡◌, refl, sym, ◌∙◌, ap}
 use mathlib.Core.Bool.{Bool, true, false, ◌||◌, true≢false, false≢true}
 use mathlib.Core.List.{List, [], ◌∷◌, ◌++◌, map, map-append}
-use Rattle.std.specs.Prelude.{Option, None, Some}
+use Rattle.std.specs.Prelude.{Option, None, Some, option_map}
+use Rattle.std.specs.Option.{unwrap_or}
 use Prim.Native.Nat.{ℕ, zero, suc, ◌+◌, ◌<◌, ◌≤◌}
 use native.Mathlib.Omega.{arith}
 use lib.ListN.{length, take, get_or}
 use lib.Seq.{take-suc}
 use borrow.Author.Tests.{ne_eqb}
 use Rattle.tableau.specs.declared.Freshness.{Freshness}
+use Rattle.tableau.specs.declared.Place as declared
 use Rattle.tableau.specs.Basics.{is_some}
 use Rattle.tableau.specs.Fields.{arguments}
 use Rattle.tableau.specs.Terms.{Place, TermNo, Table, Term, Literal, literal, Disjunct, Clauses, disjuncts, at, layer, to_depth, fold, mentions, mentioned_in, place_from, first_place, mentioned}
@@ -18,7 +20,7 @@ use Rattle.tableau.proofs.FirstPlace.{not_mentioned, mentioned_last}
 use Rattle.tableau.proofs.TableGrowth.{at_zero, at_beyond}
 use Rattle.packing.specs.Packing.{left_in, right_in}
 use Rattle.mentions.proofs.MentionLaws.{mentions_zero}
-use Rattle.freshness.specs.Prefixes.{SideRow, place_or_zero}
+use Rattle.freshness.specs.Prefixes.{SideRow}
 
 -- a number that no term has stands for no term with w in it
 not_beyond : (table : Table) (w t : TermNo) → w ≤ length table → length table < t → mentions (at table) w t ≡ false
@@ -51,19 +53,23 @@ pub mentioned_after : (table : TermNo → Term) (w : TermNo) (C : Clauses) (d : 
 mentioned_after table w C d = ap (λ (ls : List Literal). mentioned table w ls) (map-append (λ x. x.is) C (d ∷ [])) ∙ mentioned_last table w (disjuncts C) d.is
 
 -- THE FIRST PLACE, counted from k: that of literal i, which mentions w, where none of the i before it does
-pub first_at : (f : ℕ → Literal) (table : TermNo → Term) (w : TermNo) (b : List ℕ) (k : Place) (i n : ℕ) → i < n → i < length b
-    → mentioned table w (map f (take i b)) ≡ false → mentioned_in table w (f (get_or b i 0)) ≡ true → place_from k table w (map f (take n b)) ≡ Some (k + i)
+pub first_at : (f : ℕ → Literal) (table : TermNo → Term) (w : TermNo) (b : List ℕ) (k : Place) (i : ℕ) → i < length b
+    → mentioned table w (map f (take i b)) ≡ false → mentioned_in table w (f (get_or b i 0)) ≡ true → place_from k table w (map f b) ≡ Some (k + i)
 unfolding place_from
-first_at f table w b k i zero h l e m = absurd (omega arith)
-first_at f table w [] k i (suc n) h l e m = absurd (omega arith)
-first_at f table w (x ∷ b) k zero (suc n) h l e m = rw m (ap Some (let z : k ≡ k + 0 = omega arith in z))
-first_at f table w (x ∷ b) k (suc i) (suc n) h l e m =
+first_at f table w [] k i h e m = absurd (omega arith)
+first_at f table w (x ∷ b) k zero h e m = rw m (ap Some (let z : k ≡ k + 0 = omega arith in z))
+first_at f table w (x ∷ b) k (suc i) h e m =
     let c = not_mentioned table w (f x) (map f (take i b)) e in
-    rw c.0 (first_at f table w b (suc k) i n (omega arith) (omega arith) c.1 m ∙ ap Some (let z : suc k + i ≡ k + suc i = omega arith in z))
+    rw c.0 (first_at f table w b (suc k) i (omega arith) c.1 m ∙ ap Some (let z : suc k + i ≡ k + suc i = omega arith in z))
 
-pub no_place : (p : Option Place) → is_some p ≡ false → place_or_zero p ≡ 0
+pub no_place : (p : Option Place) → is_some p ≡ false → p ≡ None
 no_place None h = refl
 no_place (Some p) h = absurd (true≢false h)
+
+-- a place that is found, as a reply gives it
+pub told_place : (p : Option Place) (r : Option declared.Place) → option_map (λ x. x.0) r ≡ p → (unwrap_or r (record { 0 = 0 })).0 ≡ unwrap_or p 0
+told_place p None e = rw (← e)
+told_place p (Some x) e = rw (← e)
 
 -- FRESHNESS: of a term that is no `rfv`; of an `rfv` that neither a clause nor the branch mentions; of one that is mentioned, by the first place on the branch
 module _ (table : Table) (C : Clauses) (B : List Literal) (w : TermNo) where
@@ -81,11 +87,11 @@ module _ (table : Table) (C : Clauses) (B : List Literal) (w : TermNo) where
       go (Some p) false h = absurd (true≢false h)
       go (Some p) true h = absurd (true≢false h)
 
-  pub used_rfv : is_rfv (at table w) ≡ true → (mentioned (at table) w (disjuncts C) || mentioned (at table) w B) ≡ true → freshness table C B w ≡ not_fresh (place_or_zero (first_place (at table) w B))
+  pub used_rfv : is_rfv (at table w) ≡ true → (mentioned (at table) w (disjuncts C) || mentioned (at table) w B) ≡ true → freshness table C B w ≡ not_fresh (unwrap_or (first_place (at table) w B) 0)
   unfolding freshness
   used_rfv i = rw i (go (first_place (at table) w B) (mentioned (at table) w (disjuncts C)))
     where
-      go : (p : Option Place) (c : Bool) → (c || is_some p) ≡ true → fresh_if true p c ≡ not_fresh (place_or_zero p)
+      go : (p : Option Place) (c : Bool) → (c || is_some p) ≡ true → fresh_if true p c ≡ not_fresh (unwrap_or p 0)
       go None false h = absurd (false≢true h)
       go None true h = refl
       go (Some p) c h = refl

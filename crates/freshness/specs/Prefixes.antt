@@ -1,7 +1,6 @@
 -- Which terms the clauses and the literals of a branch mention, as rows of bits: bit w of row i says that a clause or one of the first i literals mentions w.
 use Rattle.std.specs.Prelude.{◌≡◌, Bool, ◌||◌, List, [], map, ℕ, ◌/◌, ◌%◌, ◌<◌, ◌≤◌, length, take, get_or}
-use Rattle.std.specs.Prelude.{Option, None, Some}
-use Rattle.tableau.specs.Terms.{Place, TermNo, Table, Clauses, disjuncts, at, mentions, mentioned, max_terms}
+use Rattle.tableau.specs.Terms.{TermNo, Table, Clauses, disjuncts, at, mentions, mentioned, max_terms}
 use Rattle.packing.specs.Packing.{unpack_literal}
 use Rattle.mentions.specs.Mentions.{row, row_bit}
 
@@ -24,8 +23,3 @@ pub record SideRow (n : ℕ) (t s : TermNo) : Type 0 where
 -- the bits of row i, and of the rows of a literal's two sides
 abbrev pub next_bits : List ℕ → List ℕ → ℕ → TermNo → TermNo → ℕ → ℕ → Bool
 next_bits prefix rows i left right k q = row_bit prefix i k q || (row_bit rows left k q || row_bit rows right k q)
-
--- a place as a reply gives it
-abbrev pub place_or_zero : Option Place → ℕ
-place_or_zero None = 0
-place_or_zero (Some p) = p

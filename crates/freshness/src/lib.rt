@@ -1,34 +1,42 @@
-// The freshness test: does a clause or a literal on the branch mention w, and which first? Row i of an array that the caller lends, ROW words from i * ROW on, has a bit for each term, set where a
-// clause or one of the first i literals mentions it, so that a test reads one bit. Rows are filled when they are asked for; the caller keeps the number of those that still hold.
+// The freshness test: does a clause or a literal on the branch mention w, and which first? Row i of
+// an array that the caller lends, ROW words from i * ROW on, has a bit for each term, set where a
+// clause or one of the first i literals mentions it, so that a test reads one bit. Rows are filled
+// when they are asked for; the caller keeps the number of those that still hold.
 #![tactic(auto)]
 
-ghost use Rattle.std.specs.Prelude.{◌≡◌, true, List, [], ◌∷◌, ◌++◌, map, ℕ, ◌+◌, ◌%◌, ◌<◌, ◌≤◌, length, take};
+ghost use Rattle.std.specs.Prelude.{◌≡◌, true, List, [], ◌∷◌, ◌++◌, map, ℕ, ◌+◌, ◌%◌, ◌<◌, ◌≤◌, length, option_map};
 ghost use Rattle.tableau.specs.Terms.{Table, Clauses, at, mentioned_in, first_place, max_terms};
 ghost use Rattle.tableau.specs.Tree.{max_places};
 ghost use Rattle.tableau.specs.Steps.{is_rfv, freshness};
-ghost use Rattle.packing.specs.Packing.{unpack_literal};
+ghost use Rattle.packing.specs.Packing.{unpack_literal, left_in, right_in};
 ghost use Rattle.table.specs.Held.{Entries};
 ghost use Rattle.mentions.specs.Mentions.{row, bit_at, MentionRows, Filled};
-ghost use Rattle.freshness.specs.Prefixes.{prefix_length, PrefixRows, SideRow, next_bits, place_or_zero};
+ghost use Rattle.freshness.specs.Prefixes.{PrefixRows, SideRow, next_bits};
 
 use mentions::ROW;
 use packing::TermView;
 use packing::literals::{packed_left, packed_right};
 use tableau::{Freshness, Place, Sort, TermNumber};
-use tree::Tree;
 
 // A row for each length of the branch, 0 to 1000; row 0 has what the clauses mention.
 pub const PREFIX_WORDS: usize = 10010;
 
-// The number whose row says what a literal's side mentions: 0, which mentions nothing, for a number that no term has.
+// The number whose row says what a literal's side mentions: 0, which mentions nothing, for a number
+// that no term has.
 fn side_row(n: usize, side: TermNumber) -> usize
     ensures { SideRow n side.0 result }
 {
-    let t = side.0;
-    if n < t {
-        return 0;
-    }
-    t
+    if side.0 <= n { side.0 } else { 0 }
+}
+
+// Those of both sides.
+fn side_rows(n: usize, literal: u32) -> (usize, usize)
+    ensures { SideRow n (left_in (unpack_literal literal)) result.0 × SideRow n (right_in (unpack_literal literal)) result.1 }
+{
+    (
+        side_row(n, packed_left(literal)),
+        side_row(n, packed_right(literal)),
+    )
 }
 
 // Fills row i: what an earlier row or row i itself has, and what the two sides mention.
@@ -41,14 +49,10 @@ fn fill(
     right: usize,
 )
     requires { (from ≤ i) × (i ≤ max_places) × (left ≤ max_terms) × (right ≤ max_terms) }
-    ensures { length prefix.old ≡ prefix_length
-        → Filled prefix.old prefix.new i (next_bits prefix.old rows.now from left right) row }
+    ensures { Filled prefix.old prefix.new i (next_bits prefix.old rows.now from left right) row }
 {
-    let mut k = 0;
-    while k < ROW {
-        let word = prefix[from * ROW + k] | (rows[left * ROW + k] | rows[right * ROW + k]);
-        prefix[i * ROW + k] = word;
-        k += 1;
+    for k in 0..ROW {
+        prefix[i * ROW + k] = prefix[from * ROW + k] | rows[left * ROW + k] | rows[right * ROW + k];
     }
 }
 
@@ -64,32 +68,27 @@ pub fn note_clause(
         → PrefixRows table C codes prefix.old 0
         → PrefixRows table (C ++ (record { clause = k; is = unpack_literal literal } ∷ [])) codes prefix.new 0 }
 {
-    let left = side_row(n, packed_left(literal));
-    let right = side_row(n, packed_right(literal));
+    let (left, right) = side_rows(n, literal);
     fill(prefix, rows, 0, 0, left, right);
 }
 
-// Fills the rows of the lengths past `noted`, up to len.
+// Fills the rows of the branch's lengths past `noted`.
 pub fn note(
     prefix: &mut [u64; PREFIX_WORDS],
     rows: &[u64; mentions::WORDS],
     n: usize,
-    branch: &[u32; Tree::PLACES],
+    branch: &[u32],
     noted: usize,
-    len: usize,
 )
     requires n_le_max_terms { n ≤ max_terms }
-    requires noted_le_len { (noted ≤ len) × (len ≤ max_places) × (length branch.now ≡ max_places) }
+    requires noted_le_len { (noted ≤ length branch.now) × (length branch.now ≤ max_places) }
     ensures { (table : Table) (C : Clauses) → MentionRows table rows.now → length table ≡ n
-        → PrefixRows table C branch.now prefix.old noted → PrefixRows table C branch.now prefix.new len }
+        → PrefixRows table C branch.now prefix.old noted
+        → PrefixRows table C branch.now prefix.new (length branch.now) }
 {
-    let mut i = noted;
-    while i < len {
-        let literal = branch[i];
-        let left = side_row(n, packed_left(literal));
-        let right = side_row(n, packed_right(literal));
+    for i in noted..branch.len() {
+        let (left, right) = side_rows(n, branch[i]);
         fill(prefix, rows, i, i + 1, left, right);
-        i += 1;
     }
 }
 
@@ -100,17 +99,8 @@ fn is_rfv(terms: &[u64; table::NUMBERS], n: usize, w: TermNumber) -> bool
     ensures w_le_n { result ≡ true → w.0 ≤ n }
     ensures value { (table : Table) → Entries table terms.now → length table ≡ n → result ≡ is_rfv (at table w.0) }
 {
-    let v = w.0;
-    if n < v {
-        return false;
-    }
-    let TermView::Variable(sort, _) = table::view(terms, w) else {
-        return false;
-    };
-    let Sort::Reference = sort else {
-        return false;
-    };
-    true
+    w.0 <= n
+        && matches!(table::view(terms, w), TermView::Variable(sort, _) if sort == Sort::Reference)
 }
 
 // The bit of w, in the word of a row that has it.
@@ -125,57 +115,54 @@ fn literal_mentions(rows: &[u64; mentions::WORDS], n: usize, literal: u32, w: Te
     requires { (n ≤ max_terms) × (w.0 ≤ n) }
     ensures { (table : Table) → MentionRows table rows.now → length table ≡ n → 0 < w.0 → result ≡ mentioned_in (at table) w.0 (unpack_literal literal) }
 {
+    let (left, right) = side_rows(n, literal);
     let k = w.0 / 64;
-    let left = side_row(n, packed_left(literal));
-    let right = side_row(n, packed_right(literal));
     has_bit(rows[left * ROW + k] | rows[right * ROW + k], w)
 }
 
-// The first of the len places whose literal mentions w, 0 where none does.
+// The first place whose literal mentions w.
 fn first_place(
     rows: &[u64; mentions::WORDS],
     n: usize,
-    branch: &[u32; Tree::PLACES],
-    len: usize,
+    branch: &[u32],
     w: TermNumber,
-) -> Place
+) -> Option<Place>
     requires n_le_max_terms { (n ≤ max_terms) × (w.0 ≤ n) }
-    requires len_le_max_places { (len ≤ max_places) × (length branch.now ≡ max_places) }
+    requires len_le_max_places { length branch.now ≤ max_places }
     ensures { (table : Table) → MentionRows table rows.now → length table ≡ n → 0 < w.0
-        → result.0 ≡ place_or_zero (first_place (at table) w.0 (map unpack_literal (take len branch.now))) }
+        → option_map (λ p. p.0) result ≡ first_place (at table) w.0 (map unpack_literal branch.now) }
 {
-    let mut i = 0;
-    while i < len {
-        if literal_mentions(rows, n, branch[i], w) {
-            return Place(i + 1);
+    for (i, literal) in branch.iter().enumerate() {
+        if literal_mentions(rows, n, *literal, w) {
+            return Some(Place(i + 1));
         }
-        i += 1;
     }
-    Place(0)
+    None
 }
 
-// Is the term w fresh: an `rfv` that no clause and none of the first len literals mentions? Their rows are filled. A number that no term has is not fresh. The place is
-// searched only where it is to be told.
+// Is the term w fresh: an `rfv` that no clause and no literal of the branch mentions? Their rows
+// are filled. A number that no term has is not fresh. The place is searched only where it is to be
+// told.
 pub fn test(
     terms: &[u64; table::NUMBERS],
     rows: &[u64; mentions::WORDS],
     prefix: &[u64; PREFIX_WORDS],
     n: usize,
-    branch: &[u32; Tree::PLACES],
-    len: usize,
+    branch: &[u32],
     w: TermNumber,
 ) -> Freshness
     requires entries { (table : Table) × Entries table terms.now }
     requires n_le_max_terms { n ≤ max_terms }
-    requires len_le_max_places { (len ≤ max_places) × (length branch.now ≡ max_places) }
+    requires len_le_max_places { length branch.now ≤ max_places }
     ensures { (table : Table) (C : Clauses) → Entries table terms.now → MentionRows table rows.now → length table ≡ n
-        → PrefixRows table C branch.now prefix.now len → result ≡ freshness table C (map unpack_literal (take len branch.now)) w.0 }
+        → PrefixRows table C branch.now prefix.now (length branch.now)
+        → result ≡ freshness table C (map unpack_literal branch.now) w.0 }
 {
     if !is_rfv(terms, n, w) {
         return Freshness::NotFresh(Place(0));
     }
-    if !has_bit(prefix[len * ROW + w.0 / 64], w) {
+    if !has_bit(prefix[branch.len() * ROW + w.0 / 64], w) {
         return Freshness::Fresh;
     }
-    Freshness::NotFresh(first_place(rows, n, branch, len, w))
+    Freshness::NotFresh(first_place(rows, n, branch, w).unwrap_or(Place(0)))
 }

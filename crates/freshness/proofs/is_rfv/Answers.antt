@@ -1,27 +1,20 @@
--- w is no term, no variable, a variable of another sort, or an `rfv`.
-use mathlib.Core.Path.{sym, ◌∙◌, ap}
-use mathlib.Core.Bool.{false≢true}
-use native.Mathlib.Omega.{arith}
-use Rattle.tableau.specs.declared.Sort.{Sort}
-use Rattle.tableau.specs.Terms.{at, same_sort, sort_index}
+-- w is an `rfv`, another variable, another term, or no term.
+use Rattle.std.proofs.Common.{◌≡◌, true, false, sym, ◌∙◌, arith}
+use borrow.Author.Tests.{lt-leb}
+use Rattle.tableau.specs.Terms.{at}
 use Rattle.tableau.proofs.TableGrowth.{at_beyond}
-use Rattle.packing.proofs.ViewLaws.{not_variable, not_reference, view_variable}
+use Rattle.packing.proofs.ViewLaws.{view_variable, reference_tag}
 use Rattle.freshness.proofs.is_rfv.Goals as goal
 
-pub returns-then-n-v : goal.returns-then-n-v
-returns-then-n-v c = record { w_le_n = (λ e. absurd (false≢true e)); value = λ table E e. rw (at_beyond table c.args.w.0 (omega arith)) }
+pub returns-in-Variable-clause-value : goal.returns-in-Variable-clause-value
+returns-in-Variable-clause-value c table E e =
+    let y : c.eq.result ≡ true = cc in
+    sym (view_variable (at table c.args.w.0) _ _ (sym c.in-Variable.is ∙ sym (c.view.ensures table E).is) ∙ sym (reference_tag _) ∙ sym c.eq.ensures ∙ y)
 
-pub returns-in_default : goal.returns-in_default
-returns-in_default c = record { w_le_n = (λ e. absurd (false≢true e)); value = λ table E e. sym (not_variable (at table c.args.w.0) c.view.result (sym (c.view.ensures table E).is) c.in_default.not-Variable) }
+pub returns-in_default-clause-value : goal.returns-in_default-clause-value
+returns-in_default-clause-value c table E e =
+    let y : c.eq.result ≡ false = cc in
+    sym (view_variable (at table c.args.w.0) _ _ (sym c.in-Variable.is ∙ sym (c.view.ensures table E).is) ∙ sym (reference_tag _) ∙ sym c.eq.ensures ∙ y)
 
-pub returns-in_default-sort : goal.returns-in_default-sort
-returns-in_default-sort c = record { w_le_n = (λ e. absurd (false≢true e)); value = λ table E e. sym (view_variable (at table c.args.w.0) _ _ (sym c.in-Variable.is ∙ sym (c.view.ensures table E).is) ∙ not_reference _ c.in_default-sort.not-Reference) }
-
-pub returns : goal.returns
-unfolding sort_index
-returns c =
-    record {
-      w_le_n = (λ e. omega arith);
-      value = λ table E e. sym (view_variable (at table c.args.w.0) _ _ (sym c.in-Variable.is ∙ sym (c.view.ensures table E).is)
-          ∙ ap (same_sort Sort.Reference) c.in-Reference.is);
-    }
+pub returns-else-w-n-clause-value : goal.returns-else-w-n-clause-value
+returns-else-w-n-clause-value c table E e = rw (at_beyond table c.args.w.0 (omega arith)) (lt-leb _ _ c.if-w-n.false)

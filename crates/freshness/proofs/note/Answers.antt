@@ -3,18 +3,15 @@ use Rattle.freshness.proofs.PrefixLaws.{prefix_less, prefix_more}
 use Rattle.freshness.proofs.note.Goals as goal
 
 pub fill-requires : goal.fill-requires
-fill-requires c = (omega arith, omega (arith, c.requires), omega (arith, c.side_row-left.ensures.made, c.requires), omega (arith, c.side_row-right.ensures.made, c.requires))
+fill-requires c =
+    let s = c.side_rows-left.ensures in
+    (omega arith, omega (arith, c.requires), omega (arith, s.0.made), omega (arith, s.1.made))
 
 pub loop-i-preserved : goal.loop-i-preserved
-loop-i-preserved c = (
-  omega arith,
-  λ table C R e P. let Q = c.loop-i.invariant.1 table C R e P in
-      prefix_more table C _ _ _ _ _ R (omega (arith, c.requires)) (rw (e, ← c.packed_left.ensures.0) c.side_row-left.ensures)
-      (rw (e, ← c.packed_right.ensures.0) c.side_row-right.ensures) _ _ Q (c.fill.ensures Q.size),
-)
+loop-i-preserved c table C R e P =
+    let Q = c.loop-i.invariant table C R e P in
+    let s = c.side_rows-left.ensures in
+    prefix_more table C _ _ _ _ _ R (omega (arith, c.requires)) (rw e s.0) (rw e s.1) _ _ Q c.fill.ensures
 
 pub returns : goal.returns
-returns c table C R e P = prefix_less (omega arith) (c.loop-i.invariant.1 table C R e P)
-
-pub loop-i-init : goal.loop-i-init
-loop-i-init c = (omega arith, λ table C R e P. P)
+returns c table C R e P = prefix_less (omega arith) (c.loop-i.invariant table C R e P)

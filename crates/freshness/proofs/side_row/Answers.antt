@@ -1,8 +1,8 @@
 use Rattle.freshness.proofs.Laws.{side_beyond, side_own}
 use Rattle.freshness.proofs.side_row.Goals as goal
 
-pub returns-then-n-t : goal.returns-then-n-t
-returns-then-n-t c = side_beyond _ _ c.if-n-t.true
+pub returns-then-side-n : goal.returns-then-side-n
+returns-then-side-n c = side_own _ _ c.if-side-n.true
 
-pub returns : goal.returns
-returns c = side_own _ _ c.if-n-t.false
+pub returns-else-side-n : goal.returns-else-side-n
+returns-else-side-n c = side_beyond _ _ c.if-side-n.false
