@@ -1,7 +1,7 @@
 -- t is a read of a heap z: what `rdh` and `rdm` ask first.
 use mathlib.Core.Path.{◌≡◌, ◌∙◌}
 use mathlib.Core.List.{List, ◌∷◌}
-use Rattle.std.specs.Prelude.{Option, Some}
+use Rattle.std.specs.Prelude.{Option, Some, Err}
 use Prim.Native.Nat.{ℕ}
 use Rattle.tableau.specs.declared.Operator.{Operator}
 use Rattle.tableau.specs.declared.Reason.{Reason}
@@ -13,7 +13,6 @@ use Rattle.tableau.specs.Rules.{Pattern, operator, –, LiteralPattern, Need, t�
 use Rattle.tableau.specs.Steps.{arguments_of}
 use Rattle.packing.specs.declared.TermView.{TermView}
 use Rattle.table.specs.Held.{ViewAt}
-use Rattle.rules.specs.declared.outcome.Outcome.{Outcome}
 use Rattle.rules.specs.Answer.{Concludes}
 use Rattle.rules.proofs.Laws.{Arguments3, Others, computing, is_rea, is_wri, no_arguments}
 
@@ -22,7 +21,7 @@ module _ {A : Table → Type 0} {t : ℕ} {v x : TermView} {z k g : TermNumber} 
   -- the heap is not written
   pub other_heap : {r : Rule} {a b c d l m : Pattern} {ns : List Need} {ks : List (List LiteralPattern)} {P Q : Option Literal} {w : ℕ}
       → rule r ≡ rows (t≐ (operator Operator.Rea (operator Operator.Wri a b c d) l m –) ∷ ns ⟶ ks) → Others Operator.Wri x
-      → Concludes A r P Q t w (Outcome.Refused Reason.NeedNotMet)
+      → Concludes A r P Q t w (Err Reason.NeedNotMet)
   unfolding computing
   other_heap q o = record {
     room = tt;

@@ -8,48 +8,46 @@ ghost use Rattle.rules.specs.Answer.{HeldBy, SearchableBy, Concludes};
 use packing::TermView;
 use rules::outcome::{Outcome, literal};
 use rules::{outcome, searches};
-use table::Found;
 use tableau::{Operator, Reason, Relation, TermNumber};
 
 // t = rea(wri(h,u,f,v),u,f) gives t eq v.
-pub fn rdh(t: TermNumber, terms: &[u64; table::NUMBERS]) -> Outcome
+pub fn rdh(t: TermNumber, terms: &[u64; table::NUMBERS]) -> Result<Outcome, Reason>
     requires held_by { (table : Table) × HeldBy terms.now table }
     requires small { Small t.0 }
     ensures { Concludes (HeldBy terms.now) Rule.Rdh None None t.0 0 result }
 {
     let TermView::Rea(z, k, g) = table::view(terms, t) else {
-        return Outcome::Refused(Reason::NeedNotMet);
+        return Err(Reason::NeedNotMet);
     };
     let TermView::Wri(_, u, f, v) = table::view(terms, z) else {
-        return Outcome::Refused(Reason::NeedNotMet);
+        return Err(Reason::NeedNotMet);
     };
-    if u.0 != k.0 {
-        return Outcome::Refused(Reason::NeedNotMet);
+    if u != k || f != g {
+        return Err(Reason::NeedNotMet);
     }
-    if f.0 != g.0 {
-        return Outcome::Refused(Reason::NeedNotMet);
-    }
-    outcome::adds_one(literal(Relation::Eq, t, v))
+    Ok(outcome::adds_one(literal(Relation::Eq, t, v)))
 }
 
 // t = rea(wri(h,u,f,v),y,g) gives u eq y, f eq g ∥ t eq rea(h,y,g).
-pub fn rdm(t: TermNumber, terms: &[u64; table::NUMBERS], chains: &[u16; table::LINKS]) -> Outcome
+pub fn rdm(
+    t: TermNumber,
+    terms: &[u64; table::NUMBERS],
+    chains: &[u16; table::LINKS],
+) -> Result<Outcome, Reason>
     requires searchable_by { (table : Table) × SearchableBy terms.now chains.now table }
     requires small { Small t.0 }
     ensures { Concludes (SearchableBy terms.now chains.now) Rule.Rdm None None t.0 0 result }
 {
     let TermView::Rea(z, y, g) = table::view(terms, t) else {
-        return Outcome::Refused(Reason::NeedNotMet);
+        return Err(Reason::NeedNotMet);
     };
     let TermView::Wri(h, u, f, _) = table::view(terms, z) else {
-        return Outcome::Refused(Reason::NeedNotMet);
+        return Err(Reason::NeedNotMet);
     };
-    let Found::At(v) = searches::on_three(terms, chains, Operator::Rea, h, y, g) else {
-        return Outcome::Refused(Reason::TermNotMade);
-    };
-    outcome::splits_two_one(
+    let v = searches::on_three(terms, chains, Operator::Rea, h, y, g)?;
+    Ok(outcome::splits_two_one(
         literal(Relation::Eq, u, y),
         literal(Relation::Eq, f, g),
         literal(Relation::Eq, t, v),
-    )
+    ))
 }

@@ -1,12 +1,12 @@
 -- What the arms of a `let .. else` say: a literal of another relation, a term of another operator, a search that finds nothing; and what an outcome adds.
 use mathlib.Core.Path.{◌≡◌, refl, sym, ◌∙◌, ap, subst}
-use mathlib.Core.Bool.{Bool, true, false}
+use mathlib.Core.Bool.{Bool, true, false, not}
 use mathlib.Core.List.{List}
 use Rattle.std.specs.Prelude.{Option, None, Some, Result, Ok, Err, IsErrAnd}
 use Rattle.std.proofs.lemmas.Result.{IfOk-at_ok, err_from_is_err_and}
 use Prim.Native.Nat.{ℕ, suc}
 use native.Mathlib.Omega.{arith}
-use borrow.Author.Tests.{eq-eqb}
+use borrow.Author.Tests.{eq-eqb, not-true, not-false}
 use denote.Enum.Declared as Declared
 use Rattle.tableau.specs.declared.Operator.{Operator}
 use Rattle.tableau.specs.declared.Reason.{Reason}
@@ -45,6 +45,13 @@ test_fails e h = sym e ∙ h
 
 pub test_holds : {r b : Bool} → r ≡ b → r ≡ true → b ≡ true
 test_holds e h = sym e ∙ h
+
+-- what `a != b` answers
+pub differ : {r b : Bool} → r ≡ not b → r ≡ true → b ≡ false
+differ e h = not-true _ (sym e ∙ h)
+
+pub agree : {r b : Bool} → r ≡ not b → r ≡ false → b ≡ true
+agree e h = not-false _ (sym e ∙ h)
 
 -- A LITERAL, by its parts
 pub by_sides : (p : LiteralView) → literal_of p ≡ literal (relation_of p) (left_of p) (right_of p)

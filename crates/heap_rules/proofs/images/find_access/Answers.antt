@@ -1,32 +1,32 @@
-use mathlib.Core.Path.{subst}
-use Rattle.table.specs.Held.{SmallFound}
-use Rattle.rules.proofs.Laws.{found_at, found_nothing}
+use Rattle.rules.proofs.Laws.{found, found_small, missing, passed_on}
 use Rattle.heap_rules.proofs.images.find_access.Goals as goal
 
 -- typ(u) is no term
-pub returns-in_default : goal.returns-in_default
-returns-in_default c = record { small = tt; is = λ table h. rw (found_nothing (c.on_one.ensures.found table h) c.in_default.is) }
+pub returns-in_err-class : goal.returns-in_err-class
+returns-in_err-class c =
+    rw (passed_on c.from_residual.ensures.1) record {
+      small = tt;
+      is = λ table S. let m = missing c.on_one.ensures S c.in_err-class.was in rw (m.0, m.1);
+    }
 
 -- dty(f) is no term
-pub returns-in_default-on_one : goal.returns-in_default-on_one
-returns-in_default-on_one c =
-    record {
+pub returns-in_err-owner : goal.returns-in_err-owner
+returns-in_err-owner c =
+    rw (passed_on c.from_residual-in_err-owner.ensures.1) record {
       small = tt;
-      is = λ table h.
-          rw (found_at (c.on_one.ensures.found table h) c.in-At.is, found_nothing (c.on_one-2.ensures.found table h) c.in_default-on_one.is);
+      is = λ table S.
+          let m = missing c.on_one-2.ensures S c.in_err-owner.was in
+          rw (found c.on_one.ensures S c.in_ok-class.was, m.0, m.1);
     }
 
 -- rea(h,u,f) is no term
-pub returns-in_default-on_three : goal.returns-in_default-on_three
-returns-in_default-on_three c =
-    record {
+pub returns-in_err-value : goal.returns-in_err-value
+returns-in_err-value c =
+    rw (passed_on c.from_residual-in_err-value.ensures.1) record {
       small = tt;
-      is = λ table h.
-          rw (
-            found_at (c.on_one.ensures.found table h) c.in-At.is,
-            found_at (c.on_one-2.ensures.found table h) c.in-At-on_one.is,
-            found_nothing (c.on_three.ensures.found table h) c.in_default-on_three.is,
-          );
+      is = λ table S.
+          let m = missing c.on_three.ensures S c.in_err-value.was in
+          rw (found c.on_one.ensures S c.in_ok-class.was, found c.on_one-2.ensures S c.in_ok-owner.was, m.0, m.1);
     }
 
 -- all three are terms
@@ -34,23 +34,14 @@ pub returns : goal.returns
 returns c =
     record {
       small = (
-        subst SmallFound c.in-At.is c.on_one.ensures.small,
-        subst SmallFound c.in-At-on_one.is c.on_one-2.ensures.small,
-        subst SmallFound c.in-At-on_three.is c.on_three.ensures.small,
+        found_small c.on_one.ensures c.in_ok-class.was,
+        found_small c.on_one-2.ensures c.in_ok-owner.was,
+        found_small c.on_three.ensures c.in_ok-value.was,
       );
-      is = λ table h.
+      is = λ table S.
           rw (
-            found_at (c.on_one.ensures.found table h) c.in-At.is,
-            found_at (c.on_one-2.ensures.found table h) c.in-At-on_one.is,
-            found_at (c.on_three.ensures.found table h) c.in-At-on_three.is,
+            found c.on_one.ensures S c.in_ok-class.was,
+            found c.on_one-2.ensures S c.in_ok-owner.was,
+            found c.on_three.ensures S c.in_ok-value.was,
           );
     }
-
-pub on_one-requires : goal.on_one-requires
-on_one-requires c = record { searchable_by = c.requires.searchable_by; small = c.requires.small.1 }
-
-pub on_one-requires-2 : goal.on_one-requires-2
-on_one-requires-2 c = record { searchable_by = c.requires.searchable_by; small = c.requires.small.2 }
-
-pub on_three-requires : goal.on_three-requires
-on_three-requires c = record { searchable_by = c.requires.searchable_by; small = c.requires.small }

@@ -1,12 +1,20 @@
-use mathlib.Core.Path.{refl, sym, subst, ◌∙◌}
+use mathlib.Core.Path.{refl, ◌∙◌}
 use Rattle.tableau.specs.declared.Relation.{Relation}
 use Rattle.tableau.specs.Terms.{at}
-use Rattle.packing.specs.Packing.{SmallLiteral}
-use Rattle.rules.proofs.Laws.{computing, is_img, is_not, view_small}
+use Rattle.rules.proofs.Laws.{computing, is_img, is_not, passed_on}
 use Rattle.rules.proofs.Rows.{fresh_or_not, other_p, other_region}
-use Rattle.heap_rules.specs.Accesses.{SmallAccess}
 use Rattle.heap_rules.proofs.Made.{all_made, one_missing}
 use Rattle.heap_rules.proofs.images.wit.Goals as goal
+
+-- p is not u in s
+pub returns-in_default : goal.returns-in_default
+unfolding computing
+returns-in_default c = let p = c.args.p in fresh_or_not (other_p p refl (is_not Relation.In p c.in_default.not-In))
+
+-- s is not img(h,r,f)
+pub returns-in_default-view : goal.returns-in_default-view
+unfolding computing
+returns-in_default-view c = fresh_or_not (other_region refl refl c.in-In.is (λ table h. c.view.ensures table h.entries) c.in_default-view.not-Img)
 
 -- w is not fresh
 pub returns-in-NotFresh : goal.returns-in-NotFresh
@@ -19,29 +27,18 @@ returns-in-NotFresh c =
           rw (c.in-In.is, K.1, c.in-NotFresh.is);
     }
 
-pub find_access-requires : goal.find_access-requires
-find_access-requires c =
-    let v = view_small c.requires.searchable_by (λ table h. c.view.ensures table h.entries) c.in-Img.is in
-    record { searchable_by = c.requires.searchable_by; small = (v.0, c.requires.small_literal.1, v.2) }
-
 -- typ(w), dty(f) or rea(h,w,f) is no term
-pub returns-in_default-find_access : goal.returns-in_default-find_access
+pub returns-in_err-access : goal.returns-in_err-access
 unfolding computing
-returns-in_default-find_access c =
-    record {
+returns-in_err-access c =
+    rw (passed_on c.from_residual.ensures.1) record {
       room = tt;
       answers = λ table h.
           let K = is_img (at table _) _ _ _ ((c.view.ensures table h.entries).is ∙ c.in-Img.is) in
           rw (c.in-In.is, K.1, c.in_default-fresh.is)
-          (one_missing c.find_access.ensures table h c.in_default-find_access.is (λ q. rw q) (λ k q s. rw (q, s)) (λ k l q s o. rw (q, s, o)));
+          (one_missing c.find_access.ensures h c.in_err-access.was
+          (λ d q. rw (d, q)) (λ k d q s. rw (d, q, s)) (λ k l d q s o. rw (d, q, s, o)));
     }
-
-pub adds_three-requires : goal.adds_three-requires
-adds_three-requires c =
-    let v = view_small c.requires.searchable_by (λ table h. c.view.ensures table h.entries) c.in-Img.is in
-    let k = subst SmallAccess c.in-At.is c.find_access.ensures.small in
-    rw (c.literal.ensures, c.literal-2.ensures, c.literal-3.ensures)
-    ((c.requires.small_literal.1, v.1), (k.0, k.1), (k.2, (subst SmallLiteral c.in-In.is c.requires.small_literal.0).0))
 
 -- w in r, typ(w) le dty(f), rea(h,w,f) eq u
 pub returns : goal.returns
@@ -52,20 +49,6 @@ returns c =
       room = b.room;
       answers = λ table h.
           let K = is_img (at table _) _ _ _ ((c.view.ensures table h.entries).is ∙ c.in-Img.is) in
-          let A = all_made c.find_access.ensures table h c.in-At.is in
-          rw (c.in-In.is, K.1, c.in_default-fresh.is, A.0, A.1, A.2) (sym b.adds);
+          let A = all_made c.find_access.ensures h c.in_ok-access.was in
+          rw (c.in-In.is, K.1, c.in_default-fresh.is, A.0, A.1, A.2, b.adds);
     }
-
--- p is not u in s
-pub returns-in_default : goal.returns-in_default
-unfolding computing
-returns-in_default c = let p = c.args.p in fresh_or_not (other_p p refl (is_not Relation.In p c.in_default.not-In))
-
-pub view-requires : goal.view-requires
-unfolding computing
-view-requires c = record { entries = (c.requires.searchable_by.0, c.requires.searchable_by.1.entries); small = (subst SmallLiteral c.in-In.is c.requires.small_literal.0).1 }
-
--- s is not img(h,r,f)
-pub returns-in_default-view : goal.returns-in_default-view
-unfolding computing
-returns-in_default-view c = fresh_or_not (other_region refl refl c.in-In.is (λ table h. c.view.ensures table h.entries) c.in_default-view.not-Img)
