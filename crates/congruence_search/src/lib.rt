@@ -1,56 +1,26 @@
-// Which terms to join by congruence, and in which order: a congruence closure by a queue of terms whose arguments have changed blocks, on its own copy of the blocks. A pair t, w says: these two have
-// one signature now.
+// Which terms to join by congruence, and in which order: a congruence closure by a queue of terms whose
+// arguments have changed blocks, on its own copy of the blocks. A pair t, w says: these two have one
+// signature now.
 //
-// Nothing is promised of the pairs but their number: whoever follows them joins two terms only where their signatures are one, so that a search that errs costs time and nothing else.
+// Nothing is promised of the pairs but their number: whoever follows them joins two terms only where
+// their signatures are one, so that a search that errs costs time and nothing else.
 #![tactic(auto)]
 
 ghost use Rattle.std.specs.Prelude.{◌≤◌, ◌<◌};
 ghost use Rattle.tableau.specs.Terms.{max_terms};
 ghost use Rattle.syntax.specs.Syntax.{arguments_in};
 ghost use Rattle.packing.specs.Packing.{Small, AllSmall};
-ghost use Rattle.pairs.specs.Pairs.{AtMostPairs};
-ghost use Rattle.congruence_search.specs.Search.{Within};
 
+use cells::Cells;
 use packing::term_codes::{fields, takes_terms, with_fields};
-use pairs::PAIRS;
+use pairs::Pairs;
+use partition::Partition;
 use syntax::Arguments;
-use table::{NUMBERS, wide};
+use table::NUMBERS;
 use tableau::TermNumber;
 
-// Arrays in one: seven of NUMBERS cells, then three of LONG. Numbers are cut to LONG, so that no index passes the end of all; callers cut
-// to NUMBERS for the seven short ones.
-const CELLS: usize = 19456;
-
+// More than there are uses, and more entries than ordinary files need.
 const LONG: usize = 4096;
-
-// Of a number: its block.
-const BLOCK: usize = 0;
-
-// Of a number: the next one of its block, in a circle.
-const MEMBER: usize = 1024;
-
-// Of a block: how many numbers it has.
-const SIZE: usize = 2048;
-
-// Of a number: the first use as an argument, 4 t + k + 1 for argument k of the term t; 0 where there is none.
-const USES: usize = 3072;
-
-// Of a term: 1 where it is in the queue.
-const QUEUED: usize = 4096;
-
-// The queue, in a circle.
-const QUEUE: usize = 5120;
-
-// Of a hash: the first entry; 0 where there is none.
-const HEAD: usize = 6144;
-
-// Of a use: the next use of the same number.
-const NEXT_USE: usize = 7168;
-
-// Of an entry: the next one of its hash, and its term. A term is entered anew when its signature has changed.
-const NEXT_ENTRY: usize = 11264;
-
-const ENTRY: usize = 15360;
 
 // How many entries of a hash are looked at.
 const HOPS: usize = 8;
@@ -69,146 +39,44 @@ const HIGH_FACTOR: u64 = 28629151879;
 // 2^25
 const BELOW: u64 = 33554432;
 
-// How far a search has come: where the queue begins, how many terms are in it, and how many entries and pairs there are.
-#[derive(Clone, Copy)]
-struct Search {
+// What a search knows, and how far it has come.
+#[derive(Drop)]
+struct Search<'a> {
+    terms: &'a [u64; NUMBERS],
+
+    // Of a number: its block.
+    blocks: Cells<NUMBERS>,
+
+    // Of a number: the next one of its block, in a circle.
+    members: Cells<NUMBERS>,
+
+    // Of a block: how many numbers it has.
+    sizes: Cells<NUMBERS>,
+
+    // Of a number: the first use as an argument, 4 t + k + 1 for argument k of the term t; 0 where there
+    // is none.
+    uses: Cells<NUMBERS>,
+
+    // Of a use: the next use of the same number.
+    next_uses: Cells<LONG>,
+
+    // Of a term: whether it is in the queue.
+    queued: [bool; NUMBERS],
+
+    // The queue, in a circle: `waiting` terms from `front` on.
+    queue: Cells<NUMBERS>,
     front: usize,
     waiting: usize,
-    entries: usize,
-    pairs: usize,
-}
 
-fn get(cells: &[u16; CELLS], region: usize, x: usize) -> usize
-    requires { region ≤ 15360 }
-    ensures { result < 4096 }
-{
-    wide(cells[region + x % LONG]) % LONG
-}
+    // Of a hash: the first entry; 0 where there is none.
+    heads: Cells<NUMBERS>,
 
-fn put(cells: &mut [u16; CELLS], region: usize, x: usize, value: usize)
-    requires { region ≤ 15360 }
-{
-    cells[region + x % LONG] = (value % LONG) as u16;
-}
-
-// Every number up to n in a block of its own.
-fn alone(cells: &mut [u16; CELLS], n: usize)
-    requires { n ≤ max_terms }
-{
-    let mut x = 0;
-    while x <= n {
-        put(cells, BLOCK, x, x);
-        put(cells, MEMBER, x, x);
-        put(cells, SIZE, x, 1);
-        x += 1;
-    }
-}
-
-// The circles of x and y made one.
-fn splice(cells: &mut [u16; CELLS], x: usize, y: usize) {
-    let after = get(&*cells, MEMBER, x);
-    let other = get(&*cells, MEMBER, y);
-    put(cells, MEMBER, x, other);
-    put(cells, MEMBER, y, after);
-}
-
-// The number x in the block that it has.
-fn gather_number(cells: &mut [u16; CELLS], x: usize, block: usize)
-    requires { Small block }
-{
-    if x == block {
-        return;
-    }
-    put(cells, BLOCK, x, block);
-    splice(cells, x, block);
-    let size = get(&*cells, SIZE, block);
-    put(cells, SIZE, block, size + 1);
-}
-
-fn gather(blocks: &[u16; NUMBERS], cells: &mut [u16; CELLS], n: usize)
-    requires { n ≤ max_terms }
-{
-    let mut x = 0;
-    while x <= n {
-        gather_number(cells, x, wide(blocks[x]) % NUMBERS);
-        x += 1;
-    }
-}
-
-// A term that waits to be looked at; one that waits already is not put there twice.
-fn enqueue(cells: &mut [u16; CELLS], s: Search, t: usize) -> Search
-    requires { Within s }
-    ensures { Within result }
-{
-    if get(&*cells, QUEUED, t % NUMBERS) == 1 {
-        return s;
-    }
-    put(cells, QUEUED, t % NUMBERS, 1);
-    put(cells, QUEUE, (s.front + s.waiting) % NUMBERS, t);
-    Search {
-        front: s.front,
-        waiting: s.waiting % NUMBERS + 1,
-        entries: s.entries,
-        pairs: s.pairs,
-    }
-}
-
-fn note_use(cells: &mut [u16; CELLS], argument: TermNumber, place: usize) {
-    let x = argument.0;
-    let first = get(&*cells, USES, x % NUMBERS);
-    put(cells, NEXT_USE, place, first);
-    put(cells, USES, x % NUMBERS, place);
-}
-
-// A term whose word takes terms: what it uses; it waits.
-fn begin_term(cells: &mut [u16; CELLS], s: Search, packed: u64, t: usize) -> Search
-    requires { Within s × (t ≤ max_terms) }
-    ensures { Within result }
-{
-    if !takes_terms(packed) {
-        return s;
-    }
-    let k = fields(packed);
-    note_use(cells, k.a, 4 * t + 1);
-    note_use(cells, k.b, 4 * t + 2);
-    note_use(cells, k.c, 4 * t + 3);
-    note_use(cells, k.d, 4 * t + 4);
-    enqueue(cells, s, t)
-}
-
-fn begin(cells: &mut [u16; CELLS], terms: &[u64; NUMBERS], n: usize, s: Search) -> Search
-    requires { Within s × (n ≤ max_terms) }
-    ensures { Within result }
-{
-    let mut u = s;
-    let mut t = 1;
-    while t <= n {
-        u = begin_term(cells, u, terms[t], t);
-        t += 1;
-    }
-    u
-}
-
-fn block(cells: &[u16; CELLS], t: TermNumber) -> TermNumber
-    ensures { Small result.0 }
-{
-    let n = t.0;
-    TermNumber(get(cells, BLOCK, n) % NUMBERS)
-}
-
-fn blocks_of(cells: &[u16; CELLS], k: Arguments) -> Arguments
-    ensures { AllSmall (arguments_in result) }
-{
-    Arguments {
-        a: block(cells, k.a),
-        b: block(cells, k.b),
-        c: block(cells, k.c),
-        d: block(cells, k.d),
-    }
-}
-
-fn signature(cells: &[u16; CELLS], packed: u64) -> u64 {
-    with_fields(packed, blocks_of(cells, fields(packed)))
+    // Of each of the `entered` entries: the next one of its hash, and its term. A term is entered anew
+    // when its signature has changed.
+    next_entries: Cells<LONG>,
+    entries: Cells<LONG>,
+    entered: usize,
+    ghost counts: { (front ≤ 1024) × (waiting ≤ 1024) × (entered ≤ 4096) },
 }
 
 // Another hash than that of the term table, so that terms which share one do not share the other.
@@ -219,186 +87,236 @@ fn hash(signature: u64) -> usize
         % NUMBERS as u64) as usize
 }
 
-// A term that was entered with this signature; 0 where none is found.
-fn seek(cells: &[u16; CELLS], terms: &[u64; NUMBERS], s: u64) -> usize
-    ensures { Small result }
-{
-    let mut e = get(cells, HEAD, hash(s));
-    let mut hops = 0;
-    while hops < HOPS {
-        if e == 0 {
-            return 0;
+impl<'a> Search<'a> {
+    fn of(terms: &'a [u64; NUMBERS]) -> Self {
+        Search {
+            terms,
+            blocks: Cells::zeros(),
+            members: Cells::zeros(),
+            sizes: Cells::zeros(),
+            uses: Cells::zeros(),
+            next_uses: Cells::zeros(),
+            queued: [false; NUMBERS],
+            queue: Cells::zeros(),
+            front: 0,
+            waiting: 0,
+            heads: Cells::zeros(),
+            next_entries: Cells::zeros(),
+            entries: Cells::zeros(),
+            entered: 0,
         }
-        let w = get(cells, ENTRY, e) % NUMBERS;
-        if signature(cells, terms[w]) == s {
-            return w;
+    }
+
+    // Every number up to n in a block of its own.
+    fn alone(&mut self, n: usize)
+        requires { n ≤ max_terms }
+    {
+        for x in 0..=n {
+            self.blocks.put(x, x);
+            self.members.put(x, x);
+            self.sizes.put(x, 1);
         }
-        e = get(cells, NEXT_ENTRY, e);
-        hops += 1;
     }
-    0
-}
 
-fn enter(cells: &mut [u16; CELLS], s: Search, signature: u64, t: usize) -> Search
-    requires { Within s }
-    ensures { Within result }
-{
-    let h = hash(signature);
-    let e = s.entries % (LONG - 1) + 1;
-    let first = get(&*cells, HEAD, h);
-    put(cells, NEXT_ENTRY, e, first);
-    put(cells, ENTRY, e, t);
-    put(cells, HEAD, h, e);
-    Search {
-        front: s.front,
-        waiting: s.waiting,
-        entries: e,
-        pairs: s.pairs,
+    // The circles of x and y made one.
+    fn splice(&mut self, x: usize, y: usize) {
+        let after = self.members.get(x);
+        let other = self.members.get(y);
+        self.members.put(x, other);
+        self.members.put(y, after);
     }
-}
 
-// The terms that use x wait.
-fn wake(cells: &mut [u16; CELLS], s: Search, x: usize) -> Search
-    requires { Within s }
-    ensures { Within result }
-{
-    let mut u = s;
-    let mut place = get(&*cells, USES, x % NUMBERS);
-    let mut left = LONG;
-    while 0 < left {
-        if place == 0 {
-            return u;
+    // The number x in the block that it has.
+    fn gather_number(&mut self, x: usize, block: usize) {
+        if x == block {
+            return;
         }
-        u = enqueue(cells, u, (place - 1) / 4);
-        place = get(&*cells, NEXT_USE, place);
-        left -= 1;
+        self.blocks.put(x, block);
+        self.splice(x, block);
+        self.sizes.put(block, self.sizes.get(block) + 1);
     }
-    u
-}
 
-// The numbers of the circle of x get the block, and what uses them waits.
-fn rename(cells: &mut [u16; CELLS], s: Search, x: usize, block: usize) -> Search
-    requires { Within s }
-    ensures { Within result }
-{
-    let mut u = s;
-    let mut y = x;
-    let mut left = NUMBERS;
-    while 0 < left {
-        put(cells, BLOCK, y % NUMBERS, block);
-        u = wake(cells, u, y);
-        y = get(&*cells, MEMBER, y % NUMBERS);
-        if y == x {
-            return u;
+    fn gather(&mut self, blocks: &Partition, n: usize)
+        requires { n ≤ max_terms }
+    {
+        for x in 0..=n {
+            self.gather_number(x, blocks.block(TermNumber(x)).0);
         }
-        left -= 1;
     }
-    u
-}
 
-// Makes the block of x part of that of y.
-fn absorb(cells: &mut [u16; CELLS], s: Search, x: usize, y: usize) -> Search
-    requires { Within s }
-    ensures { Within result }
-{
-    let to = get(&*cells, BLOCK, y % NUMBERS);
-    let from = get(&*cells, BLOCK, x % NUMBERS);
-    let size = get(&*cells, SIZE, to % NUMBERS) + get(&*cells, SIZE, from % NUMBERS);
-    put(cells, SIZE, to % NUMBERS, size);
-    let u = rename(cells, s, x, to);
-    splice(cells, x, y);
-    u
-}
-
-// The smaller block becomes part of the larger.
-fn merge(cells: &mut [u16; CELLS], s: Search, x: usize, y: usize) -> Search
-    requires { Within s × Small x × Small y }
-    ensures { Within result }
-{
-    let of_x = get(&*cells, BLOCK, x);
-    let of_y = get(&*cells, BLOCK, y);
-    if get(&*cells, SIZE, of_x % NUMBERS) < get(&*cells, SIZE, of_y % NUMBERS) {
-        return absorb(cells, s, x, y);
+    // A term that waits to be looked at; one that waits already is not put there twice.
+    fn enqueue(&mut self, t: usize) {
+        if self.queued[t % NUMBERS] {
+            return;
+        }
+        self.queued[t % NUMBERS] = true;
+        self.queue.put(self.front + self.waiting, t);
+        self.waiting = self.waiting % NUMBERS + 1;
     }
-    absorb(cells, s, y, x)
-}
 
-// The term t, taken out of the queue, beside the one that was entered with its signature, if there is one.
-fn meet(
-    cells: &mut [u16; CELLS],
-    pairs: &mut [u32; PAIRS],
-    terms: &[u64; NUMBERS],
-    s: Search,
-    t: usize,
-) -> Search
-    requires { Within s × Small t }
-    ensures { Within result }
-{
-    let now = signature(&*cells, terms[t]);
-    let w = seek(&*cells, terms, now);
-    if w == 0 {
-        return enter(cells, s, now, t);
+    fn note_use(&mut self, argument: TermNumber, place: usize) {
+        let first = self.uses.get(argument.0);
+        self.next_uses.put(place, first);
+        self.uses.put(argument.0, place);
     }
-    if get(&*cells, BLOCK, w) == get(&*cells, BLOCK, t) {
-        return s;
+
+    // A term whose word takes terms: what it uses; it waits.
+    fn begin_term(&mut self, t: usize)
+        requires { t ≤ max_terms }
+    {
+        let packed = self.terms[t];
+        if !takes_terms(packed) {
+            return;
+        }
+        let k = fields(packed);
+        self.note_use(k.a, 4 * t + 1);
+        self.note_use(k.b, 4 * t + 2);
+        self.note_use(k.c, 4 * t + 3);
+        self.note_use(k.d, 4 * t + 4);
+        self.enqueue(t);
     }
-    let u = Search {
-        front: s.front,
-        waiting: s.waiting,
-        entries: s.entries,
-        pairs: pairs::note(pairs, s.pairs, t, w),
-    };
-    merge(cells, u, t, w)
+
+    fn begin(&mut self, n: usize)
+        requires { n ≤ max_terms }
+    {
+        for t in 1..=n {
+            self.begin_term(t);
+        }
+    }
+
+    fn block(&self, t: TermNumber) -> TermNumber
+        ensures { Small result.0 }
+    {
+        TermNumber(self.blocks.get(t.0) % NUMBERS)
+    }
+
+    fn blocks_of(&self, k: Arguments) -> Arguments
+        ensures { AllSmall (arguments_in result) }
+    {
+        Arguments {
+            a: self.block(k.a),
+            b: self.block(k.b),
+            c: self.block(k.c),
+            d: self.block(k.d),
+        }
+    }
+
+    fn signature(&self, t: usize) -> u64
+        requires { Small t }
+    {
+        let packed = self.terms[t];
+        with_fields(packed, self.blocks_of(fields(packed)))
+    }
+
+    // A term that was entered with this signature.
+    fn seek(&self, signature: u64) -> Option<usize> {
+        let mut e = self.heads.get(hash(signature));
+        for _ in 0..HOPS {
+            if e == 0 {
+                return None;
+            }
+            let w = self.entries.get(e) % NUMBERS;
+            if self.signature(w) == signature {
+                return Some(w);
+            }
+            e = self.next_entries.get(e);
+        }
+        None
+    }
+
+    fn enter(&mut self, signature: u64, t: usize) {
+        let h = hash(signature);
+        self.entered = self.entered % (LONG - 1) + 1;
+        let first = self.heads.get(h);
+        self.next_entries.put(self.entered, first);
+        self.entries.put(self.entered, t);
+        self.heads.put(h, self.entered);
+    }
+
+    // The terms that use x wait.
+    fn wake(&mut self, x: usize) {
+        let mut place = self.uses.get(x);
+        for _ in 0..LONG {
+            if place == 0 {
+                return;
+            }
+            self.enqueue((place - 1) / 4);
+            place = self.next_uses.get(place);
+        }
+    }
+
+    // The numbers of the circle of x get the block, and what uses them waits.
+    fn rename(&mut self, x: usize, block: usize) {
+        let mut y = x;
+        for _ in 0..NUMBERS {
+            self.blocks.put(y, block);
+            self.wake(y);
+            y = self.members.get(y);
+            if y == x {
+                return;
+            }
+        }
+    }
+
+    // Makes the block of x part of that of y.
+    fn absorb(&mut self, x: usize, y: usize) {
+        let from = self.blocks.get(x);
+        let to = self.blocks.get(y);
+        self.sizes
+            .put(to, self.sizes.get(to) + self.sizes.get(from));
+        self.rename(x, to);
+        self.splice(x, y);
+    }
+
+    // The smaller block becomes part of the larger.
+    fn merge(&mut self, x: usize, y: usize) {
+        let size_x = self.sizes.get(self.blocks.get(x));
+        let size_y = self.sizes.get(self.blocks.get(y));
+        if size_x < size_y {
+            self.absorb(x, y);
+        } else {
+            self.absorb(y, x);
+        }
+    }
+
+    // The term t, taken out of the queue, beside the one that was entered with its signature, if there is
+    // one.
+    fn meet(&mut self, pairs: &mut Pairs, t: usize)
+        requires { Small t }
+    {
+        let signature = self.signature(t);
+        let Some(w) = self.seek(signature) else {
+            return self.enter(signature, t);
+        };
+        if self.blocks.get(w) != self.blocks.get(t) {
+            pairs.note(t, w);
+            self.merge(t, w);
+        }
+    }
+
+    fn step(&mut self, pairs: &mut Pairs)
+        requires { 0 < self.old.waiting }
+    {
+        let t = self.queue.get(self.front) % NUMBERS;
+        self.queued[t] = false;
+        self.front = self.front % NUMBERS + 1;
+        self.waiting -= 1;
+        self.meet(pairs, t);
+    }
 }
 
-fn step(
-    cells: &mut [u16; CELLS],
-    pairs: &mut [u32; PAIRS],
-    terms: &[u64; NUMBERS],
-    s: Search,
-) -> Search
-    requires { Within s × (0 < s.waiting) }
-    ensures { Within result }
-{
-    let t = get(&*cells, QUEUE, s.front % NUMBERS) % NUMBERS;
-    put(cells, QUEUED, t, 0);
-    let u = Search {
-        front: s.front % NUMBERS + 1,
-        waiting: s.waiting - 1,
-        entries: s.entries,
-        pairs: s.pairs,
-    };
-    meet(cells, pairs, terms, u, t)
-}
-
-// Writes the pairs, and says how many there are. Which they are, and in which order, is free: whoever
-// follows them tests each. Any number in the array is a pair of two small numbers (`pairs::first`, `second`).
-pub fn plan(
-    blocks: &[u16; NUMBERS],
-    terms: &[u64; NUMBERS],
-    n: usize,
-    pairs: &mut [u32; PAIRS],
-) -> usize
+// Notes the pairs. Which they are, and in which order, is free: whoever follows them tests each.
+pub fn plan(blocks: &Partition, terms: &[u64; NUMBERS], n: usize, pairs: &mut Pairs)
     requires { n ≤ max_terms }
-    ensures { AtMostPairs result }
 {
-    let mut cells = [0; CELLS];
-    alone(&mut cells, n);
-    gather(blocks, &mut cells, n);
-    let start = Search {
-        front: 0,
-        waiting: 0,
-        entries: 0,
-        pairs: 0,
-    };
-    let mut s = begin(&mut cells, terms, n, start);
-    let mut left = STEPS;
-    while 0 < left {
-        if s.waiting == 0 {
-            return s.pairs;
+    let mut search = Search::of(terms);
+    search.alone(n);
+    search.gather(blocks, n);
+    search.begin(n);
+    for _ in 0..STEPS {
+        if search.waiting == 0 {
+            return;
         }
-        s = step(&mut cells, pairs, terms, s);
-        left -= 1;
+        search.step(pairs);
     }
-    s.pairs
 }
