@@ -1,3 +1,4 @@
 pub mod PackingLaws
+pub mod Tags
 pub mod ViewLaws
 pub mod CongruenceLaws

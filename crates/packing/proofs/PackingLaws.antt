@@ -1,6 +1,6 @@
 -- Packing loses nothing, and what a packed number is computes from its code.
 use mathlib.Core.Path.{◌≡◌, refl, sym, ◌∙◌, ap, ap₂}
-use Prim.Native.Nat.{ℕ, zero, suc, ◌+◌, ◌*◌, ◌/◌, ◌%◌, ◌<◌, ◌≤◌}
+use Prim.Native.Nat.{ℕ, ◌+◌, ◌*◌, ◌/◌, ◌%◌, ◌<◌, ◌≤◌}
 use native.Mathlib.Omega.{arith}
 use mathlib.Core.List.{List, [], ◌∷◌}
 use lib.ListN.{get_or, get_or-eq_default}
@@ -10,38 +10,20 @@ use Rattle.tableau.specs.declared.Word.{Word}
 use Rattle.tableau.specs.declared.Relation.{Relation}
 use Rattle.tableau.specs.Basics.{Four, four}
 use Rattle.tableau.specs.Terms.{Term, variable, apply, Literal, literal, written, result, sort_of, sort_index, operator_index, relation_index}
-use Rattle.packing.specs.Packing.{word_code, coded_words, word_at, word_sort, word_bits, pack_fields, pack_term, unpack_fields, unpack_term, Packable, number, name_of, view_apply, view_of, pack_literal, coded_relations, relation_at, unpack_literal, PackableLiteral, literal_view_as, literal_view_of, literal_of, SmallView, SmallLiteral}
+use Rattle.packing.specs.Packing.{word_code, coded_words, word_at, word_sort, word_bits, pack_fields, pack_term, unpack_fields, unpack_term, Packable, number, name_of, view_apply, view_of, pack_literal, coded_relations, relation_at, unpack_literal, PackableLiteral, left_in, right_in, literal_view_as, literal_view_of, literal_of, SmallView, SmallLiteral}
+use Rattle.tableau.specs.declared.TermNumber.{TermNumber}
 use Rattle.packing.specs.declared.TermView.{TermView}
 use Rattle.packing.specs.declared.LiteralView.{LiteralView}
-
--- a number that is none of the first k is at least k
-abbrev Excluded : ℕ → ℕ → Type 0
-Excluded zero n = Unit {0}
-Excluded (suc k) n = Excluded k n × (n ≡ k → ⊥)
-
-pub past : (k n : ℕ) → Excluded k n → k ≤ n
-past zero n h = omega arith
-past (suc k) n h = let l : k ≤ n = past k n h.0 in omega arith
-
--- the view of a number with the code k
-pub view_coded : (p k : ℕ) → p / 8 % 32 ≡ k → view_of (written (word_at k) (unpack_fields p)) ≡ view_of (unpack_term p)
-unfolding unpack_term
-view_coded p k e = ap (λ (i : ℕ). view_of (written (word_at i) (unpack_fields p))) (sym e)
 
 -- a code past the others is that of a class variable
 pub view_coded_last : (p : ℕ) → 16 ≤ p / 8 % 32 → TermView.Variable Sort.Class (name_of (unpack_fields p).a) ≡ view_of (unpack_term p)
 unfolding unpack_term word_at
 view_coded_last p h = ap (λ (w : Word). view_of (written w (unpack_fields p))) (sym (get_or-eq_default coded_words (Word.Variable Sort.Class) h))
 
-pub literal_coded : (p k : ℕ) → p / 1048576 ≡ k
-    → literal_view_as (relation_at k) (number (p / 1024 % 1024)) (number (p % 1024)) ≡ literal_view_of (unpack_literal p)
-unfolding unpack_literal
-literal_coded p k e = ap (λ (i : ℕ). literal_view_as (relation_at i) (number (p / 1024 % 1024)) (number (p % 1024))) (sym e)
-
-pub literal_coded_last : (p : ℕ) → 5 ≤ p / 1048576 → LiteralView.Nl (number (p / 1024 % 1024)) (number (p % 1024)) ≡ literal_view_of (unpack_literal p)
+pub literal_coded_last : (p : ℕ) {m n : TermNumber} → m.0 ≡ left_in (unpack_literal p) → n.0 ≡ right_in (unpack_literal p) → 5 ≤ p / 1048576
+    → LiteralView.Nl m n ≡ literal_view_of (unpack_literal p)
 unfolding unpack_literal relation_at literal_view_as
-literal_coded_last p h =
-    ap (λ (R : Relation). literal_view_as R (number (p / 1024 % 1024)) (number (p % 1024))) (sym (get_or-eq_default coded_relations Relation.Nl h))
+literal_coded_last p em en h = λ i. literal_view_as (sym (get_or-eq_default coded_relations Relation.Nl h) i) (number (em i)) (number (en i))
 
 -- the codes are small, and give the words back
 pub sort_small : (s : Sort) → sort_index s < 5
@@ -52,7 +34,16 @@ sort_small Sort.Heap = omega arith
 sort_small Sort.Field = omega arith
 sort_small Sort.Class = omega arith
 
-operator_small : (o : Operator) → operator_index o < 12
+pub relation_small : (R : Relation) → relation_index R < 6
+unfolding relation_index
+relation_small Relation.In = omega arith
+relation_small Relation.Ni = omega arith
+relation_small Relation.Eq = omega arith
+relation_small Relation.Ne = omega arith
+relation_small Relation.Le = omega arith
+relation_small Relation.Nl = omega arith
+
+pub operator_small : (o : Operator) → operator_index o < 12
 unfolding operator_index
 operator_small Operator.Nul = omega arith
 operator_small Operator.Rea = omega arith
@@ -181,10 +172,6 @@ sort_back Sort.Class = refl
 
 pub sort_coded : (e : Term) (p k : ℕ) → p ≡ pack_term e → p % 8 ≡ k → sort_at k ≡ sort_of e
 sort_coded e p k q h = ap sort_at (sym h ∙ ap (λ (n : ℕ). n % 8) q ∙ pack_sort e) ∙ sort_back (sort_of e)
-
-pub sort_coded_last : (e : Term) (p : ℕ) → p ≡ pack_term e → 4 ≤ p % 8 → Sort.Class ≡ sort_of e
-unfolding sort_at
-sort_coded_last e p q h = sym (get_or-eq_default coded_sorts Sort.Class h) ∙ sort_coded e p (p % 8) q refl
 
 -- WHAT IS SMALL: the arguments of a term that is packed, the sides of a packed literal
 pub packable_small : (e : Term) → Packable e → SmallView (view_of e)

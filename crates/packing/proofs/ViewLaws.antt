@@ -3,9 +3,7 @@ use mathlib.Core.Path.{◌≡◌, refl, ◌∙◌, ap, subst}
 use mathlib.Core.Bool.{Bool, true, false}
 use Prim.Native.Nat.{suc}
 use native.Mathlib.Omega.{arith}
-use denote.Enum.Bare.{sameb}
 use denote.Enum.Declared as Declared
-use Rattle.tableau.specs.contracts.Sort as sort-type
 use Rattle.tableau.specs.declared.Sort.{Sort}
 use Rattle.tableau.specs.declared.Name.{Name}
 use Rattle.tableau.specs.declared.Operator.{Operator}
@@ -73,15 +71,6 @@ not_reference Sort.Region h = refl
 not_reference Sort.Heap h = refl
 not_reference Sort.Field h = refl
 not_reference Sort.Class h = refl
-
--- `==` of sorts, at an `rfv`'s
-pub reference_tag : (s : Sort) → sameb sort-type.the_type s Sort.Reference ≡ same_sort Sort.Reference s
-unfolding sort_index
-reference_tag Sort.Reference = refl
-reference_tag Sort.Region = refl
-reference_tag Sort.Heap = refl
-reference_tag Sort.Field = refl
-reference_tag Sort.Class = refl
 
 -- the term of a view that is a variable
 pub variable_of : (e : Term) (s : Sort) (n : Name) → TermView.Variable s n ≡ view_of e → e ≡ variable s n.0

@@ -1,6 +1,5 @@
 // Literals as numbers.
 ghost use Rattle.std.specs.Prelude.{◌≡◌, ◌<◌};
-ghost use Rattle.tableau.specs.Terms.{relation_index};
 ghost use Rattle.syntax.specs.Syntax.{literal_in};
 ghost use Rattle.packing.specs.Packing.{pack_literal, unpack_literal, code_limit, Small, PackableLiteral, literal_view_of};
 ghost use Rattle.packing.specs.Packing.{relation_of, left_of, right_of, left_in, right_in};
@@ -14,32 +13,20 @@ const SIDE: u32 = 1024;
 
 const RELATION: u32 = 1048576;
 
-fn relation_index(relation: Relation) -> u32
-    ensures { (result ≡ relation_index relation) × (result < 6) }
-{
-    match relation {
-        Relation::In => 0,
-        Relation::Ni => 1,
-        Relation::Eq => 2,
-        Relation::Ne => 3,
-        Relation::Le => 4,
-        Relation::Nl => 5,
-    }
-}
-
+#[tactic(auto, using(crate::proofs::Tags::relation_tag, crate::proofs::PackingLaws::relation_small), unfolding(crate::specs::Packing::pack_literal))]
 pub fn pack(literal: Literal) -> u32
     requires { PackableLiteral (literal_in literal) }
     ensures { (result ≡ pack_literal (literal_in literal)) × (result < code_limit) }
 {
-    let relation = literal.relation;
-    (relation_index(relation) * SIDE + literal.left.0 as u32) * SIDE + literal.right.0 as u32
+    (literal.relation as u32 * SIDE + literal.left.0 as u32) * SIDE + literal.right.0 as u32
 }
 
+#[tactic(auto, using(crate::proofs::PackingLaws::literal_coded_last), unfolding(crate::specs::Packing::unpack_literal, crate::specs::Packing::relation_at, crate::specs::Packing::literal_view_as))]
 pub fn view(packed: u32) -> LiteralView
     ensures { result ≡ literal_view_of (unpack_literal packed) }
 {
-    let m = TermNumber((packed / SIDE % SIDE) as usize);
-    let n = TermNumber((packed % SIDE) as usize);
+    let m = packed_left(packed);
+    let n = packed_right(packed);
     match packed / RELATION {
         0 => LiteralView::In(m, n),
         1 => LiteralView::Ni(m, n),
@@ -51,12 +38,14 @@ pub fn view(packed: u32) -> LiteralView
 }
 
 // The sides of a packed literal.
+#[tactic(auto, unfolding(crate::specs::Packing::unpack_literal))]
 pub fn packed_left(packed: u32) -> TermNumber
     ensures { (result.0 ≡ left_in (unpack_literal packed)) × Small result.0 }
 {
     TermNumber((packed / SIDE % SIDE) as usize)
 }
 
+#[tactic(auto, unfolding(crate::specs::Packing::unpack_literal))]
 pub fn packed_right(packed: u32) -> TermNumber
     ensures { (result.0 ≡ right_in (unpack_literal packed)) × Small result.0 }
 {
@@ -64,41 +53,43 @@ pub fn packed_right(packed: u32) -> TermNumber
 }
 
 // The parts of any literal.
-pub fn relation(p: LiteralView) -> Relation
-    ensures { result ≡ relation_of p }
-{
-    match p {
-        LiteralView::In(_, _) => Relation::In,
-        LiteralView::Ni(_, _) => Relation::Ni,
-        LiteralView::Eq(_, _) => Relation::Eq,
-        LiteralView::Ne(_, _) => Relation::Ne,
-        LiteralView::Le(_, _) => Relation::Le,
-        LiteralView::Nl(_, _) => Relation::Nl,
+impl LiteralView {
+    pub fn relation(self) -> Relation
+        ensures { result ≡ relation_of self }
+    {
+        match self {
+            Self::In(..) => Relation::In,
+            Self::Ni(..) => Relation::Ni,
+            Self::Eq(..) => Relation::Eq,
+            Self::Ne(..) => Relation::Ne,
+            Self::Le(..) => Relation::Le,
+            Self::Nl(..) => Relation::Nl,
+        }
     }
-}
 
-pub fn left(p: LiteralView) -> TermNumber
-    ensures { result.0 ≡ left_of p }
-{
-    match p {
-        LiteralView::In(m, _) => m,
-        LiteralView::Ni(m, _) => m,
-        LiteralView::Eq(m, _) => m,
-        LiteralView::Ne(m, _) => m,
-        LiteralView::Le(m, _) => m,
-        LiteralView::Nl(m, _) => m,
+    pub fn left(self) -> TermNumber
+        ensures { result.0 ≡ left_of self }
+    {
+        match self {
+            Self::In(m, _)
+            | Self::Ni(m, _)
+            | Self::Eq(m, _)
+            | Self::Ne(m, _)
+            | Self::Le(m, _)
+            | Self::Nl(m, _) => m,
+        }
     }
-}
 
-pub fn right(p: LiteralView) -> TermNumber
-    ensures { result.0 ≡ right_of p }
-{
-    match p {
-        LiteralView::In(_, n) => n,
-        LiteralView::Ni(_, n) => n,
-        LiteralView::Eq(_, n) => n,
-        LiteralView::Ne(_, n) => n,
-        LiteralView::Le(_, n) => n,
-        LiteralView::Nl(_, n) => n,
+    pub fn right(self) -> TermNumber
+        ensures { result.0 ≡ right_of self }
+    {
+        match self {
+            Self::In(_, n)
+            | Self::Ni(_, n)
+            | Self::Eq(_, n)
+            | Self::Ne(_, n)
+            | Self::Le(_, n)
+            | Self::Nl(_, n) => n,
+        }
     }
 }

@@ -1,19 +1,19 @@
 // Terms as numbers. Powers of two stand as factors, so that a field is taken out by a shift.
 ghost use Rattle.std.specs.Prelude.{◌≡◌, ◌&&◌, ◌+◌, ◌*◌, ◌<◌, ◌%◌};
 ghost use Rattle.tableau.specs.Basics.{every};
-ghost use Rattle.tableau.specs.Terms.{variable, apply, sort_of, same_sort, sort_index};
+ghost use Rattle.tableau.specs.Terms.{sort_of, same_sort};
 ghost use Rattle.tableau.specs.Terms as specification;
 ghost use Rattle.tableau.specs.Steps as rule;
-ghost use Rattle.tableau.specs.declared.Word.{Word};
 ghost use Rattle.syntax.specs.Syntax.{arguments_in, term_in};
-ghost use Rattle.packing.specs.Packing.{pack_term, unpack_term, word_bits, name_limit, Packable, Packs};
+ghost use Rattle.packing.specs.Packing.{pack_term, unpack_term, word_bits, Packable, Packs};
 ghost use Rattle.packing.specs.Packing.{view_of, takes_arguments, fields_in, with_fields, AllSmall};
 
 use crate::TermView;
 use syntax::{Arguments, Term};
-use tableau::{Name, Operator, Sort, TermNumber};
+use tableau::{Name, Operator, Sort, TermNumber, Word};
 
-// The low bits, with the word and the sort, are below LOW; above them a field is one of FIELD numbers. The fourth field is the lowest.
+// The low bits, with the word and the sort, are below LOW; above them a field is one of FIELD
+// numbers. The fourth field is the lowest.
 const LOW: u64 = 256;
 
 const FIELD: u64 = 1024;
@@ -24,43 +24,33 @@ const SECOND: u64 = 268435456;
 
 const FIRST: u64 = 274877906944;
 
-fn sort_index(sort: Sort) -> u64
-    ensures { (result ≡ sort_index sort) × (result < 5) }
-{
-    match sort {
-        Sort::Reference => 0,
-        Sort::Region => 1,
-        Sort::Heap => 2,
-        Sort::Field => 3,
-        Sort::Class => 4,
-    }
-}
-
-// The low bits of an operation: its word's code and its sort.
-fn operator_bits(operator: Operator) -> u64
-    ensures { (result ≡ word_bits (Word.Operation operator)) × (result < 256) }
+// The sort of an operator's terms.
+#[tactic(auto, unfolding(tableau::specs::Terms::result))]
+fn result_sort(operator: Operator) -> Sort
+    ensures { result ≡ specification.result operator }
 {
     match operator {
-        Operator::Nul => 0,
-        Operator::Rea => 8,
-        Operator::Emp => 17,
-        Operator::All => 25,
-        Operator::Cup => 33,
-        Operator::Cap => 41,
-        Operator::Dif => 49,
-        Operator::Sin => 57,
-        Operator::Img => 65,
-        Operator::Wri => 74,
-        Operator::Typ => 84,
-        Operator::Dty => 92,
+        Operator::Nul | Operator::Rea => Sort::Reference,
+        Operator::Emp
+        | Operator::All
+        | Operator::Cup
+        | Operator::Cap
+        | Operator::Dif
+        | Operator::Sin
+        | Operator::Img => Sort::Region,
+        Operator::Wri => Sort::Heap,
+        Operator::Typ | Operator::Dty => Sort::Class,
     }
 }
 
-fn pack_variable(sort: Sort, name: Name) -> u64
-    requires { name.0 < name_limit }
-    ensures { result ≡ pack_term (variable sort name.0) }
+// The low bits: the code of the word and, below it, the sort. The codes of the operators come first.
+fn low_bits(word: Word) -> u64
+    ensures { (result ≡ word_bits word) × (result < 256) }
 {
-    name.0 as u64 * FIRST + (96 + 9 * sort_index(sort))
+    match word {
+        Word::Variable(sort) => (12 + sort as u64) * 8 + sort as u64,
+        Word::Operation(operator) => operator as u64 * 8 + result_sort(operator) as u64,
+    }
 }
 
 // The packed term with other numbers for its arguments.
@@ -72,23 +62,18 @@ pub fn with_fields(packed: u64, k: Arguments) -> u64
         + packed % LOW
 }
 
-fn pack_operation(operator: Operator, k: Arguments) -> u64
-    requires { Packable (apply operator (arguments_in k)) }
-    ensures { result ≡ pack_term (apply operator (arguments_in k)) }
-{
-    with_fields(operator_bits(operator), k)
-}
-
+#[tactic(auto, unfolding(crate::specs::Packing::pack_term))]
 pub fn pack(term: Term) -> u64
     requires { Packable (term_in term) }
     ensures { result ≡ pack_term (term_in term) }
 {
     match term {
-        Term::Variable(sort, name) => pack_variable(sort, name),
-        Term::Apply(operator, k) => pack_operation(operator, k),
+        Term::Variable(sort, name) => name.0 as u64 * FIRST + low_bits(Word::Variable(sort)),
+        Term::Apply(operator, k) => with_fields(low_bits(Word::Operation(operator)), k),
     }
 }
 
+#[tactic(auto, using(crate::proofs::PackingLaws::view_coded_last), unfolding(crate::specs::Packing::unpack_term, crate::specs::Packing::word_at, crate::specs::Packing::view_apply))]
 pub fn view(packed: u64) -> TermView
     ensures { result ≡ view_of (unpack_term packed) }
 {
@@ -120,6 +105,7 @@ pub fn view(packed: u64) -> TermView
 }
 
 // The sort of a packed term.
+#[tactic(auto, using(crate::proofs::PackingLaws::sort_coded), unfolding(crate::proofs::PackingLaws::sort_at))]
 pub fn sort(packed: u64) -> Sort
     ensures { (e : specification.Term) → packed ≡ pack_term e → result ≡ sort_of e }
 {
@@ -133,10 +119,11 @@ pub fn sort(packed: u64) -> Sort
 }
 
 // Is the packed term of the given sort?
+#[tactic(auto, using(crate::proofs::Tags::sort_tag, crate::proofs::PackingLaws::pack_sort))]
 pub fn has_sort(packed: u64, sort: Sort) -> bool
     ensures { (e : specification.Term) → packed ≡ pack_term e → result ≡ same_sort sort (sort_of e) }
 {
-    sort_index(sort) == packed % 8
+    sort as u64 == packed % 8
 }
 
 // The arguments of a packed term, cut to what a field has room for.
@@ -155,38 +142,26 @@ pub fn fields(packed: u64) -> Arguments
 pub fn takes_terms(packed: u64) -> bool
     ensures { result ≡ takes_arguments packed }
 {
-    let word = packed / 8 % 32;
-    word == 1 || 4 <= word && word <= 11
+    matches!(packed / 8 % 32, 1 | 4..=11)
 }
 
 // Two arguments agree, or are a and b.
 fn agree(a: TermNumber, b: TermNumber, m: TermNumber, n: TermNumber) -> bool
     ensures { result ≡ rule.agree a.0 b.0 m.0 n.0 }
 {
-    m.0 == n.0 || m.0 == a.0 && n.0 == b.0
+    m == n || m == a && n == b
 }
 
 fn all_agree(a: TermNumber, b: TermNumber, k: Arguments, l: Arguments) -> bool
     ensures { result ≡ every (rule.agree a.0 b.0) (arguments_in k) (arguments_in l) }
 {
-    let first = k.a;
-    let second = k.b;
-    let third = k.c;
-    let fourth = k.d;
-    agree(a, b, first, l.a)
-        && (agree(a, b, second, l.b) && (agree(a, b, third, l.c) && agree(a, b, fourth, l.d)))
+    agree(a, b, k.a, l.a) && agree(a, b, k.b, l.b) && agree(a, b, k.c, l.c) && agree(a, b, k.d, l.d)
 }
 
-// What `sub` asks of the packed terms x and y: one word, that has at least one argument, and terms and not a name for them; at each
-// argument they agree, or x has a and y has b.
+// What `sub` asks of the packed terms x and y: one word, that has at least one argument, and terms
+// and not a name for them; at each argument they agree, or x has a and y has b.
 pub fn congruent(a: TermNumber, b: TermNumber, x: u64, y: u64) -> bool
     ensures { (e f : specification.Term) → Packs e x → Packs f y → result ≡ rule.congruent a.0 b.0 e f }
 {
-    if !takes_terms(x) {
-        return false;
-    }
-    if x % LOW != y % LOW {
-        return false;
-    }
-    all_agree(a, b, fields(x), fields(y))
+    takes_terms(x) && x % LOW == y % LOW && all_agree(a, b, fields(x), fields(y))
 }

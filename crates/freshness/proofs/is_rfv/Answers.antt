@@ -3,7 +3,8 @@ use Rattle.std.proofs.Common.{◌≡◌, true, false, sym, ◌∙◌, arith}
 use borrow.Author.Tests.{lt-leb}
 use Rattle.tableau.specs.Terms.{at}
 use Rattle.tableau.proofs.TableGrowth.{at_beyond}
-use Rattle.packing.proofs.ViewLaws.{view_variable, reference_tag}
+use Rattle.packing.proofs.Tags.{reference_tag}
+use Rattle.packing.proofs.ViewLaws.{view_variable}
 use Rattle.freshness.proofs.is_rfv.Goals as goal
 
 pub returns-in-Variable-clause-value : goal.returns-in-Variable-clause-value

@@ -1,28 +1,26 @@
--- What `sub` asks is asked of the packed terms.
+-- What `sub` asks is asked of the packed terms: the first test that fails, or the arguments, decide.
 use mathlib.Core.Path.{sym, ◌∙◌, ap₂}
 use Prim.Native.Nat.{ℕ}
 use Rattle.tableau.specs.Basics.{Four, every}
 use Rattle.tableau.specs.Steps.{agree}
-use borrow.Author.Tests.{eq-eqb, ne_eqb}
 use Rattle.packing.proofs.CongruenceLaws.{congruent_packed}
 use Rattle.packing.proofs.term_codes.congruent.Goals as goal
+use Rattle.packing.proofs.term_codes.congruent.Goals.{then-takes_terms, else-takes_terms}
 
--- the word of x takes no terms
-pub returns-then-not-takes_terms : goal.returns-then-not-takes_terms
-returns-then-not-takes_terms c = λ e f h k. sym (congruent_packed _ _ e f h k ∙ rw (sym c.takes_terms.ensures ∙ c.if-not-takes_terms.true))
-
--- x and y have two words
 pub returns-then-x-y : goal.returns-then-x-y
-returns-then-x-y c =
-    λ e f h k.
-    sym (congruent_packed _ _ e f h k ∙ rw (sym c.takes_terms.ensures ∙ c.if-not-takes_terms.false, ne_eqb _ _ c.if-x-y.true))
-
--- the arguments decide
-pub returns : goal.returns
-returns c =
-    λ e f h k.
+returns-then-x-y c e f h k =
     let a = c.args in
-    let takes = sym c.takes_terms.ensures ∙ c.if-not-takes_terms.false in
-    sym (congruent_packed _ _ e f h k
-    ∙ rw (takes, eq-eqb _ _ c.if-x-y.false)
-    (sym (c.all_agree.ensures ∙ ap₂ (λ (m n : Four ℕ). every (agree a.a.0 a.b.0) m n) c.fields.ensures c.fields-2.ensures)))
+    elim c.if-takes_terms.branch [
+      | then-takes_terms w ↦ sym (congruent_packed _ _ e f h k
+          ∙ rw (sym c.takes_terms.ensures ∙ w.if-takes_terms.true, sym w.value-is ∙ c.if-x-y.true)
+          (sym (c.all_agree.ensures ∙ ap₂ (λ (m n : Four ℕ). every (agree a.a.0 a.b.0) m n) c.fields.ensures c.fields-then-x-y.ensures)))
+      | else-takes_terms w ↦ cc
+    ]
+
+pub returns-else-x-y : goal.returns-else-x-y
+returns-else-x-y c e f h k = elim c.if-takes_terms.branch [
+  | then-takes_terms w ↦ sym (congruent_packed _ _ e f h k
+      ∙ rw (sym c.takes_terms.ensures ∙ w.if-takes_terms.true, sym w.value-is ∙ c.if-x-y.false) (sym c.if-x-y.false))
+  | else-takes_terms w ↦ sym (congruent_packed _ _ e f h k
+      ∙ rw (sym c.takes_terms.ensures ∙ w.if-takes_terms.false) (sym c.if-x-y.false))
+]

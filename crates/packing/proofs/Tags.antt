@@ -1,0 +1,52 @@
+-- An enum without payload is cast to the number that the specification gives it.
+use mathlib.Core.Path.{◌≡◌, refl}
+use denote.Enum.Bare.{sameb}
+use denote.Enum.Declared.{tag_of}
+use Rattle.tableau.specs.declared.Sort.{Sort}
+use Rattle.tableau.specs.declared.Operator.{Operator}
+use Rattle.tableau.specs.declared.Relation.{Relation}
+use Rattle.tableau.specs.contracts.Sort as sort-type
+use Rattle.tableau.specs.contracts.Operator as operator-type
+use Rattle.tableau.specs.contracts.Relation as relation-type
+use Rattle.tableau.specs.Terms.{sort_index, operator_index, relation_index, same_sort}
+
+pub sort_tag : (s : Sort) → tag_of sort-type.the_type s ≡ sort_index s
+unfolding sort_index
+sort_tag Sort.Reference = refl
+sort_tag Sort.Region = refl
+sort_tag Sort.Heap = refl
+sort_tag Sort.Field = refl
+sort_tag Sort.Class = refl
+
+pub operator_tag : (o : Operator) → tag_of operator-type.the_type o ≡ operator_index o
+unfolding operator_index
+operator_tag Operator.Nul = refl
+operator_tag Operator.Rea = refl
+operator_tag Operator.Emp = refl
+operator_tag Operator.All = refl
+operator_tag Operator.Cup = refl
+operator_tag Operator.Cap = refl
+operator_tag Operator.Dif = refl
+operator_tag Operator.Sin = refl
+operator_tag Operator.Img = refl
+operator_tag Operator.Wri = refl
+operator_tag Operator.Typ = refl
+operator_tag Operator.Dty = refl
+
+pub relation_tag : (R : Relation) → tag_of relation-type.the_type R ≡ relation_index R
+unfolding relation_index
+relation_tag Relation.In = refl
+relation_tag Relation.Ni = refl
+relation_tag Relation.Eq = refl
+relation_tag Relation.Ne = refl
+relation_tag Relation.Le = refl
+relation_tag Relation.Nl = refl
+
+-- `==` of sorts, at an `rfv`'s
+pub reference_tag : (s : Sort) → sameb sort-type.the_type s Sort.Reference ≡ same_sort Sort.Reference s
+unfolding sort_index
+reference_tag Sort.Reference = refl
+reference_tag Sort.Region = refl
+reference_tag Sort.Heap = refl
+reference_tag Sort.Field = refl
+reference_tag Sort.Class = refl
