@@ -1,101 +1,113 @@
--- Laws of the word tables: the index of a word in a byte string, and a table looked up by it.
-use mathlib.Core.Bool.{Bool, true, false, cond}
-use mathlib.Core.List.{List, [], ◌∷◌}
-use Rattle.std.specs.Prelude.{Option, None, Some}
-use Rattle.std.proofs.lemmas.Option.{same_Some}
-use mathlib.Core.Path.{◌≡◌, refl, ap}
-use Prim.Native.Nat.{ℕ, suc, ◌+◌, ◌≤◌, ◌<◌}
-use native.Mathlib.Numerals.{add-one, add-two, add-four}
+-- Laws of the word tables: the words of a byte string, and a table of rows looked up by them.
+use mathlib.Core.Bool.{Bool, true, false, cond, not}
+use mathlib.Core.List.{List, [], ◌∷◌, map}
+use Rattle.std.specs.Prelude.{Option, None, Some, option_map, option_and_then, slice_get, position, nat_lt}
+use Rattle.std.specs.List.{position_or_len}
+use Rattle.std.specs.Simd.{first_chunks}
+use Rattle.std.proofs.lemmas.Bool.Decides.{nat_tests}
+use mathlib.Core.Path.{◌≡◌, refl, sym, ap, subst, ◌∙◌}
+use Prim.Native.Nat.{ℕ, zero, suc, ◌+◌, ◌*◌, ◌/◌, ◌≤◌, ◌<◌}
 use native.Mathlib.Omega.{arith}
-use lib.Dec.{eqb}
-use lib.ListN.{length, get_or, drop, length-drop}
-use lib.Seq.{drop-cons}
-use borrow.Author.Tests.{eq-eqb, ne_eqb}
+use lib.Dec.{eqb, ltb}
+use lib.ListN.{length, take}
+use Rattle.std.proofs.lemmas.Option.{none-some, same_Some}
+use Rattle.tableau.specs.declared.Word.{Word}
+use Rattle.tableau.specs.declared.Rule.{Rule}
 use Rattle.tableau.specs.Basics.{bytes, Named}
 use Rattle.lines.specs.Lines.{pack_word}
-use Rattle.words.specs.Words.{lookup_packed, words_of, index_of}
+use Rattle.words.specs.declared.Row.{Row}
+use Rattle.words.specs.Words.{lookup_packed, word_row, rule_row, WordFits, RuleFits, words_of, row_at}
 
--- The words of a byte string from the byte i on.
-module _ (w : ℕ) (l : List ℕ) (i : ℕ) where
-  abbrev first : ℕ
-  first = pack_word (get_or l i 0 ∷ get_or l (i + 1) 0 ∷ get_or l (i + 2) 0 ∷ [])
+-- THE WORDS OF A BYTE STRING, by its chunks of four bytes.
+chunk_words : (k : ℕ) (l : List ℕ) → k * 4 ≤ length l → length l < k * 4 + 4 → map (λ t. pack_word (take 3 t)) (first_chunks 4 k l) ≡ words_of l
+unfolding words_of
+chunk_words zero [] h g = refl
+chunk_words zero (a ∷ []) h g = refl
+chunk_words zero (a ∷ b ∷ []) h g = refl
+chunk_words zero (a ∷ b ∷ c ∷ []) h g = refl
+chunk_words zero (a ∷ b ∷ c ∷ s ∷ l) h g = absurd (omega arith)
+chunk_words (suc k) [] h g = absurd (omega arith)
+chunk_words (suc k) (a ∷ []) h g = absurd (omega arith)
+chunk_words (suc k) (a ∷ b ∷ []) h g = absurd (omega arith)
+chunk_words (suc k) (a ∷ b ∷ c ∷ []) h g = absurd (omega arith)
+chunk_words (suc k) (a ∷ b ∷ c ∷ s ∷ l) h g = rw (chunk_words k l (omega arith) (omega arith))
 
-  next_word : i + 3 < length l → words_of (drop i l) ≡ first ∷ words_of (drop (i + 4) l)
-  unfolding words_of
-  next_word h =
-      rw (
-        add-one,
-        add-two,
-        add-four,
-        drop-cons l i 0 (omega arith),
-        drop-cons l (suc i) 0 (omega arith),
-        drop-cons l (suc (suc i)) 0 (omega arith),
-        drop-cons l (suc (suc (suc i))) 0 (omega arith),
-      )
+-- THE ROW BESIDE A WORD, by its place.
+position_next : {X : Type 0} (p : X → Bool) (x : X) (xs : List X) → position p (x ∷ xs) ≡ cond (p x) (Some 0) (option_map (λ i. suc i) (position p xs))
+position_next {X} p x xs = go (p x) (position_or_len p xs) (length xs)
+  where
+    go : (b : Bool) (i n : ℕ) → cond (nat_lt (cond (not b) (1 + i) 0) (suc n)) (Some (cond (not b) (1 + i) 0)) None
+        ≡ cond b (Some 0) (option_map (λ i. suc i) (cond (nat_lt i n) (Some i) None))
+    go true i n = grind (arith, nat_tests)
+    go false i n = later (nat_lt i n) refl
+      where
+        later : (c : Bool) → nat_lt i n ≡ c → cond (nat_lt (1 + i) (suc n)) (Some (1 + i)) None ≡ option_map (λ i. suc i) (cond c (Some i) None)
+        later true e = grind (arith, nat_tests)
+        later false e = grind (arith, nat_tests)
 
-  pub index_here : i + 3 < length l → w ≡ first → index_of w (words_of (drop i l)) ≡ 0
-  unfolding index_of
-  index_here h e = rw (next_word h, eq-eqb w first e)
+row_by_place : {T : Type 0} (f : List ℕ → ℕ) (w : ℕ) (ts : List (List ℕ)) (rows : List T)
+    → row_at w (map f ts) rows ≡ option_and_then (slice_get rows) (position (λ t. eqb w (f t)) ts)
+unfolding row_at
+row_by_place f w [] rows = refl
+row_by_place {T} f w (t ∷ ts) [] = nowhere (position (λ t. eqb w (f t)) (t ∷ ts))
+  where
+    nowhere : (m : Option ℕ) → None ≡ option_and_then (slice_get {X = T} []) m
+    nowhere None = refl
+    nowhere (Some i) = refl
+row_by_place {T} f w (t ∷ ts) (r ∷ rows) =
+    rw (position_next (λ t. eqb w (f t)) t ts, row_by_place f w ts rows) (pick (eqb w (f t)) (position (λ t. eqb w (f t)) ts))
+  where
+    pick : (here : Bool) (m : Option ℕ) → cond here (Some r) (option_and_then (slice_get rows) m)
+        ≡ option_and_then (slice_get (r ∷ rows)) (cond here (Some 0) (option_map (λ i. suc i) m))
+    pick true m = refl
+    pick false None = refl
+    pick false (Some i) = refl
 
-  pub index_later : i + 3 < length l → (w ≡ first → ⊥) → index_of w (words_of (drop i l)) ≡ suc (index_of w (words_of (drop (i + 4) l)))
-  unfolding index_of
-  index_later h e = rw (next_word h, ne_eqb w first e)
-
-  pub index_end : length l ≤ i + 3 → index_of w (words_of (drop i l)) ≡ 0
-  unfolding words_of index_of
-  index_end h = short (drop i l) (rw (length-drop i l) (omega arith))
-    where
-      short : (m : List ℕ) → length m ≤ 3 → index_of w (words_of m) ≡ 0
-      short [] k = refl
-      short (a ∷ []) k = refl
-      short (a ∷ b ∷ []) k = refl
-      short (a ∷ b ∷ c ∷ []) k = refl
-      short (a ∷ b ∷ c ∷ d ∷ m) k = absurd (omega arith)
+pub row_there : {T : Type 0} (w : ℕ) (l : List ℕ) (rows : List T) (place : Option ℕ)
+    → place ≡ position (λ t. eqb w (pack_word (take 3 t))) (first_chunks 4 (length l / 4) l) → option_and_then (slice_get rows) place ≡ row_at w (words_of l) rows
+row_there {T} w l rows place e =
+    ap (option_and_then (slice_get rows)) e
+    ∙ sym (row_by_place (λ t. pack_word (take 3 t)) w (first_chunks 4 (length l / 4) l) rows)
+    ∙ ap (λ (ks : List ℕ). row_at w ks rows) (chunk_words (length l / 4) l (omega arith) (omega arith))
 
 -- the texts of a table, packed
 unfoldable pub packed_texts : {A : Type 0} → List (Named A) → List ℕ
 packed_texts [] = []
 packed_texts (n ∷ ns) = pack_word (bytes n.text) ∷ packed_texts ns
 
--- the rows of a table: what row makes of each entry
-unfoldable pub rows_of : {A B : Type 0} → (A → B) → List (Named A) → List B
-rows_of row [] = []
-rows_of row (n ∷ ns) = row n.is ∷ rows_of row ns
-
--- WHAT THE INDEX OF A WORD SAYS OF IT. The row there is that of the entry that is looked up: what holds of every entry and its row holds here.
-module _ {A B : Type 0} (row : A → B) (P : Option A → B → Type 0) (holds : (x : A) → P (Some x) (row x)) (d : B) where
-  at_index : (t : List (Named A)) (w : ℕ) → index_of w (packed_texts t) < length (rows_of row t)
-      → P (lookup_packed t w) (get_or (rows_of row t) (index_of w (packed_texts t)) d)
-  unfolding lookup_packed index_of packed_texts rows_of
-  at_index [] w h = absurd (omega arith)
-  at_index (n ∷ ns) w h = pick (eqb w (pack_word (bytes n.text))) (index_of w (packed_texts ns)) (lookup_packed ns w) (at_index ns w) h
-    where
-      pick : (here : Bool) (i : ℕ) (x : Option A) → (i < length (rows_of row ns) → P x (get_or (rows_of row ns) i d))
-          → cond here 0 (suc i) < length (rows_of row (n ∷ ns))
-          → P (cond here (Some n.is) x) (get_or (rows_of row (n ∷ ns)) (cond here 0 (suc i)) d)
-      pick true i x k h = holds n.is
-      pick false i x k h = k (omega arith)
-
-  pub found : (t : List (Named A)) (w i : ℕ) → i ≡ index_of w (packed_texts t) → i < length (rows_of row t)
-      → P (lookup_packed t w) (get_or (rows_of row t) i d)
-  found t w i e h = rw e (at_index t w (rw e at h))
-
--- So it is with two tables in one order: what the entries stand for, and a number of each.
-pub found_rows : {A : Type 0} (number : A → ℕ) (d : A) (t : List (Named A)) (w i : ℕ) → i ≡ index_of w (packed_texts t) → i < length (rows_of (λ x. x) t)
-    → i < length (rows_of number t)
-    → (lookup_packed t w ≡ Some (get_or (rows_of (λ x. x) t) i d)) × (get_or (rows_of number t) i 0 ≡ number (get_or (rows_of (λ x. x) t) i d))
-found_rows {A = A} number d t w i e h h' =
-    let here = found (λ x. x) (λ o x. o ≡ Some x) (λ x. refl) d t w i e h in
-    (here, found number (λ o n. (x : A) → o ≡ Some x → n ≡ number x) (λ x y q. ap number (same_Some x y q)) 0 t w i e h' _ here)
-
--- Past the rows there is no such entry.
-pub not_found : {A : Type 0} (t : List (Named A)) (w i : ℕ) → i ≡ index_of w (packed_texts t) → length t ≤ i → lookup_packed t w ≡ None
-unfolding lookup_packed index_of packed_texts
-not_found [] w i e h = refl
-not_found {A = A} (n ∷ ns) w i e h =
-    pick (eqb w (pack_word (bytes n.text))) (index_of w (packed_texts ns)) (lookup_packed ns w) (not_found ns w _ refl) (rw e at h)
+-- A TABLE OF ROWS with one for each entry: the row of the entry that is looked up.
+pub found_row : {A B : Type 0} (row : A → B) (t : List (Named A)) (w : ℕ) → row_at w (packed_texts t) (map (λ n. row n.is) t) ≡ option_map row (lookup_packed t w)
+unfolding lookup_packed row_at packed_texts
+found_row row [] w = refl
+found_row {A} {B} row (n ∷ ns) w = pick (eqb w (pack_word (bytes n.text))) (lookup_packed ns w) (found_row row ns w)
   where
-    pick : (here : Bool) (i : ℕ) (x : Option A) → (length ns ≤ i → x ≡ None) → length (n ∷ ns) ≤ cond here 0 (suc i)
-        → cond here (Some n.is) x ≡ None
-    pick true i x k h = absurd (omega arith)
-    pick false i x k h = k (omega arith)
+    rest : Option B
+    rest = row_at w (packed_texts ns) (map (λ n. row n.is) ns)
+
+    pick : (here : Bool) (x : Option A) → rest ≡ option_map row x → cond here (Some (row n.is)) rest ≡ option_map row (cond here (Some n.is) x)
+    pick true x e = refl
+    pick false x e = e
+
+-- in a table of what the entries stand for
+pub found : {A : Type 0} (t : List (Named A)) (w : ℕ) → row_at w (packed_texts t) (map (λ n. n.is) t) ≡ lookup_packed t w
+found t w = found_row (λ x. x) t w ∙ itself (lookup_packed t w)
+  where
+    itself : {A : Type 0} (m : Option A) → option_map (λ x. x) m ≡ m
+    itself None = refl
+    itself (Some x) = refl
+
+-- WHAT IS KNOWN OF A WORD from its row, and from none.
+module _ {A B : Type 0} (row : A → B) where
+  pub no_row : (m : Option A) → None ≡ option_map row m → m ≡ None
+  no_row None e = refl
+  no_row (Some x) e = absurd (none-some (row x) e)
+
+  row_found : (P : Option A → B → Type 0) → ((x : A) → P (Some x) (row x)) → (m : Option A) (r : B) → Some r ≡ option_map row m → P m r
+  row_found P h None r e = absurd (none-some r (sym e))
+  row_found P h (Some x) r e = subst (P (Some x)) (sym (same_Some r (row x) e)) (h x)
+
+pub known_word : (m : Option Word) (r : Row Word) → Some r ≡ option_map word_row m → (m ≡ Some r.word) × WordFits r
+known_word = row_found word_row (λ m r. (m ≡ Some r.word) × WordFits r) (λ x. (refl, refl))
+
+pub known_rule : (m : Option Rule) (r : Row Rule) → Some r ≡ option_map rule_row m → (m ≡ Some r.word) × RuleFits r
+known_rule = row_found rule_row (λ m r. (m ≡ Some r.word) × RuleFits r) (λ x. (refl, refl))

@@ -1,118 +1,65 @@
-// The letters of a checker file, and the words of T, A, C and S lines: what each stands for, and the fields that it uses. A letter's words stand in one fixed byte string, in
-// the order of its table.
+// The letters of a checker file, and the words of T, A, C and S lines: what each stands for, and the
+// fields that it uses. A letter's words stand in one fixed byte string, in the order of its table.
 #![tactic(auto)]
 
-ghost use Rattle.std.specs.Prelude.{[], ◌∷◌, ◌≡◌};
+ghost use Rattle.std.specs.Prelude.{[], ◌∷◌, ◌≡◌, option_map, position, take, ◌==◌};
+ghost use Rattle.tableau.specs.Basics.{lookup};
+ghost use Rattle.tableau.specs.File.{letters};
+ghost use Rattle.tableau.specs.Words.{words, relations, rule_names};
 ghost use Rattle.lines.specs.Lines.{pack_word};
-ghost use Rattle.words.specs.Words.{words_of, index_of, LetterKnown, WordKnown, RelationKnown, RuleKnown};
+ghost use Rattle.words.specs.Words.{lookup_packed, word_row, rule_row, words_of, row_at};
 
 use syntax::Mask;
 use tableau::{Letter, Operator, Relation, Rule, Sort, Word};
 
 // What a word stands for, and the fields that it uses.
 #[derive(Clone, Copy)]
-pub struct WordRow {
-    pub word: Word,
+pub struct Row<W> {
+    pub word: W,
     pub used: Mask,
 }
 
-#[derive(Clone, Copy)]
-pub struct RuleRow {
-    pub rule: Rule,
-    pub used: Mask,
-}
-
-#[derive(Clone, Copy)]
-pub enum LetterFound {
-    Known(Letter),
-    Unknown,
-}
-
-#[derive(Clone, Copy)]
-pub enum WordFound {
-    Known(WordRow),
-    Unknown,
-}
-
-#[derive(Clone, Copy)]
-pub enum RelationFound {
-    Known(Relation),
-    Unknown,
-}
-
-#[derive(Clone, Copy)]
-pub enum RuleFound {
-    Known(RuleRow),
-    Unknown,
-}
-
-pub fn letter_of(letter: u8) -> LetterFound
-    ensures { LetterKnown letter result }
+#[tactic(auto, using(std::proofs::lemmas::Bool::Decides::nat_tests), unfolding(tableau::specs::Basics::lookup, tableau::specs::Basics::same_bytes, tableau::specs::Basics::bytes, tableau::specs::File::letters))]
+pub fn letter_of(letter: u8) -> Option<Letter>
+    ensures { result ≡ lookup letters (letter ∷ []) }
 {
-    if letter == b'T' {
-        return LetterFound::Known(Letter::T);
+    match letter {
+        b'T' => Some(Letter::T),
+        b'A' => Some(Letter::A),
+        b'C' => Some(Letter::C),
+        b'S' => Some(Letter::S),
+        _ => None,
     }
-    if letter == b'A' {
-        return LetterFound::Known(Letter::A);
-    }
-    if letter == b'C' {
-        return LetterFound::Known(Letter::C);
-    }
-    if letter == b'S' {
-        return LetterFound::Known(Letter::S);
-    }
-    LetterFound::Unknown
 }
 
-// Each function below takes its tables before it searches: the compiler then keeps them as constants, but for WORDS, whose variants have a
-// payload. Taken behind the search, a table would be written to the stack for each line.
+// A table of rows, one a line.
+macro_rules! rows {
+    ($($word:expr => $used:expr,)*) => {
+        [$(Row { word: $word, used: Mask($used) },)*]
+    };
+}
 
-const WORD_COUNT: usize = 17;
-
-const WORDS: [Word; WORD_COUNT] = [
-    Word::Operation(Operator::Nul),
-    Word::Variable(Sort::Reference),
-    Word::Operation(Operator::Rea),
-    Word::Operation(Operator::Emp),
-    Word::Operation(Operator::All),
-    Word::Variable(Sort::Region),
-    Word::Operation(Operator::Cup),
-    Word::Operation(Operator::Cap),
-    Word::Operation(Operator::Dif),
-    Word::Operation(Operator::Sin),
-    Word::Operation(Operator::Img),
-    Word::Variable(Sort::Heap),
-    Word::Operation(Operator::Wri),
-    Word::Variable(Sort::Field),
-    Word::Variable(Sort::Class),
-    Word::Operation(Operator::Typ),
-    Word::Operation(Operator::Dty),
+static WORDS: [Row<Word>; 17] = rows![
+    Word::Operation(Operator::Nul) => 0,
+    Word::Variable(Sort::Reference) => Mask::P,
+    Word::Operation(Operator::Rea) => Mask::P | Mask::Q | Mask::T,
+    Word::Operation(Operator::Emp) => 0,
+    Word::Operation(Operator::All) => 0,
+    Word::Variable(Sort::Region) => Mask::P,
+    Word::Operation(Operator::Cup) => Mask::P | Mask::Q,
+    Word::Operation(Operator::Cap) => Mask::P | Mask::Q,
+    Word::Operation(Operator::Dif) => Mask::P | Mask::Q,
+    Word::Operation(Operator::Sin) => Mask::P,
+    Word::Operation(Operator::Img) => Mask::P | Mask::Q | Mask::T,
+    Word::Variable(Sort::Heap) => Mask::P,
+    Word::Operation(Operator::Wri) => Mask::P | Mask::Q | Mask::T | Mask::W,
+    Word::Variable(Sort::Field) => Mask::P,
+    Word::Variable(Sort::Class) => Mask::P,
+    Word::Operation(Operator::Typ) => Mask::P,
+    Word::Operation(Operator::Dty) => Mask::P,
 ];
 
-// The fields that each word uses, in the same order.
-const WORD_MASKS: [u8; WORD_COUNT] = [
-    0, // nul
-    Mask::P, // rfv
-    Mask::P | Mask::Q | Mask::T, // rea
-    0, // emp
-    0, // all
-    Mask::P, // rgv
-    Mask::P | Mask::Q, // cup
-    Mask::P | Mask::Q, // cap
-    Mask::P | Mask::Q, // dif
-    Mask::P, // sin
-    Mask::P | Mask::Q | Mask::T, // img
-    Mask::P, // arv
-    Mask::P | Mask::Q | Mask::T | Mask::W, // wri
-    Mask::P, // fnv
-    Mask::P, // clv
-    Mask::P, // typ
-    Mask::P, // dty
-];
-
-const RELATION_COUNT: usize = 6;
-
-const RELATIONS: [Relation; RELATION_COUNT] = [
+static RELATIONS: [Relation; 6] = [
     Relation::In,
     Relation::Ni,
     Relation::Eq,
@@ -121,149 +68,91 @@ const RELATIONS: [Relation; RELATION_COUNT] = [
     Relation::Nl,
 ];
 
-const RULE_COUNT: usize = 32;
-
-const RULES: [Rule; RULE_COUNT] = [
-    Rule::Eqr,
-    Rule::Eql,
-    Rule::Ext,
-    Rule::Cpe,
-    Rule::Cpi,
-    Rule::Cue,
-    Rule::Cui,
-    Rule::Dfe,
-    Rule::Dfi,
-    Rule::Sge,
-    Rule::Sgi,
-    Rule::Cut,
-    Rule::All,
-    Rule::Nul,
-    Rule::Sep,
-    Rule::Img,
-    Rule::Wit,
-    Rule::Ref,
-    Rule::Sym,
-    Rule::Trn,
-    Rule::Sub,
-    Rule::Rep,
-    Rule::Ler,
-    Rule::Let,
-    Rule::Lea,
-    Rule::Rdh,
-    Rule::Rdm,
-    Rule::Cls,
-    Rule::Emp,
-    Rule::Bck,
-    Rule::Cla,
-    Rule::Fin,
-];
-
 // "Which fields each rule uses is one fixed table of [thirty-two] rows."
-const RULE_MASKS: [u8; RULE_COUNT] = [
-    Mask::P | Mask::Q, // eqr
-    Mask::P | Mask::Q, // eql
-    Mask::P | Mask::W, // ext
-    Mask::P, // cpe
-    Mask::P | Mask::Q | Mask::T, // cpi
-    Mask::P, // cue
-    Mask::P | Mask::T, // cui
-    Mask::P, // dfe
-    Mask::P | Mask::Q | Mask::T, // dfi
-    Mask::P, // sge
-    Mask::T, // sgi
-    Mask::T | Mask::W, // cut
-    Mask::P, // all
-    Mask::P, // nul
-    Mask::P | Mask::Q, // sep
-    Mask::P | Mask::T, // img
-    Mask::P | Mask::W, // wit
-    Mask::T, // ref
-    Mask::P, // sym
-    Mask::P | Mask::Q, // trn
-    Mask::P | Mask::T | Mask::W, // sub
-    Mask::P | Mask::Q | Mask::T, // rep
-    Mask::T, // ler
-    Mask::P | Mask::Q, // let
-    Mask::P | Mask::Q, // lea
-    Mask::T, // rdh
-    Mask::T, // rdm
-    Mask::P | Mask::Q, // cls
-    Mask::P, // emp
-    0, // bck
-    Mask::T, // cla
-    Mask::P, // fin
+static RULES: [Row<Rule>; 32] = rows![
+    Rule::Eqr => Mask::P | Mask::Q,
+    Rule::Eql => Mask::P | Mask::Q,
+    Rule::Ext => Mask::P | Mask::W,
+    Rule::Cpe => Mask::P,
+    Rule::Cpi => Mask::P | Mask::Q | Mask::T,
+    Rule::Cue => Mask::P,
+    Rule::Cui => Mask::P | Mask::T,
+    Rule::Dfe => Mask::P,
+    Rule::Dfi => Mask::P | Mask::Q | Mask::T,
+    Rule::Sge => Mask::P,
+    Rule::Sgi => Mask::T,
+    Rule::Cut => Mask::T | Mask::W,
+    Rule::All => Mask::P,
+    Rule::Nul => Mask::P,
+    Rule::Sep => Mask::P | Mask::Q,
+    Rule::Img => Mask::P | Mask::T,
+    Rule::Wit => Mask::P | Mask::W,
+    Rule::Ref => Mask::T,
+    Rule::Sym => Mask::P,
+    Rule::Trn => Mask::P | Mask::Q,
+    Rule::Sub => Mask::P | Mask::T | Mask::W,
+    Rule::Rep => Mask::P | Mask::Q | Mask::T,
+    Rule::Ler => Mask::T,
+    Rule::Let => Mask::P | Mask::Q,
+    Rule::Lea => Mask::P | Mask::Q,
+    Rule::Rdh => Mask::T,
+    Rule::Rdm => Mask::T,
+    Rule::Cls => Mask::P | Mask::Q,
+    Rule::Emp => Mask::P,
+    Rule::Bck => 0,
+    Rule::Cla => Mask::T,
+    Rule::Fin => Mask::P,
 ];
 
 fn pack(a: u8, b: u8, c: u8) -> usize
     ensures { result ≡ pack_word (a ∷ b ∷ c ∷ []) }
 {
-    lines::wide(a) + 256 * lines::wide(b) + 65536 * lines::wide(c)
+    usize::from(a) + 256 * usize::from(b) + 65536 * usize::from(c)
 }
 
-// The index of a packed word in a byte string of words: three bytes each, the third 0 in a word of two letters, and a space.
-pub fn search(word: usize, words: &[u8]) -> usize
-    ensures { result ≡ index_of word (words_of words.now) }
+// The place of a packed word among texts of four bytes: its own, and one behind.
+fn place_of(word: usize, texts: &[[u8; 4]]) -> Option<usize>
+    ensures { result ≡ position (λ t. word == pack_word (take 3 t)) texts.now }
 {
-    let mut n = 0;
-    let mut i = 0;
-    while i + 3 < words.len() {
-        if word == pack(words[i], words[i + 1], words[i + 2]) {
-            return n;
-        }
-        n += 1;
-        i += 4;
-    }
-    n
+    texts
+        .iter()
+        .position(|[a, b, c, _]| word == pack(*a, *b, *c))
+}
+
+// The row of a packed word, by its place in a byte string of words: three bytes each, the third 0 in
+// a word of two letters, and a space.
+pub fn row_of<T: Copy, const N: usize>(word: usize, words: &[u8], rows: &[T; N]) -> Option<T>
+    ensures { result ≡ row_at word (words_of words.now) rows.now }
+{
+    let (texts, _) = words.as_chunks::<4>();
+    rows.get(place_of(word, texts)?).copied()
 }
 
 // A word of a T line.
-pub fn word_of(word: usize) -> WordFound
-    ensures { WordKnown word result }
+pub fn word_of(word: usize) -> Option<Row<Word>>
+    ensures { result ≡ option_map word_row (lookup_packed words word) }
 {
-    let words = WORDS;
-    let masks = WORD_MASKS;
-    let index = search(
+    row_of(
         word,
         b"nul rfv rea emp all rgv cup cap dif sin img arv wri fnv clv typ dty ",
-    );
-    if index < WORD_COUNT {
-        let known = words[index];
-        return WordFound::Known(WordRow {
-            word: known,
-            used: Mask(masks[index]),
-        });
-    }
-    WordFound::Unknown
+        &WORDS,
+    )
 }
 
 // A word of an A or C line.
-pub fn relation_of(word: usize) -> RelationFound
-    ensures { RelationKnown word result }
+pub fn relation_of(word: usize) -> Option<Relation>
+    ensures { result ≡ lookup_packed relations word }
 {
-    let relations = RELATIONS;
-    let index = search(word, b"in\0 ni\0 eq\0 ne\0 le\0 nl\0 ");
-    if index < RELATION_COUNT {
-        return RelationFound::Known(relations[index]);
-    }
-    RelationFound::Unknown
+    row_of(word, b"in\0 ni\0 eq\0 ne\0 le\0 nl\0 ", &RELATIONS)
 }
 
 // A word of an S line.
-pub fn rule_of(word: usize) -> RuleFound
-    ensures { RuleKnown word result }
+pub fn rule_of(word: usize) -> Option<Row<Rule>>
+    ensures { result ≡ option_map rule_row (lookup_packed rule_names word) }
 {
-    let rules = RULES;
-    let masks = RULE_MASKS;
-    let index = search(
+    row_of(
         word,
         b"eqr eql ext cpe cpi cue cui dfe dfi sge sgi cut all nul sep img wit ref sym trn sub rep ler let lea rdh rdm cls emp bck cla fin ",
-    );
-    if index < RULE_COUNT {
-        let rule = rules[index];
-        return RuleFound::Known(RuleRow {
-            rule: rule,
-            used: Mask(masks[index]),
-        });
-    }
-    RuleFound::Unknown
+        &RULES,
+    )
 }
