@@ -1,23 +1,21 @@
 -- Laws of the branch.
-use Prim.Native.Nat.{ℕ, zero, suc, ◌+◌, ◌-◌, ◌≤◌, ◌<◌}
-use mathlib.Core.Path.{◌≡◌, refl, sym, ap, ◌∙◌}
+use Prim.Native.Nat.{ℕ, zero, suc, ◌-◌, ◌≤◌, ◌<◌}
+use mathlib.Core.Path.{◌≡◌, refl, sym}
 use mathlib.Core.Bool.{true, ◌&&◌}
-use mathlib.Core.List.{List, [], ◌∷◌, ◌++◌, map, append-nil, append_assoc}
+use mathlib.Core.List.{List, [], ◌∷◌, map}
 use Rattle.std.specs.Prelude.{Some}
-use native.Mathlib.Numerals.{add-one}
 use native.Mathlib.Omega.{arith}
 use borrow.Author.Tests.{leb-true}
 use lib.Dec.{leb}
-use lib.ListN.{length, take, get_or, set, replicate, length-append, length-set, length-replicate, length-take}
+use lib.ListN.{length, take, get_or, replicate, length-replicate, length-take}
 use Rattle.std.specs.Prelude.{slice_get}
-use lib.Seq.{take-suc-set}
+use lib.Seq.{}
 use Rattle.tableau.specs.declared.Relation.{Relation}
 use Rattle.tableau.specs.Terms.{Literal, literal}
-use Rattle.tableau.specs.Tree.{max_places, literal_at}
+use Rattle.tableau.specs.Tree.{literal_at}
 use Rattle.tableau.proofs.Bools.{both_true}
 use Rattle.packing.specs.Packing.{code_limit}
-use Rattle.tree.specs.State.{AreCodes, HasPlace, IsBranch, Appended}
-use Rattle.clauses.proofs.Arrays.{all_set}
+use Rattle.tree.specs.State.{AreCodes, HasPlace, IsBranch}
 
 -- check 11 holds of the places from 1 to n
 pub from_check : (n p : ℕ) → HasPlace n p true → (1 ≤ p) × (p ≤ n)
@@ -37,27 +35,8 @@ pub at_place : (f : ℕ → Literal) (b : List ℕ) (p : ℕ) → (1 ≤ p) × (
 at_place f b zero h = absurd (omega arith)
 at_place f b (suc m) h = let e : suc m - 1 ≡ m = omega arith in rw e (at_index f b m (omega arith))
 
--- nothing is appended, and one code more
-pub append_none : {b : List ℕ} {n : ℕ} → IsBranch b n → Appended b n [] b n
-append_none {b} {n} w = record { count = omega arith; branch = w; codes = sym (append-nil (take n b)) }
-
-pub append_one : {b : List ℕ} {n : ℕ} {more : List ℕ} {b' : List ℕ} {n' : ℕ} (n'' x : ℕ) → Appended b n more b' n'
-    → n' < max_places → x < code_limit → n'' ≡ n' + 1 → Appended b n (more ++ (x ∷ [])) (set b' n' x) n''
-append_one {b} {n} {more} {b'} {n'} n'' x a room h next = record {
-  count = simp length-append (omega arith);
-  branch = record {
-    size = length-set b' n' x ∙ a.branch.size;
-    room = omega arith;
-    bounded = all_set (λ y. y < code_limit) b' n' x a.branch.bounded h;
-  };
-  codes =
-      rw (next, add-one) (take-suc-set b' n' x (omega arith))
-      ∙ ap (λ (l : List ℕ). l ++ (x ∷ [])) a.codes
-      ∙ append_assoc (take n b) more (x ∷ []);
-}
-
 -- the codes of a branch alone, without what lies behind them in its array
-taken_bounded : (b : List ℕ) (n limit k : ℕ) → 0 < limit → ((j : ℕ) → get_or b j 0 < limit) → get_or (take n b) k 0 < limit
+pub taken_bounded : (b : List ℕ) (n limit k : ℕ) → 0 < limit → ((j : ℕ) → get_or b j 0 < limit) → get_or (take n b) k 0 < limit
 taken_bounded b zero limit k l h = l
 taken_bounded [] (suc n) limit k l h = l
 taken_bounded (x ∷ b) (suc n) limit zero l h = h zero

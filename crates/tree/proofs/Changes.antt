@@ -1,167 +1,211 @@
--- Laws of the methods: what is to be shown of the arrays for a method to give what the specification says.
-use Prim.Native.Nat.{ℕ, ◌+◌, ◌-◌, ◌≤◌, ◌<◌, min, max}
-use mathlib.Core.Path.{◌≡◌, refl, sym, ◌∙◌, subst}
+-- Laws of the changes: what they make of the lists is what the specification says of the tree.
+use Prim.Native.Nat.{ℕ, zero, suc, ◌+◌, ◌≤◌, ◌<◌, min, max}
+use mathlib.Core.Path.{◌≡◌, refl, sym, ◌∙◌, ap, subst}
 use mathlib.Core.Bool.{true, false}
-use mathlib.Core.List.{List, [], ◌∷◌, map, map-append, append-nil}
+use mathlib.Core.List.{List, [], ◌∷◌, ◌++◌, map, map-append, reverse}
 use native.Mathlib.Decide.{dec_le}
 use native.Mathlib.Omega.{arith}
-use borrow.Author.Tests.{le-leb, lt-leb}
-use lib.ListN.{length, take, length-map}
-use lib.Seq.{length-take-le}
+use borrow.Author.Tests.{le-leb, lt-leb, le-ltb, lt-ltb}
+use lib.ListN.{length, take, get_or, length-map, length-append, length-take}
+use Rattle.std.specs.Prelude.{Some, None, Result, Ok, Err}
+use Rattle.std.proofs.lemmas.List.{length-take-le, reverse-append, reverse-reverse, length-reverse, take_all, take_min, take-map}
+use lib.Seq.{take-take, take-append_seam, get_or-append_seam}
+use Rattle.std.proofs.lemmas.List.Elements.{All-append, All-take}
+use Rattle.std.proofs.lemmas.List.Sorted.{All-permutation, IsPermutation-reverse}
 use Rattle.tableau.specs.declared.Reason.{Reason}
 use Rattle.tableau.specs.Terms.{Literal}
-use Rattle.tableau.specs.Tree.{max_places, max_waiting, passed, is_open, is_closed, room_on_branch, room_to_wait, close, grow, grown}
+use Rattle.tableau.specs.Tree.{max_places, max_waiting, is_open, room_on_branch, room_to_wait, close, grow, grown}
+use Rattle.packing.specs.Packing.{code_limit}
 use Rattle.tree.specs.declared.Alternative.{Alternative}
 use Rattle.tree.specs.declared.Begun.{Begun}
-use Rattle.tree.specs.declared.Extent.{Extent}
 use Rattle.tree.specs.declared.Change.{Change}
-use Rattle.tree.specs.declared.Growth.{Growth}
 use Rattle.tree.specs.declared.Tree.{Tree}
-use Rattle.tree.specs.State.{AtMost, codes_of, cut_of, unpacked, top_of, tree_of, Within}
-use Rattle.tree.specs.Change.{none_begun, unchanged_from, extent_of, InLimits, changed, Fits, Stored, grown_by, Gives}
-use Rattle.tree.proofs.Arrays.{take_min, take_map}
-use Rattle.tree.proofs.Waiting.{Begins, begins_none, stack_length, stack_pop, top_at, unpacked_holds}
+use Rattle.tree.specs.State.{AtMost, codes_of, AreCodes, HasRoom, AreWaiting, cut_of, unpacked, waiting_of, tree_in, codes_in, waiting_in, Within}
+use Rattle.tree.specs.Change.{begun_of, begun_count, changed, Fits, split_into, Stored, room_for, opened, SplitsAt, Closes}
+use Rattle.tree.proofs.Branch.{taken_bounded}
+use Rattle.tree.proofs.Waiting.{wait, Begins, unpacked_holds, begun_length, begun_room}
 
--- CHECK 15, by the count of the longest alternative.
-abbrev pub longest : List Alternative → ℕ
+pub codes_count : (a : Alternative) → a.count ≤ 3 → length (codes_of a) ≡ a.count
+codes_count a h = length-take-le a.count (a.first ∷ a.second ∷ a.third ∷ []) h
+
+-- CHECK 15, by the length of the longest alternative
+abbrev pub longest : List (List ℕ) → ℕ
 longest [] = 0
-longest (a ∷ ks) = max a.count (longest ks)
+longest (k ∷ ks) = max (length k) (longest ks)
 
-abbrev pub Short : List Alternative → Type 0
-Short [] = Unit {0}
-Short (a ∷ ks) = (a.count ≤ 3) × Short ks
-
-codes_length : (f : ℕ → Literal) (a : Alternative) → a.count ≤ 3 → length (map f (codes_of a)) ≡ a.count
-codes_length f a h = length-map (codes_of a) f ∙ length-take-le a.count (a.first ∷ a.second ∷ a.third ∷ []) h
-
-room : (f : ℕ → Literal) (n : ℕ) (ks : List Alternative) → Short ks → n + longest ks ≤ max_places → room_on_branch n (map (map f) (map codes_of ks)) ≡ true
+room : (f : ℕ → Literal) (n : ℕ) (ks : List (List ℕ)) → n + longest ks ≤ max_places → room_on_branch n (map (map f) ks) ≡ true
 unfolding room_on_branch
-room f n [] s r = refl
-room f n (a ∷ ks) s r =
-    let h : n + a.count ≤ max_places = omega arith in
-    rw (codes_length f a s.0, le-leb _ _ h) (room f n ks s.1 (omega arith))
+room f n [] r = refl
+room f n (k ∷ ks) r =
+    let h : n + length k ≤ max_places = omega arith in
+    rw (length-map k f, le-leb _ _ h) (room f n ks (omega arith))
 
-over : (f : ℕ → Literal) (n : ℕ) (ks : List Alternative) → Short ks → n ≤ max_places → max_places < n + longest ks
-    → room_on_branch n (map (map f) (map codes_of ks)) ≡ false
+over : (f : ℕ → Literal) (n : ℕ) (ks : List (List ℕ)) → n ≤ max_places → max_places < n + longest ks → room_on_branch n (map (map f) ks) ≡ false
 unfolding room_on_branch
-over f n [] s h r = absurd (omega arith)
-over f n (a ∷ ks) s h r =
-    elim (dec_le (n + a.count) max_places) [
-      | yes p ↦ rw (codes_length f a s.0, le-leb _ _ p) (over f n ks s.1 h (omega arith))
-      | no p ↦ let q : max_places < n + a.count = omega arith in rw (codes_length f a s.0, lt-leb _ _ q)
+over f n [] h r = absurd (omega arith)
+over f n (k ∷ ks) h r =
+    elim (dec_le (n + length k) max_places) [
+      | yes p ↦ rw (length-map k f, le-leb _ _ p) (over f n ks h (omega arith))
+      | no p ↦ let q : max_places < n + length k = omega arith in rw (length-map k f, lt-leb _ _ q)
     ]
 
-module _ (t : Tree) (w : Within t) where
-  pub branch_length : (f : ℕ → Literal) → length (tree_of f t).branch ≡ t.len
-  branch_length f = length-map (take t.len t.branch) f ∙ length-take-le t.len t.branch (omega arith)
+-- WHAT A CHANGE MAKES OF A TREE, in the order in which alternatives are taken
+stacked : (f : ℕ → Literal) (V begun : List ℕ) → map (waiting_of f) (reverse (V ++ reverse begun)) ≡ map (waiting_of f) begun ++ map (waiting_of f) (reverse V)
+stacked f V begun = ap (map (waiting_of f)) (reverse-append V (reverse begun)) ∙ map-append (waiting_of f) (reverse (reverse begun)) (reverse V)
+    ∙ ap (λ l. map (waiting_of f) l ++ map (waiting_of f) (reverse V)) (reverse-reverse begun)
 
-  -- A STEP with the alternatives a and ks
-  module _ (a : Alternative) (ks : List Alternative) (s : Short (a ∷ ks)) where
-    abbrev Grows : Growth → Type 0
-    Grows r = (f : ℕ → Literal) → grown_by f t r ≡ grown (tree_of f t) (map (map f) (map codes_of (a ∷ ks)))
+has_room : (B W : List ℕ) (n m : ℕ) → {u : Unit {0}} → Ok u ≡ room_for B W n m → (length B + n ≤ max_places) × (length W + m ≤ max_waiting)
+has_room B W n m z =
+    elim (dec_le (length B + n) max_places) [
+      | no g ↦ absurd (cc (z, lt-ltb max_places (length B + n) (omega arith)))
+      | yes h ↦
+          elim (dec_le (length W + m) max_waiting) [
+            | no g ↦ absurd (cc (z, le-ltb max_places (length B + n) h, lt-ltb max_waiting (length W + m) (omega arith)))
+            | yes w ↦ (h, w)
+          ]
+    ]
 
-    waiting_length : (f : ℕ → Literal) → length (map (map f) (map codes_of ks)) + length (tree_of f t).waiting ≡ length ks + t.count
-    waiting_length f = rw (length-map (map codes_of ks) (map f), length-map ks codes_of, stack_length f t.waiting t.count)
+-- A STEP with the alternatives k and ks, on a branch B where W waits
+module _ (words B W : List ℕ) (are : AreCodes B) (k : List ℕ) (ks : List (List ℕ)) where
+  waiting_length : (f : ℕ → Literal) → length (map (map f) ks) + length (tree_in f B W).waiting ≡ length ks + length W
+  waiting_length f = rw (length-map ks (map f), length-map (reverse W) (waiting_of f), length-reverse W)
 
-    full : max_places < t.len + longest (a ∷ ks) → Grows (Growth.Refused Reason.BranchFull)
-    unfolding grown
-    full r f = rw (branch_length f, over f t.len (a ∷ ks) s w.branch.room r)
+  abbrev Grows : Result Change Reason → Type 0
+  Grows r = (f : ℕ → Literal) → opened f words B W r ≡ grown (tree_in f B W) (map (map f) (k ∷ ks))
 
-    crowded : t.len + longest (a ∷ ks) ≤ max_places → max_waiting < length ks + t.count → Grows (Growth.Refused Reason.WaitingFull)
+  full : max_places < length B + longest (k ∷ ks) → Grows (Err Reason.BranchFull)
+  unfolding grown
+  full r f = rw (length-map B f, over f (length B) (k ∷ ks) are.room r)
+
+  module _ (h : length B + longest (k ∷ ks) ≤ max_places) where
+    crowded : max_waiting < length W + length ks → Grows (Err Reason.WaitingFull)
     unfolding grown room_to_wait
-    crowded h r f = rw (branch_length f, room f t.len (a ∷ ks) s h, waiting_length f, lt-leb _ _ r)
+    crowded r f = rw (length-map B f, room f (length B) (k ∷ ks) h, waiting_length f, lt-leb (length ks + length W) max_waiting (omega arith))
 
-    grows : (b : Begun) → t.len + longest (a ∷ ks) ≤ max_places → length ks + t.count ≤ max_waiting → Begins b t.len ks
-        → Grows (Growth.To (record { cut = t.len; adds = a; kept = t.count; begun = b }))
-    unfolding grown room_to_wait grow
-    grows b h r p f = rw (branch_length f, room f t.len (a ∷ ks) s h, waiting_length f, le-leb _ _ r, p.waiting f)
+    module _ (a : Alternative) (b : Begun) (few : AtMost 3 a) (adds : codes_of a ≡ k) (waits : length W + length ks ≤ max_waiting) (p : Begins words (length B) b ks) where
+      tree_changed : (f : ℕ → Literal) → changed f words B W (split_into B W a b)
+          ≡ record { branch = map f B ++ map f k; waiting = map (wait (length B)) (map (map f) ks) ++ map (waiting_of f) (reverse W) }
+      tree_changed f =
+          let b₁ = map-append f (take (length B) B) (codes_of a) in
+          let b₂ : take (length B) B ≡ B = take_all (length B) B (omega arith) in
+          let w₁ = stacked f (take (length W) W) (begun_of words (length B) b) in
+          let w₂ : take (length W) W ≡ W = take_all (length W) W (omega arith) in
+          cc (p.waiting f)
 
-  -- A CLOSING
-  abbrev closed : Extent → Change
-  closed e = record { cut = min (cut_of e.top) e.len; adds = unpacked e.top; kept = e.count - 1; begun = none_begun }
+      grows : Grows (Ok (split_into B W a b))
+      unfolding grown room_to_wait grow
+      grows f = rw (length-map B f, room f (length B) (k ∷ ks) h, waiting_length f, le-leb (length ks + length W) max_waiting (omega arith))
+          (cc (tree_changed f))
 
-  closes_last : t.count ≡ 0 → (f : ℕ → Literal) → passed is_closed ≡ passed (close (tree_of f t).branch (tree_of f t).waiting)
+      fits : Fits B W (split_into B W a b)
+      fits = record {
+        cut = omega arith;
+        adds = few;
+        places = omega (arith, codes_count a few.count, ap (length {A = ℕ}) adds);
+        kept = omega arith;
+        waiting = omega (arith, p.count);
+        begun = p.may_begin;
+      }
+
+  -- one of the checks refuses the step
+  pub split_refused : (n m : ℕ) → n ≡ longest (k ∷ ks) → m ≡ length ks → {r : Reason} → Err r ≡ room_for B W n m → SplitsAt words B W (k ∷ ks) (Err r)
+  split_refused n m e q {r} z =
+      elim (dec_le (length B + n) max_places) [
+        | no g ↦
+            let s : r ≡ Reason.BranchFull = cc (z, lt-ltb max_places (length B + n) (omega arith)) in
+            rw s (record { fits = tt; result = full (omega arith) })
+        | yes h ↦
+            elim (dec_le (length W + m) max_waiting) [
+              | no g ↦
+                  let s : r ≡ Reason.WaitingFull = cc (z, le-ltb max_places (length B + n) h, lt-ltb max_waiting (length W + m) (omega arith)) in
+                  rw s (record { fits = tt; result = crowded (omega arith) (omega arith) })
+              | yes w ↦ absurd (cc (z, le-ltb max_places (length B + n) h, le-ltb max_waiting (length W + m) w))
+            ]
+      ]
+
+  -- they let it through
+  pub split_passed : (n m : ℕ) → n ≡ longest (k ∷ ks) → m ≡ length ks → {u : Unit {0}} → Ok u ≡ room_for B W n m
+      → (a : Alternative) (b : Begun) → AtMost 3 a → codes_of a ≡ k → (length B + n ≤ max_places → Begins words (length B) b ks) → SplitsAt words B W (k ∷ ks) (Ok (split_into B W a b))
+  split_passed n m e q z a b few adds p =
+      let r = has_room B W n m z in
+      let h : length B + longest (k ∷ ks) ≤ max_places = omega arith in
+      let w : length W + length ks ≤ max_waiting = omega arith in
+      record { fits = fits h a b few adds w (p r.0); result = grows h a b few adds w (p r.0) }
+
+-- A CLOSING
+pub closes_last : (B W : List ℕ) → length W ≡ 0 → Closes B W None
+unfolding close
+closes_last B [] z = record { fits = λ b w. tt; result = λ f words. refl }
+closes_last B (x ∷ W) z = absurd (omega arith)
+
+module _ (B V : List ℕ) (top : ℕ) where
+  abbrev closing : Change
+  closing = record { cut = min (cut_of top) (length B); adds = unpacked top; kept = length V; begun = Begun.Nothing }
+
+  closing_fits : AreCodes B → AreWaiting (V ++ (top ∷ [])) → Fits B (V ++ (top ∷ [])) closing
+  closing_fits b w =
+      let n = length-append V (top ∷ []) in
+      let h = subst HasRoom (get_or-append_seam V top [] 0) (w.places (length V) 0 (omega arith)) in
+      record { cut = omega arith; adds = unpacked_holds top; places = omega (arith, h); kept = omega arith; waiting = omega (arith, w.room); begun = tt }
+
+  closing_closes : (f : ℕ → Literal) (words : List ℕ) → is_open (changed f words B (V ++ (top ∷ [])) closing) ≡ close (map f B) (map (waiting_of f) (reverse (V ++ (top ∷ []))))
   unfolding close
-  closes_last e f = rw e
+  closing_closes f words =
+      let b₁ = map-append f (take (min (cut_of top) (length B)) B) (codes_of (unpacked top)) in
+      let b₂ = take_min (cut_of top) B in
+      let b₃ = take-map f (cut_of top) B in
+      let w₁ = stacked f (take (length V) (V ++ (top ∷ []))) [] in
+      let w₂ = take-append_seam V (top ∷ []) in
+      rw (reverse-append V (top ∷ [])) (cc)
 
-  closes_more : (t.count ≡ 0 → ⊥) → (f : ℕ → Literal)
-      → passed (is_open (changed f t (closed (extent_of t)))) ≡ passed (close (tree_of f t).branch (tree_of f t).waiting)
-  unfolding close
-  closes_more h f =
-      let top = top_of t.waiting t.count in
-      rw (
-        stack_pop f t.waiting t.count h,
-        take_map f (cut_of top) (take t.len t.branch),
-        take_min (cut_of top) t.len t.branch,
-      )
+  pub closes_more : {c : Change} → c ≡ closing → Closes B (V ++ (top ∷ [])) (Some c)
+  closes_more e = rw e (record { fits = closing_fits; result = closing_closes })
 
-  top_places : (t.count ≡ 0 → ⊥) → cut_of (top_of t.waiting t.count) + (unpacked (top_of t.waiting t.count)).count ≤ max_places
-  top_places h = subst (λ (x : ℕ). cut_of x + (unpacked x).count ≤ max_places) (top_at t.waiting t.count h) (w.waiting.places (t.count - 1))
+-- WHAT IS STORED for a change
+three_bounded : (x y z k : ℕ) → x < code_limit → y < code_limit → z < code_limit → get_or (x ∷ y ∷ z ∷ []) k 0 < code_limit
+three_bounded x y z zero p q r = p
+three_bounded x y z (suc zero) p q r = q
+three_bounded x y z (suc (suc zero)) p q r = r
+three_bounded x y z (suc (suc (suc k))) p q r = omega arith
 
--- THE METHODS of an extent, by the laws above for the trees that have it.
-module _ (e : Extent) (a : Alternative) (ks : List Alternative) (s : Short (a ∷ ks)) where
-  abbrev Steps : Growth → Type 0
-  Steps = Gives e (λ f τ. grown τ (map (map f) (map codes_of (a ∷ ks))))
+append_bounded : (b k : List ℕ) (i : ℕ) → ((j : ℕ) → get_or b j 0 < code_limit) → ((j : ℕ) → get_or k j 0 < code_limit) → get_or (b ++ k) i 0 < code_limit
+append_bounded [] k i p q = q i
+append_bounded (x ∷ b) k zero p q = p zero
+append_bounded (x ∷ b) k (suc i) p q = append_bounded b k i (λ j. p (suc j)) q
 
-  pub branch_full : max_places < e.len + longest (a ∷ ks) → Steps (Growth.Refused Reason.BranchFull)
-  branch_full r = record {
-    fits = λ t w q. tt;
-    result = λ t w q. full t w a ks s (subst (λ (x : Extent). max_places < x.len + longest (a ∷ ks)) (sym q) r);
-  }
+module _ (words : List ℕ) (small : (i : ℕ) → get_or words i 0 < code_limit) (t : Tree) (w : Within t) (c : Change) (F : Fits (codes_in t) (waiting_in t) c) where
+  cut_codes : take c.cut t.branch ≡ take c.cut (codes_in t)
+  cut_codes = sym (take-take c.cut t.len t.branch (omega (arith, F.cut, length-take t.len t.branch)))
 
-  module _ (h : e.len + longest (a ∷ ks) ≤ max_places) where
-    pub waiting_full : max_waiting < length ks + e.count → Steps (Growth.Refused Reason.WaitingFull)
-    waiting_full r = record {
-      fits = λ t w q. tt;
-      result = λ t w q.
-          crowded t w a ks s (subst (λ (x : Extent). x.len + longest (a ∷ ks) ≤ max_places) (sym q) h)
-          (subst (λ (x : Extent). max_waiting < length ks + x.count) (sym q) r);
-    }
+  kept_waiting : take c.kept t.waiting ≡ take c.kept (waiting_in t)
+  kept_waiting = sym (take-take c.kept t.count t.waiting (omega (arith, F.kept, length-take t.count t.waiting)))
 
-    pub steps_to : (b : Begun) → AtMost 3 a → length ks + e.count ≤ max_waiting → Begins b e.len ks
-        → Steps (Growth.To (record { cut = e.len; adds = a; kept = e.count; begun = b }))
-    steps_to b g r p = record {
-      fits = λ t w q. record { cut = omega arith; adds = g; places = omega arith; kept = omega arith; waiting = omega (arith, p.count); begun = p.may_wait };
-      result = λ t w q. subst (λ (x : Extent). x.len + longest (a ∷ ks) ≤ max_places → length ks + x.count ≤ max_waiting → Begins b x.len ks → (f : ℕ → Literal)
-          → grown_by f t (Growth.To (record { cut = x.len; adds = a; kept = x.count; begun = b })) ≡ grown (tree_of f t) (map (map f) (map codes_of (a ∷ ks)))) q
-          (grows t w a ks s b) h r p;
-    }
+  are_codes_after : AreCodes (take c.cut (codes_in t) ++ codes_of c.adds)
+  are_codes_after =
+      let a = c.adds in
+      let n = length-take c.cut (codes_in t) in
+      record {
+        room = omega (arith, length-append (take c.cut (codes_in t)) (codes_of a), n, codes_count a F.adds.count, F.places);
+        bounded = λ k. append_bounded (take c.cut (codes_in t)) (codes_of a) k (λ j. taken_bounded (codes_in t) c.cut code_limit j (omega arith) w.branch.bounded)
+            (λ j. taken_bounded (a.first ∷ a.second ∷ a.third ∷ []) a.count code_limit j (omega arith) (λ i. three_bounded a.first a.second a.third i F.adds.first F.adds.second F.adds.third));
+      }
 
-module _ (e : Extent) where
-  abbrev Closes : Growth → Type 0
-  Closes = Gives e (λ f τ. passed (close τ.branch τ.waiting))
+  are_waiting_after : AreWaiting (take c.kept (waiting_in t) ++ reverse (begun_of words c.cut c.begun))
+  are_waiting_after =
+      let begun = begun_of words c.cut c.begun in
+      record {
+        room = omega (arith, length-append (take c.kept (waiting_in t)) (reverse begun), length-take c.kept (waiting_in t), length-reverse begun, begun_length words c.cut c.begun, F.waiting);
+        places = All-append HasRoom (take c.kept (waiting_in t)) (reverse begun) (All-take HasRoom c.kept (waiting_in t) w.waiting.places)
+            (All-permutation HasRoom begun (reverse begun) (IsPermutation-reverse begun) (begun_room words small c.cut c.begun F.begun));
+      }
 
-  pub close_last : e.count ≡ 0 → Closes Growth.Closed
-  close_last z = record { fits = λ t w q. tt; result = λ t w q. closes_last t w (subst (λ (x : Extent). x.count ≡ 0) (sym q) z) }
-
-  pub close_more : (e.count ≡ 0 → ⊥) → Closes (Growth.To (record { cut = min (cut_of e.top) e.len; adds = unpacked e.top; kept = e.count - 1; begun = none_begun }))
-  close_more h = record {
-    fits = λ t w q.
-        let k : cut_of e.top + (unpacked e.top).count ≤ max_places = subst (λ (x : Extent). (x.count ≡ 0 → ⊥) → cut_of x.top + (unpacked x.top).count ≤ max_places) q (top_places t w) h in
-        let n : e.count ≤ max_waiting = subst (λ (x : Extent). x.count ≤ max_waiting) q w.waiting.room in
-        record { cut = omega arith; adds = unpacked_holds e.top; places = omega (arith, k); kept = omega arith; waiting = omega (arith, n); begun = (begins_none 0).may_wait };
-    result = λ t w q. subst (λ (x : Extent). (x.count ≡ 0 → ⊥) → (f : ℕ → Literal)
-        → passed (is_open (changed f t (record { cut = min (cut_of x.top) x.len; adds = unpacked x.top; kept = x.count - 1; begun = none_begun })))
-        ≡ passed (close (tree_of f t).branch (tree_of f t).waiting)) q (closes_more t w) h;
-  }
-
--- WHAT IS STORED for a change is the tree that the change makes.
-pub stored_tree : {t t' : Tree} {c : Change} → Stored t c t' → (f : ℕ → Literal) → tree_of f t' ≡ changed f t c
-stored_tree {t} {t'} {c} s f = rw (s.branch.codes, map-append f (take c.cut t.branch) (codes_of c.adds), s.waiting.waiting f)
-
-pub stored_within : {t t' : Tree} {c : Change} → Stored t c t' → Within t'
-stored_within s = record { branch = s.branch.branch; waiting = s.waiting.stack }
-
--- the change that leaves the tree as it is
-pub unchanged_fits : (e : Extent) → InLimits e → Fits e (unchanged_from e)
-unchanged_fits e l = record {
-  cut = omega arith;
-  adds = record { count = omega arith; first = omega arith; second = omega arith; third = omega arith };
-  places = omega (arith, l.len);
-  kept = omega arith;
-  waiting = omega (arith, l.count);
-  begun = (begins_none 0).may_wait;
-}
-
-pub unchanged_tree : (f : ℕ → Literal) (t : Tree) → changed f t (unchanged_from (extent_of t)) ≡ tree_of f t
-unchanged_tree f t = rw (append-nil (map f (take t.len t.branch)))
+  pub stored : (t' : Tree) → t'.len ≡ c.cut + c.adds.count → t'.count ≡ c.kept + begun_count c.begun → codes_in t' ≡ take c.cut t.branch ++ codes_of c.adds
+      → waiting_in t' ≡ take c.kept t.waiting ++ reverse (begun_of words c.cut c.begun) → Stored words t c t'
+  stored t' l n b v =
+      let b' = b ∙ ap (λ x. x ++ codes_of c.adds) cut_codes in
+      let v' = v ∙ ap (λ x. x ++ reverse (begun_of words c.cut c.begun)) kept_waiting in
+      record {
+        within = record { len = omega (arith, F.places); count = omega (arith, F.waiting); branch = subst AreCodes (sym b') are_codes_after; waiting = subst AreWaiting (sym v') are_waiting_after };
+        branch = b';
+        waiting = v';
+      }

@@ -1,6 +1,4 @@
-pub mod Arrays
 pub mod Branch
+pub mod BranchLaws
 pub mod Waiting
 pub mod Changes
-pub mod Splits
-pub mod BranchLaws

@@ -1,20 +1,22 @@
--- Laws of the alternatives that wait: packing, and the stack.
-use Prim.Native.Nat.{ℕ, zero, suc, ◌+◌, ◌-◌, ◌*◌, ◌/◌, ◌^◌, ◌≤◌, ◌<◌}
-use mathlib.Core.Path.{◌≡◌, refl, ap, ◌∙◌, subst}
-use mathlib.Core.List.{List, [], ◌∷◌, map}
-use native.Mathlib.Numerals.{add-one}
+-- Laws of the alternatives that wait: packing, and what begins to wait.
+use Prim.Native.Nat.{ℕ, zero, suc, ◌+◌, ◌*◌, ◌/◌, ◌^◌, ◌≤◌, ◌<◌}
+use mathlib.Core.Path.{◌≡◌, refl, sym, ap, ◌∙◌}
+use mathlib.Core.List.{List, [], ◌∷◌, ◌++◌, map, reverse}
 use native.Mathlib.Omega.{arith}
-use lib.ListN.{length, take, get_or, set, length-set}
-use lib.Seq.{get_or-set_same, get_or-set_other}
+use lib.ListN.{length, take, get_or, length-map}
+use Rattle.std.specs.Prelude.{All}
+use Rattle.std.proofs.lemmas.List.{reverse-append}
+use Rattle.std.proofs.lemmas.List.Elements.{All-nil, All-cons}
 use Rattle.tableau.specs.Terms.{Literal}
-use Rattle.tableau.specs.Tree.{max_places, max_waiting, Waiting}
+use Rattle.tableau.specs.Tree.{max_places, Waiting}
 use Rattle.tree.specs.declared.Alternative.{Alternative}
 use Rattle.tree.specs.declared.Begun.{Begun}
+use Rattle.clauses.specs.declared.Span.{Span}
 use Rattle.packing.specs.Packing.{code_limit}
+use Rattle.tableau.specs.Reply.{max_clause_lines}
 use Rattle.clauses.specs.Held.{codes_at}
-use Rattle.tree.specs.State.{codes_of, AtMost, one_code, packed, packed_one, cut_of, unpacked, IsStack, waiting_of, stack_of, top_of, begun_of, MayWait, Pushed}
-use Rattle.tree.specs.Change.{none_begun}
-use Rattle.clauses.proofs.Arrays.{all_set}
+use Rattle.tree.specs.State.{codes_of, AtMost, one_code, packed, packed_one, cut_of, unpacked, HasRoom, waiting_of}
+use Rattle.tree.specs.Change.{begun_of, begun_count, MayBegin}
 
 -- the third code is not packed
 short : (n x y z z' : ℕ) → n ≤ 2 → take n (x ∷ y ∷ z ∷ []) ≡ take n (x ∷ y ∷ z' ∷ [])
@@ -43,91 +45,87 @@ module _ (cut : ℕ) (a : Alternative) (h : cut ≤ max_places) (g : AtMost 2 a)
 pub unpacked_holds : (w : ℕ) → AtMost 3 (unpacked w)
 unpacked_holds w = record { count = omega arith; first = omega arith; second = omega arith; third = omega arith }
 
-pub stack_length : (f : ℕ → Literal) (l : List ℕ) (n : ℕ) → length (stack_of f l n) ≡ n
-stack_length f l zero = refl
-stack_length f l (suc n) = ap suc (stack_length f l n)
-
--- a store above the top changes nothing
-stack_set : (f : ℕ → Literal) (l : List ℕ) (n m x : ℕ) → n ≤ m → stack_of f (set l m x) n ≡ stack_of f l n
-stack_set f l zero m x h = refl
-stack_set f l (suc n) m x h = cc (get_or-set_other l m n x 0 (λ e. omega arith), stack_set f l n m x (omega arith))
-
--- the top, and the rest
-pub stack_pop : (f : ℕ → Literal) (l : List ℕ) (n : ℕ) → (n ≡ 0 → ⊥) → stack_of f l n ≡ waiting_of f (top_of l n) ∷ stack_of f l (n - 1)
-stack_pop f l zero h = absurd (h refl)
-stack_pop f l (suc n) h = let e : suc n - 1 ≡ n = omega arith in rw e
-
-pub top_at : (l : List ℕ) (n : ℕ) → (n ≡ 0 → ⊥) → get_or l (n - 1) 0 ≡ top_of l n
-top_at l zero h = absurd (h refl)
-top_at l (suc n) h = let e : suc n - 1 ≡ n = omega arith in rw e
-
 abbrev pub wait : ℕ → List Literal → Waiting
 wait cut k = record { length = cut; alternative = k }
 
--- packed alternatives stored on top of a stack, one after the other
-pub push_none : {l : List ℕ} {n : ℕ} → IsStack l n → Pushed l n [] l n
-push_none w = record { stack = w; waiting = λ f. refl }
+-- ALTERNATIVES OF ONE SPLIT, by their codes, that begin to wait where the branch has so many literals
+pub record Begins (words : List ℕ) (cut : ℕ) (b : Begun) (ks : List (List ℕ)) : Type 0 where
+  pub count : begun_count b ≡ length ks
+  pub may_begin : MayBegin cut b
+  pub waiting : (f : ℕ → Literal) → map (waiting_of f) (begun_of words cut b) ≡ map (wait cut) (map (map f) ks)
 
-pub push_one : {l : List ℕ} {n : ℕ} {more : List ℕ} {l' : List ℕ} {n' : ℕ} (n'' x : ℕ) → Pushed l n more l' n' → n' < max_waiting
-    → cut_of x + (unpacked x).count ≤ max_places → n'' ≡ n' + 1 → Pushed l n (x ∷ more) (set l' n' x) n''
-push_one {l} {n} {more} {l'} {n'} n'' x p room places next = record {
-  stack = record {
-    size = length-set l' n' x ∙ p.stack.size;
-    room = omega arith;
-    places = all_set (λ y. cut_of y + (unpacked y).count ≤ max_places) l' n' x p.stack.places places;
-  };
-  waiting = λ f. rw (next, add-one, get_or-set_same l' n' x 0 (omega arith), stack_set f l' n' n' x (omega arith), p.waiting f);
-}
-
--- ALTERNATIVES OF ONE SPLIT that begin to wait, packed with the length of the branch there
-pub record Begins (b : Begun) (cut : ℕ) (ks : List Alternative) : Type 0 where
-  pub count : b.count ≡ length ks
-  pub may_wait : MayWait b
-  pub waiting : (f : ℕ → Literal) → map (waiting_of f) (begun_of b) ≡ map (wait cut) (map (map f) (map codes_of ks))
-
-pub begins_none : (cut : ℕ) → Begins none_begun cut []
-begins_none cut = record { count = refl; may_wait = record { count = omega arith; first = omega arith; last = omega arith }; waiting = λ f. refl }
+pub begins_none : (words : List ℕ) (cut : ℕ) → Begins words cut Begun.Nothing []
+begins_none words cut = record { count = refl; may_begin = tt; waiting = λ f. refl }
 
 module _ (cut : ℕ) (a : Alternative) (g : AtMost 2 a) (room : cut + a.count ≤ max_places) where
   inside : cut ≤ max_places
   inside = omega arith
 
-  pub waiting_packed : (f : ℕ → Literal) → waiting_of f (packed cut a) ≡ wait cut (map f (codes_of a))
+  waiting_packed : (f : ℕ → Literal) → waiting_of f (packed cut a) ≡ wait cut (map f (codes_of a))
   waiting_packed f = rw (cut_packed cut a inside g, codes_packed cut a inside g)
 
-  pub room_packed : cut_of (packed cut a) + (unpacked (packed cut a)).count ≤ max_places
+  room_packed : HasRoom (packed cut a)
   room_packed = rw (cut_packed cut a inside g, count_packed cut a inside g) room
 
-  pub begins_one : Begins (record { count = 1; first = packed cut a; last = 0 }) cut (a ∷ [])
-  begins_one = record {
-    count = refl;
-    may_wait = record { count = omega arith; first = room_packed; last = omega arith };
-    waiting = λ f. rw (waiting_packed f);
-  }
+  pub begins_one : (words : List ℕ) → Begins words cut (Begun.One (packed cut a)) (codes_of a ∷ [])
+  begins_one words = record { count = refl; may_begin = room_packed; waiting = λ f. rw (waiting_packed f) }
 
-pub begins_two : (cut : ℕ) (a k : Alternative) → AtMost 2 a → cut + a.count ≤ max_places → AtMost 2 k → cut + k.count ≤ max_places
-    → Begins (record { count = 2; first = packed cut a; last = packed cut k }) cut (a ∷ k ∷ [])
-begins_two cut a k g r h s = record {
+pub begins_two : (words : List ℕ) (cut : ℕ) (a k : Alternative) → AtMost 2 a → cut + a.count ≤ max_places → AtMost 2 k → cut + k.count ≤ max_places
+    → Begins words cut (Begun.Two (packed cut a) (packed cut k)) (codes_of a ∷ codes_of k ∷ [])
+begins_two words cut a k g r h s = record {
   count = refl;
-  may_wait = record { count = omega arith; first = room_packed cut a g r; last = room_packed cut k h s };
+  may_begin = (room_packed cut a g r, room_packed cut k h s);
   waiting = λ f. rw (waiting_packed cut a g r f, waiting_packed cut k h s f);
 }
 
--- LITERALS OF A CLAUSE, each an alternative of its own
-pub one_code_lem : (code : ℕ) → code < code_limit → AtMost 2 (one_code code)
+-- LITERALS that stand in an array, each an alternative of its own
+pub codes_length : (words : List ℕ) (i n : ℕ) → length (codes_at words i n) ≡ n
+codes_length words i zero = refl
+codes_length words i (suc n) = ap suc (codes_length words (suc i) n)
+
+one_code_lem : (code : ℕ) → code < code_limit → AtMost 2 (one_code code)
 one_code_lem code small = record { count = omega arith; first = small; second = omega arith; third = omega arith }
 
--- the one before those that are stored
-pub push_literal : {l : List ℕ} {n : ℕ} {l' : List ℕ} {n' : ℕ} (cut : ℕ) (words : List ℕ) (i j m k n'' : ℕ) → i ≡ suc j → k ≡ suc m → cut < max_places → get_or words j 0 < code_limit
-    → Pushed l n (map (packed_one cut) (codes_at words i m)) l' n' → n' < max_waiting → n'' ≡ n' + 1
-    → Pushed l n (map (packed_one cut) (codes_at words j k)) (set l' n' (packed_one cut (get_or words j 0))) n''
-push_literal {l} {n} {l'} {n'} cut words i j m k n'' e q h small p room next =
-    rw q (push_one n'' (packed_one cut (get_or words j 0)) (subst (λ x. Pushed l n (map (packed_one cut) (codes_at words x m)) l' n') e p) room
-    (room_packed cut (one_code (get_or words j 0)) (one_code_lem _ small) (omega arith)) next)
+abbrev pub each_alone : {A : Type 0} → List A → List (List A)
+each_alone = map (λ l. l ∷ [])
 
--- what waits then
-pub waiting_literals : (f : ℕ → Literal) (cut : ℕ) (words : List ℕ) → cut < max_places → ((i : ℕ) → get_or words i 0 < code_limit) → (i m : ℕ)
-    → map (waiting_of f) (map (packed_one cut) (codes_at words i m)) ≡ map (wait cut) (map (λ l. l ∷ []) (map f (codes_at words i m)))
-waiting_literals f cut words h small i zero = refl
-waiting_literals f cut words h small i (suc m) =
-    λ p. waiting_packed cut (one_code (get_or words i 0)) (one_code_lem _ (small i)) (omega arith) f p ∷ waiting_literals f cut words h small (suc i) m p
+pub each_map : {A B : Type 0} (f : A → B) (l : List A) → map (map f) (each_alone l) ≡ each_alone (map f l)
+each_map f [] = refl
+each_map f (x ∷ l) = ap (λ k. (f x ∷ []) ∷ k) (each_map f l)
+
+module _ (words : List ℕ) (small : (i : ℕ) → get_or words i 0 < code_limit) (cut : ℕ) (h : cut < max_places) where
+  one_packed : (i : ℕ) → HasRoom (packed_one cut (get_or words i 0))
+  one_packed i = room_packed cut (one_code (get_or words i 0)) (one_code_lem _ (small i)) (omega arith)
+
+  each_waits : (f : ℕ → Literal) (i n : ℕ) → map (waiting_of f) (map (packed_one cut) (codes_at words i n)) ≡ map (wait cut) (map (map f) (each_alone (codes_at words i n)))
+  each_waits f i zero = refl
+  each_waits f i (suc n) = cc (waiting_packed cut (one_code (get_or words i 0)) (one_code_lem _ (small i)) (omega arith) f, each_waits f (suc i) n)
+
+  pub begins_each : (s : Span) → s.from + s.count ≤ max_clause_lines → Begins words cut (Begun.Each s) (each_alone (codes_at words s.from s.count))
+  begins_each s inside = record {
+    count = sym (length-map (codes_at words s.from s.count) (λ c. c ∷ []) ∙ codes_length words s.from s.count);
+    may_begin = (inside, h);
+    waiting = λ f. each_waits f s.from s.count;
+  }
+
+-- the one before those that are stored
+pub each_more : (words : List ℕ) (cut i j m k : ℕ) → i ≡ suc j → k ≡ suc m
+    → reverse (map (packed_one cut) (codes_at words j k)) ≡ reverse (map (packed_one cut) (codes_at words i m)) ++ (packed_one cut (get_or words j 0) ∷ [])
+each_more words cut i j m k e q = rw (e, q) (reverse-append (packed_one cut (get_or words j 0) ∷ []) (map (packed_one cut) (codes_at words (suc j) m)))
+
+-- there is room for what begins to wait
+pub begun_length : (words : List ℕ) (cut : ℕ) (b : Begun) → length (begun_of words cut b) ≡ begun_count b
+begun_length words cut Begun.Nothing = refl
+begun_length words cut (Begun.One w) = refl
+begun_length words cut (Begun.Two v w) = refl
+begun_length words cut (Begun.Each s) = length-map (codes_at words s.from s.count) (packed_one cut) ∙ codes_length words s.from s.count
+
+each_room : (words : List ℕ) → ((i : ℕ) → get_or words i 0 < code_limit) → (cut : ℕ) → cut < max_places → (i n : ℕ) → All HasRoom (map (packed_one cut) (codes_at words i n))
+each_room words small cut h i zero = All-nil HasRoom
+each_room words small cut h i (suc n) = All-cons HasRoom _ _ (one_packed words small cut h i) (each_room words small cut h (suc i) n)
+
+pub begun_room : (words : List ℕ) → ((i : ℕ) → get_or words i 0 < code_limit) → (cut : ℕ) (b : Begun) → MayBegin cut b → All HasRoom (begun_of words cut b)
+begun_room words small cut Begun.Nothing m = All-nil HasRoom
+begun_room words small cut (Begun.One w) m = All-cons HasRoom w [] m (All-nil HasRoom)
+begun_room words small cut (Begun.Two v w) m = All-cons HasRoom v (w ∷ []) m.0 (All-cons HasRoom w [] m.1 (All-nil HasRoom))
+begun_room words small cut (Begun.Each s) m = each_room words small cut m.1 s.from s.count

@@ -1,88 +1,91 @@
--- What a step makes of a tree, worked out from the tree's extent.
-use Rattle.std.specs.Prelude.{◌≡◌, List, ◌++◌, map, ℕ, suc, ◌+◌, ◌-◌, ◌≤◌, ◌<◌, take}
+-- What a step makes of a tree, worked out from the codes of its branch and the packed alternatives that wait.
+use Rattle.std.specs.Prelude.{◌≡◌, Option, Some, None, Result, Ok, Err, IfOk, IfSome, List, [], ◌∷◌, ◌++◌, map, ℕ, ◌+◌, ◌≤◌, ◌<◌, length, take, reverse, if◌then◌else◌, nat_lt, ⊤}
+use Rattle.tableau.specs.declared.Reason.{Reason}
 use Rattle.tableau.specs.Terms.{Literal}
 use Rattle.tableau.specs.Tree as specification
-use Rattle.tableau.specs.Tree.{Checked, refused, passed, Status, is_open, is_closed, max_places, max_waiting}
+use Rattle.tableau.specs.Tree.{Checked, refused, passed, Status, is_open, is_closed, close, grown, max_places, max_waiting}
 use Rattle.tableau.specs.Reply.{max_clause_lines}
-use Rattle.clauses.specs.declared.Span.{Span}
 use Rattle.clauses.specs.Held.{codes_at}
 use Rattle.tree.specs.declared.Alternative.{Alternative}
-use Rattle.tree.specs.declared.Extent.{Extent}
 use Rattle.tree.specs.declared.Begun.{Begun}
 use Rattle.tree.specs.declared.Change.{Change}
-use Rattle.tree.specs.declared.Growth.{Growth}
 use Rattle.tree.specs.declared.Tree.{Tree}
-use Rattle.tree.specs.State.{codes_of, AtMost, packed_one, waiting_of, stack_of, top_of, begun_of, MayWait, Appended, Pushed, tree_of, Within}
+use Rattle.tree.specs.State.{codes_of, AtMost, packed_one, AreCodes, HasRoom, AreWaiting, tree_in, codes_in, waiting_in, Within}
 
--- THE EXTENT of a tree
-abbrev pub extent_of : Tree → Extent
-extent_of t = record { len = t.len; count = t.count; top = top_of t.waiting t.count }
+-- WHAT BEGINS TO WAIT where the branch has so many literals: packed alternatives, the one that is taken first in front. Literals stand in an array.
+abbrev pub begun_of : List ℕ → ℕ → Begun → List ℕ
+begun_of words cut Begun.Nothing = []
+begun_of words cut (Begun.One w) = w ∷ []
+begun_of words cut (Begun.Two v w) = v ∷ w ∷ []
+begun_of words cut (Begun.Each s) = map (packed_one cut) (codes_at words s.from s.count)
 
-pub record InLimits (e : Extent) : Type 0 where
-  pub len : e.len ≤ max_places
-  pub count : e.count ≤ max_waiting
+abbrev pub begun_count : Begun → ℕ
+begun_count Begun.Nothing = 0
+begun_count (Begun.One w) = 1
+begun_count (Begun.Two v w) = 2
+begun_count (Begun.Each s) = s.count
+
+-- the branch has room for each of them
+abbrev pub MayBegin : ℕ → Begun → Type 0
+MayBegin cut Begun.Nothing = ⊤
+MayBegin cut (Begun.One w) = HasRoom w
+MayBegin cut (Begun.Two v w) = HasRoom v × HasRoom w
+MayBegin cut (Begun.Each s) = (s.from + s.count ≤ max_clause_lines) × (cut < max_places)
 
 -- A CHANGE: the tree that it makes of a tree, and what is so of one that the arrays have room for.
-abbrev pub changed : (ℕ → Literal) → Tree → Change → specification.Tree
-changed f t c = record {
-  branch = map f (take c.cut t.branch) ++ map f (codes_of c.adds);
-  waiting = map (waiting_of f) (begun_of c.begun) ++ stack_of f t.waiting c.kept;
-}
+abbrev pub codes_after : List ℕ → Change → List ℕ
+codes_after B c = take c.cut B ++ codes_of c.adds
 
-pub record Fits (e : Extent) (c : Change) : Type 0 where
-  pub cut : c.cut ≤ e.len
+abbrev pub waiting_after : List ℕ → List ℕ → Change → List ℕ
+waiting_after words W c = take c.kept W ++ reverse (begun_of words c.cut c.begun)
+
+abbrev pub changed : (ℕ → Literal) → List ℕ → List ℕ → List ℕ → Change → specification.Tree
+changed f words B W c = tree_in f (codes_after B c) (waiting_after words W c)
+
+pub record Fits (B W : List ℕ) (c : Change) : Type 0 where
+  pub cut : c.cut ≤ length B
   pub adds : AtMost 3 c.adds
   pub places : c.cut + c.adds.count ≤ max_places
-  pub kept : c.kept ≤ e.count
-  pub waiting : c.kept + c.begun.count ≤ max_waiting
-  pub begun : MayWait c.begun
+  pub kept : c.kept ≤ length W
+  pub waiting : c.kept + begun_count c.begun ≤ max_waiting
+  pub begun : MayBegin c.cut c.begun
 
--- the change that leaves the tree as it is
+-- the change that adds an alternative, and keeps all that waits
+abbrev pub split_into : List ℕ → List ℕ → Alternative → Begun → Change
+split_into B W a b = record { cut = length B; adds = a; kept = length W; begun = b }
+
 abbrev pub no_literals : Alternative
 no_literals = record { count = 0; first = 0; second = 0; third = 0 }
 
-abbrev pub none_begun : Begun
-none_begun = record { count = 0; first = 0; last = 0 }
-
-abbrev pub unchanged_from : Extent → Change
-unchanged_from e = record { cut = e.len; adds = no_literals; kept = e.count; begun = none_begun }
-
 -- what is stored for a change
-pub record Stored (t : Tree) (c : Change) (t' : Tree) : Type 0 where
-  pub branch : Appended t.branch c.cut (codes_of c.adds) t'.branch t'.len
-  pub waiting : Pushed t.waiting c.kept (begun_of c.begun) t'.waiting t'.count
+pub record Stored (words : List ℕ) (t : Tree) (c : Change) (t' : Tree) : Type 0 where
+  pub within : Within t'
+  pub branch : codes_in t' ≡ codes_after (codes_in t) c
+  pub waiting : waiting_in t' ≡ waiting_after words (waiting_in t) c
 
--- A CLAUSE SPLIT into its literals, which stand in an array: the first is added, the others begin to wait
-abbrev pub split_by : (ℕ → Literal) → List ℕ → Tree → Span → specification.Tree
-split_by f words t s = record {
-  branch = map f (take t.len t.branch) ++ map f (codes_at words s.from 1);
-  waiting = map (waiting_of f) (map (packed_one t.len) (codes_at words (suc s.from) (s.count - 1))) ++ stack_of f t.waiting t.count;
-}
+-- CHECKS 15 AND 16, by the length of the longest alternative and the number of those that begin to wait
+abbrev pub room_for : List ℕ → List ℕ → ℕ → ℕ → Result (Unit {0}) Reason
+room_for B W literals begun =
+    if nat_lt max_places (length B + literals) then Err Reason.BranchFull
+    else (if nat_lt max_waiting (length W + begun) then Err Reason.WaitingFull else Ok tt)
 
--- the arrays have room for it
-pub record SplitFits (e : Extent) (s : Span) : Type 0 where
-  pub some : 1 ≤ s.count
-  pub inside : s.from + s.count ≤ max_clause_lines
-  pub places : e.len < max_places
-  pub waiting : e.count + (s.count - 1) ≤ max_waiting
+-- A STEP: for every reading of the codes, its change or refusal is what the specification says of its alternatives. Literals that begin to wait stand in an array.
+abbrev pub opened : (ℕ → Literal) → List ℕ → List ℕ → List ℕ → Result Change Reason → Checked Status
+opened f words B W (Ok c) = passed (is_open (changed f words B W c))
+opened f words B W (Err r) = refused r
 
--- what is stored for it
-pub record SplitStored (words : List ℕ) (t : Tree) (s : Span) (t' : Tree) : Type 0 where
-  pub branch : Appended t.branch t.len (codes_at words s.from 1) t'.branch t'.len
-  pub waiting : Pushed t.waiting t.count (map (packed_one t.len) (codes_at words (suc s.from) (s.count - 1))) t'.waiting t'.count
+pub record SplitsAt (words B W : List ℕ) (ks : List (List ℕ)) (r : Result Change Reason) : Type 0 where
+  pub fits : IfOk r (Fits B W)
+  pub result : (f : ℕ → Literal) → opened f words B W r ≡ grown (tree_in f B W) (map (map f) ks)
 
--- THE GROWTH of a tree by a step, as the specification says it
-abbrev pub grown_by : (ℕ → Literal) → Tree → Growth → Checked Status
-grown_by f t (Growth.To c) = passed (is_open (changed f t c))
-grown_by f t Growth.Closed = passed is_closed
-grown_by f t (Growth.Refused r) = refused r
+abbrev pub Splits : List ℕ → List ℕ → List (List ℕ) → Result Change Reason → Type 0
+Splits B W ks r = (words : List ℕ) → SplitsAt words B W ks r
 
-abbrev pub FitsIn : Extent → Growth → Type 0
-FitsIn e (Growth.To c) = Fits e c
-FitsIn e Growth.Closed = Unit {0}
-FitsIn e (Growth.Refused r) = Unit {0}
+-- A CLOSING: its change, or that the tree is closed
+abbrev pub status_after : (ℕ → Literal) → List ℕ → List ℕ → List ℕ → Option Change → Status
+status_after f words B W (Some c) = is_open (changed f words B W c)
+status_after f words B W None = is_closed
 
--- For every tree of this extent and every reading of the codes, the growth is what g says of the tree.
-pub record Gives (e : Extent) (g : (ℕ → Literal) → specification.Tree → Checked Status) (r : Growth) : Type 0 where
-  pub fits : (t : Tree) → Within t → extent_of t ≡ e → FitsIn e r
-  pub result : (t : Tree) → Within t → extent_of t ≡ e → (f : ℕ → Literal) → grown_by f t r ≡ g f (tree_of f t)
+pub record Closes (B W : List ℕ) (o : Option Change) : Type 0 where
+  pub fits : AreCodes B → AreWaiting W → IfSome o (Fits B W)
+  pub result : (f : ℕ → Literal) (words : List ℕ) → status_after f words B W o ≡ close (tree_in f B W).branch (tree_in f B W).waiting

@@ -1,12 +1,11 @@
 -- What the arrays of the tree state hold. A literal is a number here, its code; the definitions are for any reading f of the codes.
-use Rattle.std.specs.Prelude.{◌≡◌, Bool, List, [], ◌∷◌, ◌++◌, map, ℕ, zero, suc, ◌+◌, ◌*◌, ◌/◌, ◌%◌, ◌^◌, ◌≤◌, ◌<◌, length, take, get_or}
+use Rattle.std.specs.Prelude.{◌≡◌, Bool, List, [], ◌∷◌, map, ℕ, ◌+◌, ◌*◌, ◌/◌, ◌%◌, ◌^◌, ◌≤◌, ◌<◌, length, take, reverse, get_or, All}
 use Rattle.std.specs.Prelude.{Some}
 use Rattle.tableau.specs.Terms.{Literal}
 use Rattle.tableau.specs.Tree as specification
 use Rattle.tableau.specs.Tree.{literal_at, on_branch, max_places, max_waiting, Waiting}
 use Rattle.packing.specs.Packing.{code_limit, unpack_literal}
 use Rattle.tree.specs.declared.Alternative.{Alternative}
-use Rattle.tree.specs.declared.Begun.{Begun}
 use Rattle.tree.specs.declared.Tree.{Tree}
 
 -- ALTERNATIVES: the codes that one adds, in order.
@@ -66,49 +65,33 @@ pub record IsAt (codes : List ℕ) (p r : ℕ) : Type 0 where
   pub bounded : r < code_limit
   pub literal : (f : ℕ → Literal) → literal_at (map f codes) p ≡ Some (f r)
 
--- more codes behind the first n, and the new length
-pub record Appended (array : List ℕ) (n : ℕ) (more : List ℕ) (array' : List ℕ) (n' : ℕ) : Type 0 where
-  pub count : n' ≡ n + length more
-  pub branch : IsBranch array' n'
-  pub codes : take n' array' ≡ take n array ++ more
+-- WHAT WAITS: packed alternatives, each of which the branch has room for. The last is taken next.
+abbrev pub HasRoom : ℕ → Type 0
+HasRoom w = cut_of w + (unpacked w).count ≤ max_places
 
--- WHAT WAITS: an array whose first n numbers are packed alternatives, each of which the branch has room for. The last is taken next.
-pub record IsStack (array : List ℕ) (n : ℕ) : Type 0 where
-  pub size : length array ≡ max_waiting
-  pub room : n ≤ max_waiting
-  pub places : (k : ℕ) → cut_of (get_or array k 0) + (unpacked (get_or array k 0)).count ≤ max_places
+pub record AreWaiting (waiting : List ℕ) : Type 0 where
+  pub room : length waiting ≤ max_waiting
+  pub places : All HasRoom waiting
 
 abbrev pub waiting_of : (ℕ → Literal) → ℕ → Waiting
 waiting_of f w = record { length = cut_of w; alternative = map f (codes_of (unpacked w)) }
 
-abbrev pub stack_of : (ℕ → Literal) → List ℕ → ℕ → List Waiting
-stack_of f array zero = []
-stack_of f array (suc n) = waiting_of f (get_or array n 0) ∷ stack_of f array n
+-- THE TREE that codes and packed alternatives stand for
+abbrev pub tree_in : (ℕ → Literal) → List ℕ → List ℕ → specification.Tree
+tree_in f branch waiting = record { branch = map f branch; waiting = map (waiting_of f) (reverse waiting) }
 
--- the packed alternative that is taken next; 0 where none waits
-abbrev pub top_of : List ℕ → ℕ → ℕ
-top_of array zero = 0
-top_of array (suc n) = get_or array n 0
+-- and a state, and what is always so of one
+abbrev pub codes_in : Tree → List ℕ
+codes_in t = take t.len t.branch
 
--- the packed alternatives that begin to wait, the one that is taken first in front
-abbrev pub begun_of : Begun → List ℕ
-begun_of b = take b.count (b.first ∷ b.last ∷ [])
+abbrev pub waiting_in : Tree → List ℕ
+waiting_in t = take t.count t.waiting
 
--- the branch has room for each of them
-pub record MayWait (b : Begun) : Type 0 where
-  pub count : b.count ≤ 2
-  pub first : cut_of b.first + (unpacked b.first).count ≤ max_places
-  pub last : cut_of b.last + (unpacked b.last).count ≤ max_places
-
--- packed alternatives on top of the first n, and the new count
-pub record Pushed (array : List ℕ) (n : ℕ) (more : List ℕ) (array' : List ℕ) (n' : ℕ) : Type 0 where
-  pub stack : IsStack array' n'
-  pub waiting : (f : ℕ → Literal) → stack_of f array' n' ≡ map (waiting_of f) more ++ stack_of f array n
-
--- THE TREE that a state stands for, and what is always so of a state.
 abbrev pub tree_of : (ℕ → Literal) → Tree → specification.Tree
-tree_of f t = record { branch = map f (take t.len t.branch); waiting = stack_of f t.waiting t.count }
+tree_of f t = tree_in f (codes_in t) (waiting_in t)
 
 pub record Within (t : Tree) : Type 0 where
-  pub branch : IsBranch t.branch t.len
-  pub waiting : IsStack t.waiting t.count
+  pub len : t.len ≤ max_places
+  pub count : t.count ≤ max_waiting
+  pub branch : AreCodes (codes_in t)
+  pub waiting : AreWaiting (waiting_in t)

@@ -1,17 +1,15 @@
 // The tree: the branch and the alternatives that wait. A literal is one number here, its code; the contracts hold for every reading of
-// the codes as literals. A method with `mut self` that is called for a step would copy the arrays, so what a step makes of the tree is
-// worked out from its extent alone, and then stored in place, one array a call.
+// the codes as literals. What a step makes of the tree is worked out as a small value, a change, and then stored in place: a method by
+// `mut self` for each step would copy the arrays.
 #![tactic(auto)]
 
-ghost use Rattle.std.specs.Prelude.{◌≡◌, true, [], ◌∷◌, map, ℕ, suc, ◌+◌, ◌-◌, ◌≤◌, ◌<◌, length, get_or};
+ghost use Rattle.std.specs.Prelude.{◌≡◌, true, [], ◌∷◌, ◌++◌, ℕ, suc, ◌+◌, ◌≤◌, ◌<◌, length, take, reverse, get_or};
 ghost use Rattle.tableau.specs.Terms.{Literal};
-ghost use Rattle.tableau.specs.Tree.{max_places, max_waiting, root, passed, close, grown};
-ghost use Rattle.tableau.specs.Reply.{max_clause_lines};
+ghost use Rattle.tableau.specs.Tree.{max_places, max_waiting, root};
 ghost use Rattle.packing.specs.Packing.{code_limit};
-ghost use Rattle.clauses.specs.Held.{codes_at};
-ghost use Rattle.tree.specs.State.{codes_of, AtMost, one_code, packed, packed_one, cut_of, unpacked, AreCodes, IsBranch, HasPlace, IsAt, Appended};
-ghost use Rattle.tree.specs.State.{IsStack, top_of, begun_of, MayWait, Pushed, tree_of, Within};
-ghost use Rattle.tree.specs.Change.{no_literals, none_begun, unchanged_from, InLimits, Gives};
+ghost use Rattle.tree.specs.State.{codes_of, AtMost, one_code, packed, cut_of, unpacked, AreCodes, HasPlace, IsAt, AreWaiting};
+ghost use Rattle.tree.specs.State.{codes_in, waiting_in, tree_of, Within};
+ghost use Rattle.tree.specs.Change.{no_literals, split_into, room_for, begun_of, begun_count, MayBegin, Fits, Splits, Closes, Stored};
 
 use clauses::Span;
 use tableau::{Place, Reason};
@@ -35,21 +33,20 @@ pub struct Tree {
     pub count: usize,
 }
 
-// How far the arrays of a tree are filled, and the alternative that is taken next (0: none waits). What a step makes of the tree depends on
-// nothing else of it.
+// What a tree's arrays hold: the codes of its branch, and the packed alternatives that wait.
 #[derive(Clone, Copy)]
-pub struct Extent {
-    pub len: usize,
-    pub count: usize,
-    pub top: u64,
+pub struct TreeView<'a> {
+    pub branch: &'a [u32],
+    pub waiting: &'a [u64],
 }
 
-// Packed alternatives that begin to wait: the first `count` of two, the first of them taken first.
+// What begins to wait: packed alternatives, of two the first is taken first; or the literals of a span, each an alternative of its own.
 #[derive(Clone, Copy)]
-pub struct Begun {
-    pub count: usize,
-    pub first: u64,
-    pub last: u64,
+pub enum Begun {
+    Nothing,
+    One(u64),
+    Two(u64, u64),
+    Each(Span),
 }
 
 // The branch is cut back to a length, and an alternative added there; some alternatives are kept waiting, and others begin to wait on
@@ -60,14 +57,6 @@ pub struct Change {
     pub adds: Alternative,
     pub kept: usize,
     pub begun: Begun,
-}
-
-// What a step makes of an open tree.
-#[derive(Clone, Copy)]
-pub enum Growth {
-    To(Change),
-    Closed,
-    Refused(Reason),
 }
 
 impl Alternative {
@@ -97,8 +86,7 @@ impl Alternative {
         Self {
             count: 1,
             first,
-            second: 0,
-            third: 0,
+            ..Self::none()
         }
     }
 
@@ -130,7 +118,7 @@ impl Alternative {
         requires { AtMost 2 self × (cut ≤ max_places) }
         ensures { result ≡ packed cut self }
     {
-        let codes = self.first as u64 + Self::CODES * self.second as u64;
+        let codes = u64::from(self.first) + Self::CODES * u64::from(self.second);
         cut as u64 + Self::CUTS * (self.count as u64 + Self::COUNTS * codes)
     }
 
@@ -154,115 +142,85 @@ impl Alternative {
     }
 }
 
-impl Begun {
-    fn none() -> Self
-        ensures { result ≡ none_begun }
-    {
-        Self {
-            count: 0,
-            first: 0,
-            last: 0,
-        }
-    }
-}
-
-impl Extent {
-    // The tree as it is.
-    pub fn unchanged(self) -> Change
-        ensures { result ≡ unchanged_from self }
+impl TreeView<'_> {
+    // The first alternative is added to the branch, and what begins to wait is put on top.
+    pub fn split(self, first: Alternative, begun: Begun) -> Change
+        ensures { result ≡ split_into self.entry.branch.now self.entry.waiting.now first begun }
     {
         Change {
-            cut: self.len,
-            adds: Alternative::none(),
-            kept: self.count,
-            begun: Begun::none(),
-        }
-    }
-
-    // A step with one alternative, with check 15.
-    pub fn extend(self, a: Alternative) -> Growth
-        requires { InLimits self × AtMost 3 a }
-        ensures { Gives self (λ f τ. grown τ (map (map f) (codes_of a ∷ []))) result }
-    {
-        let len = self.len;
-        let count = self.count;
-        if Tree::PLACES < len + a.count {
-            return Growth::Refused(Reason::BranchFull);
-        }
-        Growth::To(Change {
-            cut: len,
-            adds: a,
-            kept: count,
-            begun: Begun::none(),
-        })
-    }
-
-    // A step with two alternatives, with checks 15 and 16.
-    pub fn split2(self, first: Alternative, second: Alternative) -> Growth
-        requires { InLimits self × AtMost 3 first × AtMost 2 second }
-        ensures { Gives self (λ f τ. grown τ (map (map f) (codes_of first ∷ codes_of second ∷ []))) result }
-    {
-        let len = self.len;
-        let count = self.count;
-        if Tree::PLACES < len + first.count.max(second.count) {
-            return Growth::Refused(Reason::BranchFull);
-        }
-        if Tree::WAITING < count + 1 {
-            return Growth::Refused(Reason::WaitingFull);
-        }
-        Growth::To(Change {
-            cut: len,
+            cut: self.branch.len(),
             adds: first,
-            kept: count,
-            begun: Begun {
-                count: 1,
-                first: second.pack(len),
-                last: 0,
-            },
-        })
+            kept: self.waiting.len(),
+            begun,
+        }
     }
 
-    // The same with three.
-    pub fn split3(self, first: Alternative, second: Alternative, third: Alternative) -> Growth
-        requires { InLimits self × AtMost 3 first × AtMost 2 second × AtMost 2 third }
-        ensures { Gives self (λ f τ. grown τ (map (map f) (codes_of first ∷ codes_of second ∷ codes_of third ∷ []))) result }
+    // The tree as it is.
+    pub fn unchanged(self) -> Change
+        ensures { result ≡ split_into self.entry.branch.now self.entry.waiting.now no_literals Begun.Nothing }
     {
-        let len = self.len;
-        let count = self.count;
-        if Tree::PLACES < len + first.count.max(second.count).max(third.count) {
-            return Growth::Refused(Reason::BranchFull);
-        }
-        if Tree::WAITING < count + 2 {
-            return Growth::Refused(Reason::WaitingFull);
-        }
-        Growth::To(Change {
-            cut: len,
-            adds: first,
-            kept: count,
-            begun: Begun {
-                count: 2,
-                first: second.pack(len),
-                last: third.pack(len),
-            },
-        })
+        self.split(Alternative::none(), Begun::Nothing)
     }
 
-    // A closing step. The lesser of the recorded length and the length asks for no order among the recorded lengths.
-    pub fn close(self) -> Growth
-        ensures { Gives self (λ f τ. passed (close τ.branch τ.waiting)) result }
+    // Checks 15 and 16 of a step: its longest alternative has so many literals, and so many alternatives begin to wait.
+    pub fn require_room(self, literals: usize, begun: usize) -> Result<(), Reason>
+        requires { AreCodes self.branch.now × AreWaiting self.waiting.now }
+        ensures { result ≡ room_for self.entry.branch.now self.entry.waiting.now literals begun }
     {
-        let len = self.len;
-        let count = self.count;
-        let top = self.top;
-        if count == 0 {
-            return Growth::Closed;
+        if Tree::PLACES - self.branch.len() < literals {
+            return Err(Reason::BranchFull);
         }
-        let recorded = Alternative::cut(top);
-        Growth::To(Change {
-            cut: recorded.min(len),
-            adds: Alternative::unpack(top),
-            kept: count - 1,
-            begun: Begun::none(),
+        if Tree::WAITING - self.waiting.len() < begun {
+            return Err(Reason::WaitingFull);
+        }
+        Ok(())
+    }
+
+    // A step with one alternative.
+    pub fn extend(self, a: Alternative) -> Result<Change, Reason>
+        requires { AreCodes self.branch.now × AreWaiting self.waiting.now × AtMost 3 a }
+        ensures { Splits self.entry.branch.now self.entry.waiting.now (codes_of a ∷ []) result }
+    {
+        self.require_room(a.count, 0)?;
+        Ok(self.split(a, Begun::Nothing))
+    }
+
+    // A step with two alternatives.
+    pub fn split2(self, first: Alternative, second: Alternative) -> Result<Change, Reason>
+        requires { AreCodes self.branch.now × AreWaiting self.waiting.now × AtMost 3 first × AtMost 2 second }
+        ensures { Splits self.entry.branch.now self.entry.waiting.now (codes_of first ∷ codes_of second ∷ []) result }
+    {
+        self.require_room(first.count.max(second.count), 1)?;
+        let cut = self.branch.len();
+        Ok(self.split(first, Begun::One(second.pack(cut))))
+    }
+
+    // A step with three.
+    pub fn split3(
+        self,
+        first: Alternative,
+        second: Alternative,
+        third: Alternative,
+    ) -> Result<Change, Reason>
+        requires { AreCodes self.branch.now × AreWaiting self.waiting.now × AtMost 3 first × AtMost 2 second × AtMost 2 third }
+        ensures { Splits self.entry.branch.now self.entry.waiting.now (codes_of first ∷ codes_of second ∷ codes_of third ∷ []) result }
+    {
+        self.require_room(first.count.max(second.count).max(third.count), 2)?;
+        let cut = self.branch.len();
+        Ok(self.split(first, Begun::Two(second.pack(cut), third.pack(cut))))
+    }
+
+    // A closing step; where no alternative waits, the tree is closed. The lesser of the recorded length and the length asks for no order among
+    // the recorded lengths.
+    pub fn close(self) -> Option<Change>
+        ensures { Closes self.entry.branch.now self.entry.waiting.now result }
+    {
+        let (top, kept) = self.waiting.split_last()?;
+        Some(Change {
+            cut: Alternative::cut(*top).min(self.branch.len()),
+            adds: Alternative::unpack(*top),
+            kept: kept.len(),
+            begun: Begun::Nothing,
         })
     }
 }
@@ -283,6 +241,17 @@ impl Tree {
         }
     }
 
+    pub fn view(&self) -> TreeView<'_>
+        requires { Within self.now }
+        ensures branch { result.branch.now ≡ codes_in self.now }
+        ensures waiting { result.waiting.now ≡ waiting_in self.now }
+    {
+        TreeView {
+            branch: &self.branch[..self.len],
+            waiting: &self.waiting[..self.count],
+        }
+    }
+
     // check 11
     pub fn has_place(len: usize, place: Place) -> bool
         ensures { HasPlace len place.0 result }
@@ -297,78 +266,65 @@ impl Tree {
         branch[place.0 - 1]
     }
 
+    // The change of a step. Literals that begin to wait stand in the array.
+    pub fn apply(&mut self, change: Change, literals: &[u32; clauses::WORDS])
+        requires within { Within self.old }
+        requires fits { Fits (codes_in self.old) (waiting_in self.old) change × ((i : ℕ) → get_or literals.now i 0 < code_limit) }
+        ensures { Stored literals.now self.old change self.new }
+    {
+        self.len = Self::append(&mut self.branch, change.cut, change.adds);
+        self.count = Self::push(
+            &mut self.waiting,
+            change.kept,
+            change.cut,
+            change.begun,
+            literals,
+        );
+    }
+
     // The result is the new length.
-    pub fn append(branch: &mut [u32; Tree::PLACES], len: usize, a: Alternative) -> usize
-        requires { IsBranch branch.old len × AtMost 3 a × (len + a.count ≤ max_places) }
-        ensures { Appended branch.old len (codes_of a) branch.new result }
+    fn append(branch: &mut [u32; Tree::PLACES], len: usize, a: Alternative) -> usize
+        requires { AtMost 3 a × (len + a.count ≤ max_places) }
+        ensures count { result ≡ len + a.count }
+        ensures after { take result branch.new ≡ take len branch.old ++ codes_of a }
     {
-        let n = a.count;
-        if n == 0 {
-            return len;
-        }
-        branch[len] = a.first;
-        if n == 1 {
-            return len + 1;
-        }
-        branch[len + 1] = a.second;
-        if n == 2 {
-            return len + 2;
-        }
-        branch[len + 2] = a.third;
-        len + 3
+        let end = len + a.count;
+        branch[len..end].copy_from_slice(&[a.first, a.second, a.third][..a.count]);
+        end
     }
 
-    // The alternative that is taken next, 0 where none waits.
-    pub fn top(waiting: &[u64; Tree::WAITING], count: usize) -> u64
-        requires { count ≤ max_waiting }
-        ensures { result ≡ top_of waiting.now count }
-    {
-        if 0 < count {
-            return waiting[count - 1];
-        }
-        0
-    }
-
-    // The result is the new count.
-    pub fn push(waiting: &mut [u64; Tree::WAITING], kept: usize, b: Begun) -> usize
-        requires { IsStack waiting.old kept × (kept + b.count ≤ max_waiting) × MayWait b }
-        ensures { Pushed waiting.old kept (begun_of b) waiting.new result }
-    {
-        let n = b.count;
-        if n == 0 {
-            return kept;
-        }
-        if n == 1 {
-            waiting[kept] = b.first;
-            return kept + 1;
-        }
-        waiting[kept] = b.last;
-        waiting[kept + 1] = b.first;
-        kept + 2
-    }
-
-    // The literals of a span but the first, each an alternative of its own, of a split where the branch has `cut` literals. The second of the span is taken first. The
-    // result is the new count.
-    pub fn push_rest(
+    // What begins to wait where the branch has `cut` literals. The result is the new count.
+    fn push(
         waiting: &mut [u64; Tree::WAITING],
         kept: usize,
         cut: usize,
+        begun: Begun,
         literals: &[u32; clauses::WORDS],
-        span: Span,
     ) -> usize
-        requires stack { IsStack waiting.old kept × (1 ≤ span.count) × (kept + (span.count - 1) ≤ max_waiting) × (cut < max_places) }
-        requires count_bound { (span.from + span.count ≤ max_clause_lines) × ((i : ℕ) → get_or literals.now i 0 < code_limit) }
-        ensures { Pushed waiting.old kept (map (packed_one cut) (codes_at literals.now (suc span.from) (span.count - 1)))
-            waiting.new result }
+        requires room { (kept + begun_count begun ≤ max_waiting) × MayBegin cut begun }
+        requires bounded { (i : ℕ) → get_or literals.now i 0 < code_limit }
+        ensures count { result ≡ kept + begun_count begun }
+        ensures after { take result waiting.new ≡ take kept waiting.old ++ reverse (begun_of literals.now cut begun) }
     {
-        let from = span.from + 1;
-        let mut count = kept;
-        let mut i = span.from + span.count;
-        while from < i {
-            i -= 1;
-            waiting[count] = Alternative::one(literals[i]).pack(cut);
-            count += 1;
+        match begun {
+            Begun::Nothing => kept,
+            Begun::One(only) => {
+                waiting[kept] = only;
+                kept + 1
+            }
+            Begun::Two(first, last) => {
+                waiting[kept] = last;
+                waiting[kept + 1] = first;
+                kept + 2
+            }
+            Begun::Each(span) => {
+                let mut count = kept;
+                for i in (span.from..span.from + span.count).rev() {
+                    waiting[count] = Alternative::one(literals[i]).pack(cut);
+                    count += 1;
+                }
+                count
+            }
         }
-        count
     }
 }

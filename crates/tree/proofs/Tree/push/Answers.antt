@@ -1,18 +1,29 @@
--- One law for each store, from none on.
-use native.Mathlib.Omega.{arith}
-use Prim.Native.Nat.{◌+◌}
-use mathlib.Core.Path.{◌≡◌, refl}
-use Rattle.tree.proofs.Waiting.{push_none, push_one}
+-- One more of the literals of a span is stored.
+use Rattle.std.proofs.Common.{◌≡◌, ap, ◌+◌, ◌-◌, ◌<◌, length, arith}
+use Rattle.std.proofs.lemmas.List.{take_more_set, append_assoc}
+use Rattle.tree.specs.Change.{begun_count}
+use Rattle.tree.proofs.Waiting.{each_more}
 use Rattle.tree.proofs.Tree.push.Goals as goal
 
-pub returns-then-n-eq0 : goal.returns-then-n-eq0
-returns-then-n-eq0 c = rw c.if-n-eq0.true (push_none c.requires.0)
+pub loop-i-preserved : goal.loop-i-preserved
+loop-i-preserved c =
+    let v = c.loop-i.invariant in
+    let i = c.loop-i.i in
+    let end = c.in-Each.span.from + c.in-Each.span.count in
+    let n : begun_count c.args.begun ≡ c.in-Each.span.count = ap begun_count c.in-Each.is in
+    let room : c.loop-i.count < length c.loop-i.waiting = omega arith in
+    record {
+      from = omega arith;
+      stored = omega arith;
+      waiting = rw (take_more_set, v.waiting, c.pack.ensures, c.one.ensures.1, each_more c.args.literals.now c.args.cut i (i - 1) (end - i) (end - (i - 1)) (omega arith) (omega arith), append_assoc);
+    }
 
-pub returns-then-n-eq1 : goal.returns-then-n-eq1
-returns-then-n-eq1 c = rw c.if-n-eq1.true (push_one _ _ (push_none c.requires.0) (omega arith) c.requires.2.first refl)
+pub returns-after-loop-i-clause-count : goal.returns-after-loop-i-clause-count
+returns-after-loop-i-clause-count c = omega (arith, ap begun_count c.in-Each.is)
 
-pub returns : goal.returns
-returns c =
-    let both : c.args.b.count ≡ 2 = omega (arith, c.requires.2.count) in
-    let one = push_one (c.args.kept + 1) c.args.b.last (push_none c.requires.0) (omega arith) c.requires.2.last refl in
-    rw both (push_one _ _ one (omega arith) c.requires.2.first (omega arith))
+pub returns-after-loop-i-clause-after : goal.returns-after-loop-i-clause-after
+returns-after-loop-i-clause-after c =
+    let v = c.loop-i.invariant in
+    let i : c.loop-i.i ≡ c.in-Each.span.from = omega arith in
+    let n : c.in-Each.span.from + c.in-Each.span.count - c.in-Each.span.from ≡ c.in-Each.span.count = omega arith in
+    rw c.in-Each.is (rw (i, n) at v.waiting)

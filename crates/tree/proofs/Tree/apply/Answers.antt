@@ -1,0 +1,6 @@
+use Rattle.tree.proofs.Changes.{stored}
+use Rattle.tree.proofs.Tree.apply.Goals as goal
+
+pub returns : goal.returns
+returns c =
+    stored _ c.requires.fits.1 _ c.requires.within _ c.requires.fits.0 _ c.append-self.ensures.count c.push-self.ensures.count c.append-self.ensures.after c.push-self.ensures.after
