@@ -10,7 +10,7 @@ ghost use Rattle.reply.specs.Verdict.{verdict_of, reply_record};
 
 pub use buffer::{put_numbers, write_numbers};
 pub use line::{put_decimal, put_fields, write_line};
-use tableau::Reason;
+use tableau::{Reason, Refusal};
 
 // The counts after a yes.
 #[derive(Clone, Copy)]
@@ -21,12 +21,8 @@ pub struct Counts {
     pub closings: usize,
 }
 
-// What the lines of a file come to: a yes, or the reason of the first bad line with its number.
-#[derive(Clone, Copy)]
-pub enum Verdict {
-    Accepted(Counts),
-    Refused(Reason, usize),
-}
+// What the lines of a file come to: a yes, or the first bad line.
+pub type Verdict = Result<Counts, Refusal>;
 
 // The numbers of a reply, and whether it is a yes.
 #[derive(Clone, Copy)]
@@ -100,31 +96,25 @@ pub fn reply_of(verdict: Verdict) -> Reply
     ensures { reply_record result ≡ reply_of (verdict_of verdict) }
 {
     match verdict {
-        Verdict::Accepted(counts) => {
-            let terms = counts.terms;
-            let assumptions = counts.assumptions;
-            let steps = counts.steps;
-            let closings = counts.closings;
-            Reply {
-                is_yes: true,
-                number: 0,
-                line: 0,
-                terms: terms,
-                assumptions: assumptions,
-                steps: steps,
-                closings: closings,
-                place: 0,
-            }
-        }
-        Verdict::Refused(reason, line) => Reply {
+        Ok(counts) => Reply {
+            is_yes: true,
+            number: 0,
+            line: 0,
+            terms: counts.terms,
+            assumptions: counts.assumptions,
+            steps: counts.steps,
+            closings: counts.closings,
+            place: 0,
+        },
+        Err(refusal) => Reply {
             is_yes: false,
-            number: reason_number(reason),
-            line: line,
+            number: reason_number(refusal.reason),
+            line: refusal.line,
             terms: 0,
             assumptions: 0,
             steps: 0,
             closings: 0,
-            place: reason_place(reason),
+            place: reason_place(refusal.reason),
         },
     }
 }

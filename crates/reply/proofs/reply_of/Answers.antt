@@ -2,10 +2,10 @@
 use Rattle.tableau.specs.Reply.{reply_of}
 use Rattle.reply.proofs.reply_of.Goals as goal
 
-pub returns-in-Accepted : goal.returns-in-Accepted
+pub returns-in-Ok : goal.returns-in-Ok
 unfolding reply_of
-returns-in-Accepted c = rw c.in-Accepted.is
+returns-in-Ok c = rw c.in-Ok.is
 
-pub returns-in-Refused : goal.returns-in-Refused
+pub returns-in-Err : goal.returns-in-Err
 unfolding reply_of
-returns-in-Refused c = rw (c.in-Refused.is, c.reason_number.ensures, c.reason_place.ensures)
+returns-in-Err c = rw (c.in-Err.is, c.reason_number.ensures, c.reason_place.ensures)
