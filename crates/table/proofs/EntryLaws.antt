@@ -1,15 +1,11 @@
 -- What the arrays tell of the table that they hold.
 use mathlib.Core.Path.{◌≡◌, refl, sym, ◌∙◌, ap}
 use mathlib.Core.List.{List}
-use mathlib.Core.Logic.{inl, inr}
 use Rattle.std.specs.Prelude.{Option, None, Some}
-use Prim.Native.Nat.{ℕ, suc, ◌+◌, ◌<◌, ◌≤◌}
+use Prim.Native.Nat.{ℕ, suc, ◌<◌, ◌≤◌}
 use native.Mathlib.Omega.{arith}
-use lib.Dec.{ltb}
 use lib.ListN.{length, get_or}
-use borrow.Author.Tests.{ltb-true, ltb-false}
 use Rattle.tableau.specs.Terms.{TermNo, Table, Term, at, number_of}
-use Rattle.tableau.proofs.Bools.{dec}
 use Rattle.packing.specs.Packing.{pack_term, Packs}
 use Rattle.tableau.specs.declared.TermNumber.{TermNumber}
 use Rattle.table.specs.Held.{Entries, Searchable, Absent, Sought, found_of, SmallFound}
@@ -48,19 +44,3 @@ found_small table terms E e = go (number_of table e) refl
     go : (o : Option TermNo) → number_of table e ≡ o → SmallFound (found_of o)
     go None q = tt
     go (Some j) q = let l : j ≤ length table = (found_in table e j q).last in omega (arith, E.few)
-
--- TERMS THAT ARE NOT the one looked for, one after the other
-pub absent_none : (terms : List ℕ) (p first : ℕ) → Absent terms p first first
-absent_none terms p first j l m q = absurd (omega arith)
-
-pub absent_more : (terms : List ℕ) (p first last n : ℕ) → Absent terms p first last → (get_or terms last 0 ≡ p → ⊥) → n ≡ last + 1 → Absent terms p first n
-absent_more terms p first last n a d next j l m q = elim (dec (ltb j last)) [
-  | inl z ↦ a j l (ltb-true j last z) q
-  | inr z ↦ let e : j ≡ last = omega (arith, ltb-false j last z) in d (rw e at q)
-]
-
-pub absent_both : (terms : List ℕ) (p first mid last : ℕ) → Absent terms p first mid → Absent terms p mid last → Absent terms p first last
-absent_both terms p first mid last a b j l m q = elim (dec (ltb j mid)) [
-  | inl z ↦ a j l (ltb-true j mid z) q
-  | inr z ↦ b j (ltb-false j mid z) m q
-]

@@ -17,8 +17,11 @@ pub record Entries (table : Table) (terms : List ℕ) : Type 0 where
 abbrev pub hashes : ℕ
 hashes = 1024
 
+abbrev pub mixed : ℕ → ℕ → ℕ → ℕ
+mixed low high p = (p % 268435456 * low + p / 268435456 % 268435456 * high) / 33554432 % hashes
+
 unfoldable pub hash_of : ℕ → ℕ
-hash_of p = (p % 268435456 * 26004655931 + p / 268435456 % 268435456 * 33930833365) / 33554432 % hashes
+hash_of p = mixed 26004655931 33930833365 p
 
 -- the length of the chains' array: a head for each hash, a link for each number of a term
 abbrev pub links : ℕ
