@@ -1,14 +1,12 @@
 -- Laws of the masks of used fields.
-use mathlib.Core.Bool.{true, false, ◌||◌}
+use mathlib.Core.Bool.{◌&&◌, ◌||◌}
 use mathlib.Core.Path.{◌≡◌, refl}
 use Prim.Native.Nat.{ℕ}
 use lib.Dec.{eqb}
-use borrow.Author.Tests.{eqb-true}
 use Rattle.tableau.specs.declared.Relation.{Relation}
 use Rattle.tableau.specs.Basics.{Four, every}
 use Rattle.tableau.specs.Fields.{Use, unused, place, name, side, clause, term, of, sides, clause_fields}
 use Rattle.tableau.specs.Reply.{zero_if_unused}
-use Rattle.tableau.proofs.Bools.{every_true}
 use Rattle.syntax.specs.Syntax.{mask_of}
 use Rattle.syntax.proofs.Masks.{is_used, has, bits_of}
 
@@ -23,22 +21,16 @@ zero_if (of s) n = refl
 
 -- the four tests of a mask say what the check says
 module _ (f : Four Use) (used : ℕ) (e : used ≡ mask_of f) where
-  pub tests : (n : ℕ) → (zero_if_unused f.a n ≡ has used 1 || eqb n 0) × (zero_if_unused f.b n ≡ has used 2 || eqb n 0)
+  tests : (n : ℕ) → (zero_if_unused f.a n ≡ has used 1 || eqb n 0) × (zero_if_unused f.b n ≡ has used 2 || eqb n 0)
       × (zero_if_unused f.c n ≡ has used 4 || eqb n 0) × (zero_if_unused f.d n ≡ has used 8 || eqb n 0)
   tests n =
       let k = bits_of f used e in
       (rw (k.0, zero_if), rw (k.1, zero_if), rw (k.2, zero_if), rw (k.3, zero_if))
 
-  -- so where the check passes, a field outside the mask is 0
-  pub zeros : (k : Four ℕ) → every zero_if_unused f k ≡ true
-      → (has used 1 ≡ false → k.a ≡ 0) × (has used 2 ≡ false → k.b ≡ 0)
-      × (has used 4 ≡ false → k.c ≡ 0) × (has used 8 ≡ false → k.d ≡ 0)
-  zeros k h = let t = every_true zero_if_unused f k h in (
-    λ z. eqb-true k.a 0 (rw ((tests k.a).0, z) at t.0),
-    λ z. eqb-true k.b 0 (rw ((tests k.b).1, z) at t.1),
-    λ z. eqb-true k.c 0 (rw ((tests k.c).2, z) at t.2),
-    λ z. eqb-true k.d 0 (rw ((tests k.d).3, z) at t.3),
-  )
+  -- so do the four of a line
+  pub every_field : (k : Four ℕ) → every zero_if_unused f k
+      ≡ (has used 1 || eqb k.a 0) && ((has used 2 || eqb k.b 0) && ((has used 4 || eqb k.c 0) && (has used 8 || eqb k.d 0)))
+  every_field k = rw ((tests k.a).0, (tests k.b).1, (tests k.c).2, (tests k.d).3)
 
 -- a literal uses two fields on an A line, three on a C line
 pub literal_masks : (R : Relation) → (3 ≡ mask_of (sides R)) × (7 ≡ mask_of (clause_fields R))

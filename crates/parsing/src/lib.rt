@@ -14,65 +14,36 @@ ghost use Rattle.parsing.specs.Taken.{literal_fields, TermTakenAs, LiteralTakenA
 
 use lines::LineFields;
 use syntax::{Arguments, Literal, Mask, Step, Term, ThirdField};
-use tableau::{ClauseNumber, Letter, Name, Place, Relation, Rule, Side, TermNumber, Word};
-use words::{RuleRow, WordRow};
-
-#[derive(Clone, Copy)]
-pub enum TermTaken {
-    Term(Term),
-    UnusedField,
-}
-
-#[derive(Clone, Copy)]
-pub enum LiteralTaken {
-    Literal(Literal),
-    UnusedField,
-}
-
-#[derive(Clone, Copy)]
-pub enum StepTaken {
-    Step(Step),
-    UnusedField,
-}
+use tableau::{ClauseNumber, Letter, Name, Place, Reason, Relation, Rule, Side, TermNumber, Word};
+use words::Row;
 
 fn zero_if_unused(used: Mask, bit: u8, value: usize) -> bool
     ensures { result ≡ (not (eqb (bit_and used.0 bit) 0) || eqb value 0) }
 {
-    if used.0 & bit != 0 {
-        return true;
-    }
-    value == 0
+    used.0 & bit != 0 || value == 0
 }
 
 // Check 6 for any word, by the mask of its fields.
 fn unused_zero(used: Mask, f: LineFields) -> bool
     ensures { (u : Four Use) → used.0 ≡ mask_of u → result ≡ every zero_if_unused u (numbers_of f) }
 {
-    if !zero_if_unused(used, Mask::P, f.a) {
-        return false;
-    }
-    if !zero_if_unused(used, Mask::Q, f.b) {
-        return false;
-    }
-    if !zero_if_unused(used, Mask::T, f.c) {
-        return false;
-    }
-    zero_if_unused(used, Mask::W, f.d)
+    zero_if_unused(used, Mask::P, f.a)
+        && zero_if_unused(used, Mask::Q, f.b)
+        && zero_if_unused(used, Mask::T, f.c)
+        && zero_if_unused(used, Mask::W, f.d)
 }
 
 // A T line.
-pub fn term_of(row: WordRow, f: LineFields) -> TermTaken
+pub fn term_of(row: Row<Word>, f: LineFields) -> Result<Term, Reason>
     requires { WordFits row }
     ensures { TermTakenAs row.word (numbers_of f) result }
 {
-    let word = row.word;
-    let used = row.used;
-    if !unused_zero(used, f) {
-        return TermTaken::UnusedField;
+    if !unused_zero(row.used, f) {
+        return Err(Reason::UnusedField);
     }
-    match word {
-        Word::Variable(sort) => TermTaken::Term(Term::Variable(sort, Name(f.a))),
-        Word::Operation(operator) => TermTaken::Term(Term::Apply(
+    match row.word {
+        Word::Variable(sort) => Ok(Term::Variable(sort, Name(f.a))),
+        Word::Operation(operator) => Ok(Term::Apply(
             operator,
             Arguments {
                 a: TermNumber(f.a),
@@ -95,14 +66,14 @@ fn literal_mask(letter: Letter) -> Mask
 }
 
 // A line that holds a literal, by its letter: an A or a C line.
-pub fn literal_of(letter: Letter, relation: Relation, f: LineFields) -> LiteralTaken
+pub fn literal_of(letter: Letter, relation: Relation, f: LineFields) -> Result<Literal, Reason>
     ensures { LiteralTakenAs (literal_fields letter relation) relation (numbers_of f) result }
 {
     if !unused_zero(literal_mask(letter), f) {
-        return LiteralTaken::UnusedField;
+        return Err(Reason::UnusedField);
     }
-    LiteralTaken::Literal(Literal {
-        relation: relation,
+    Ok(Literal {
+        relation,
         left: TermNumber(f.a),
         right: TermNumber(f.b),
     })
@@ -120,22 +91,19 @@ fn third_of(rule: Rule, t: usize) -> ThirdField
 }
 
 // An S line.
-pub fn step_of(row: RuleRow, f: LineFields) -> StepTaken
+pub fn step_of(row: Row<Rule>, f: LineFields) -> Result<Step, Reason>
     requires { RuleFits row }
-    ensures { StepTakenAs row.rule (numbers_of f) result }
+    ensures { StepTakenAs row.word (numbers_of f) result }
 {
-    let rule = row.rule;
-    let used = row.used;
-    if !unused_zero(used, f) {
-        return StepTaken::UnusedField;
+    if !unused_zero(row.used, f) {
+        return Err(Reason::UnusedField);
     }
-    let third = third_of(rule, f.c);
-    StepTaken::Step(Step {
-        rule: rule,
-        used: used,
+    Ok(Step {
+        rule: row.word,
+        used: row.used,
         p: Place(f.a),
         q: Place(f.b),
-        t: third,
+        t: third_of(row.word, f.c),
         w: TermNumber(f.d),
     })
 }
