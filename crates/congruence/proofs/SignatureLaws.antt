@@ -18,22 +18,23 @@ use Rattle.packing.proofs.CongruenceLaws.{applied, applied_fields, one_operator,
 use Rattle.tableau.proofs.TableGrowth.{inside}
 use Rattle.table.specs.Held.{Entries}
 use Rattle.table.proofs.EntryLaws.{packs}
-use Rattle.partition.specs.Blocks.{block_of, IsPartition, Sound}
+use Rattle.partition.specs.declared.Partition.{Partition}
+use Rattle.partition.specs.Blocks.{block_of, Sound}
 use Rattle.congruence.specs.Signatures.{signature_of, sign_of}
 
 pub fields_small : (p : ℕ) → AllSmall (fields_in p)
 fields_small p = (omega arith, omega arith, omega arith, omega arith)
 
 -- SIGNATURES: the low bits and the fields
-module _ (blocks : List ℕ) (S : IsPartition blocks) (p : ℕ) where
+module _ (blocks : Partition) (p : ℕ) where
   signature_fields : fields_in (signature_of blocks p) ≡ map_four (block_of blocks) (fields_in p)
   signature_fields =
       let k : Four ℕ = map_four (block_of blocks) (fields_in p) in
       let s : ℕ = signature_of blocks p in
-      let a : s / 274877906944 % 1024 ≡ k.a = omega (arith, S.small (fields_in p).a, S.small (fields_in p).b, S.small (fields_in p).c, S.small (fields_in p).d) in
-      let b : s / 268435456 % 1024 ≡ k.b = omega (arith, S.small (fields_in p).b, S.small (fields_in p).c, S.small (fields_in p).d) in
-      let c : s / 262144 % 1024 ≡ k.c = omega (arith, S.small (fields_in p).c, S.small (fields_in p).d) in
-      let d : s / 256 % 1024 ≡ k.d = omega (arith, S.small (fields_in p).d) in
+      let a : s / 274877906944 % 1024 ≡ k.a = omega (arith, blocks.valid.small (fields_in p).a, blocks.valid.small (fields_in p).b, blocks.valid.small (fields_in p).c, blocks.valid.small (fields_in p).d) in
+      let b : s / 268435456 % 1024 ≡ k.b = omega (arith, blocks.valid.small (fields_in p).b, blocks.valid.small (fields_in p).c, blocks.valid.small (fields_in p).d) in
+      let c : s / 262144 % 1024 ≡ k.c = omega (arith, blocks.valid.small (fields_in p).c, blocks.valid.small (fields_in p).d) in
+      let d : s / 256 % 1024 ≡ k.d = omega (arith, blocks.valid.small (fields_in p).d) in
       λ i. four (a i) (b i) (c i) (d i)
 
   signature_low : signature_of blocks p % 256 ≡ p % 256
@@ -59,7 +60,7 @@ pub record AllFollow (table : Table) (B : List Literal) (k l : Four ℕ) : Type 
   pub c : Follows table B Relation.Eq k.c l.c
   pub d : Follows table B Relation.Eq k.d l.d
 
-pub blocks_follow : (table : Table) (B : List Literal) (blocks : List ℕ) → Sound table B blocks → (p : ℕ) → AllFollow table B (fields_in p) (map_four (block_of blocks) (fields_in p))
+pub blocks_follow : (table : Table) (B : List Literal) (blocks : Partition) → Sound table B blocks → (p : ℕ) → AllFollow table B (fields_in p) (map_four (block_of blocks) (fields_in p))
 blocks_follow table B blocks C p =
     let h = fields_small p in
     record { a = C _ h.0; b = C _ h.1; c = C _ h.2; d = C _ h.3 }
@@ -91,12 +92,12 @@ module _ (table : Table) (terms : List ℕ) (E : Entries table terms) where
       background.sub x.1 (y.1 ∙ ap (λ (o : Operator). apply o (fields_in (packed w))) (sym same)) x.2 S.a S.b S.c S.d
 
   -- terms of one signature
-  pub signed_follow : (B : List Literal) (blocks : List ℕ) → IsPartition blocks → Sound table B blocks → (t w : TermNo) → takes_arguments (packed t) ≡ true
+  pub signed_follow : (B : List Literal) (blocks : Partition) → Sound table B blocks → (t w : TermNo) → takes_arguments (packed t) ≡ true
       → signature_of blocks (packed t) ≡ signature_of blocks (packed w) → Follows table B Relation.Eq t w
-  signed_follow B blocks S C t w h e =
-      let low : packed t % 256 ≡ packed w % 256 = sym (signature_low blocks S (packed t)) ∙ ap (λ v. v % 256) e ∙ signature_low blocks S (packed w) in
+  signed_follow B blocks C t w h e =
+      let low : packed t % 256 ≡ packed w % 256 = sym (signature_low blocks (packed t)) ∙ ap (λ v. v % 256) e ∙ signature_low blocks (packed w) in
       let same : map_four (block_of blocks) (fields_in (packed w)) ≡ map_four (block_of blocks) (fields_in (packed t))
-      = sym (signature_fields blocks S (packed w)) ∙ ap fields_in (sym e) ∙ signature_fields blocks S (packed t) in
+      = sym (signature_fields blocks (packed w)) ∙ ap fields_in (sym e) ∙ signature_fields blocks (packed t) in
       alike_follow B t w h low
       (both_follow table B (fields_in (packed t)) (fields_in (packed w)) (map_four (block_of blocks) (fields_in (packed t))) (blocks_follow table B blocks C (packed t))
       (subst (λ v. AllFollow table B (fields_in (packed w)) v) same (blocks_follow table B blocks C (packed w))))

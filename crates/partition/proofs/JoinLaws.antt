@@ -134,6 +134,11 @@ unchanged P p = record { coarser = λ x y lx ly h. h; fewer = refl; sound = λ t
 pub joined_already : (p : Partition) (a b : TermNo) → block_of p a ≡ block_of p b → Joined p p a b false
 joined_already p a b e = record { change = unchanged _ p; together = e }
 
+-- a change that is sound where P holds, and so where Q does
+pub coarsened_where : (P Q : Table → List Literal → Type 0) (old new : Partition) (r : Bool) → Coarsened P old new r
+    → ((table : Table) (B : List Literal) → Q table B → Sound table B old → P table B) → Coarsened Q old new r
+coarsened_where P Q old new r C p = record { coarser = C.coarser; fewer = C.fewer; sound = λ table B q S. C.sound table B (p table B q S) S }
+
 pub fewer_then : (r s : Bool) (old mid new : Partition) → Fewer r old mid → Fewer s mid new → Fewer (r || s) old new
 fewer_then true true old mid new p q = omega arith
 fewer_then true false old mid new p q = subst (λ v. roots 1024 v < roots 1024 old) (sym q) p
