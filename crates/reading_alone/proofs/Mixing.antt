@@ -6,7 +6,6 @@ use Prim.Native.Nat.{ℕ, ◌<◌, ◌≤◌}
 use lib.ListN.{length, drop, drop_of_length-le}
 use Rattle.tableau.specs.File.{LF, split}
 use Rattle.lines.specs.declared.LineFields.{LineFields}
-use Rattle.lines.specs.declared.LineRead.{LineRead}
 use Rattle.lines.specs.Lines.{line_at, numbers_of}
 use Rattle.running.proofs.Lines.{line_pieces, bad_pieces}
 use Rattle.reading_alone.specs.Reading.{mixed, mixed_lines}
@@ -16,7 +15,7 @@ abbrev pub mixed_from : List ℕ → ℕ → ℕ → Option ℕ
 mixed_from file at value = mixed_lines (split LF (drop at file)) value
 
 module _ (file : List ℕ) (at value : ℕ) where
-  pub line_mixed : (f : LineFields) → line_at file at ≡ LineRead.Line f
+  pub line_mixed : (f : LineFields) → line_at file at ≡ Some f
       → mixed_from file at value ≡ mixed_from file f.next.at (mixed value f.word (numbers_of f))
   unfolding mixed_lines
   line_mixed f e =
@@ -25,7 +24,7 @@ module _ (file : List ℕ) (at value : ℕ) where
       ∙ rw p.shaped (ap (λ (g : LineFields). mixed_lines (p.follower ∷ p.others) (mixed value g.word (numbers_of g))) (sym p.fields))
       ∙ ap (λ ks. mixed_lines ks (mixed value f.word (numbers_of f))) (sym p.rest)
 
-  pub bad_mixed : at < length file → line_at file at ≡ LineRead.BadShape → mixed_from file at value ≡ None
+  pub bad_mixed : at < length file → line_at file at ≡ None → mixed_from file at value ≡ None
   unfolding mixed_lines
   bad_mixed before e = bad_pieces file at before e (λ b l q. rw q) (λ l m ls q s. rw (q, s))
 

@@ -3,6 +3,7 @@ use mathlib.Core.Path.{◌≡◌, refl, sym, ◌∙◌, ap, subst}
 use mathlib.Core.Bool.{Bool, true, false, true≢false}
 use mathlib.Core.List.{List, [], ◌∷◌}
 use Rattle.std.specs.Prelude.{Option, None, Some}
+use Rattle.std.proofs.lemmas.Option.{none-some, same_Some}
 use Prim.Native.Nat.{ℕ, suc, ◌+◌, ◌<◌, ◌≤◌}
 use native.Mathlib.Omega.{arith}
 use lib.Dec.{eqb}
@@ -16,16 +17,14 @@ use Rattle.tableau.specs.Tree.{Checked, refused, passed, ◌>>=◌, require_some
 use Rattle.tableau.specs.Words.{Command, some_of, make, assume, disjoin, infer, command_of}
 use Rattle.tableau.specs.Reply.{State, require_open, run_open, run_command, run_read, run_line, stopped, ended, run_lines}
 use Rattle.tableau.proofs.SixFields.{six_fields_lem, some_digit, word_long}
-use Rattle.tableau.proofs.Bools.{none≢some}
 use Rattle.tableau.proofs.Decimals.{decimal_of_number}
 use Rattle.tableau.proofs.Pieces.{Pieces, pieces, bytes_of, split_bytes}
 use Rattle.lines.specs.declared.LineFields.{LineFields}
-use Rattle.lines.specs.declared.LineRead.{LineRead}
-use Rattle.lines.specs.Lines.{capital, any_shape, pack_word, line_read, first_line, line_at, numbers_of}
+use Rattle.lines.specs.Lines.{capital, any_shape, pack_word, line_read, first_line, line_fields, line_at, numbers_of}
 use Rattle.lines.specs.ByteSteps.{all_capitals}
 use Rattle.words.proofs.PackedWords.{words_packed, relations_packed, rules_packed}
 use Rattle.lines.proofs.Letters.{relettered, lettered_line, shape_lettered}
-use Rattle.running.specs.Running.{run_from, packed_command, run_fields, SmallNumbers, line_fields, least_line, ByFields, LineHere}
+use Rattle.running.specs.Running.{run_from, packed_command, run_fields, SmallNumbers, least_line, ByFields, LineHere}
 
 -- THE CUT AT LF: behind the first piece and its LF stand the others.
 behind : (c : ℕ) (text l m : List ℕ) (ls : List (List ℕ)) → split c text ≡ l ∷ m ∷ ls
@@ -70,7 +69,7 @@ one_piece c (x ∷ text) h e = cut (eqb x c) (pieces c text) e
 
 some_letter : (p : List ℕ) {b : ℕ} → capital p ≡ Some b → 1 ≤ length p
 unfolding capital
-some_letter [] e = none≢some e
+some_letter [] e = absurd (none-some _ e)
 some_letter (b ∷ p) e = omega arith
 
 -- A LINE of six fields: its word is a word, its numbers are small, and it is so long at least
@@ -176,12 +175,6 @@ refused_here run file at i r = go (split LF (drop at file))
     go [] = refl
     go (l ∷ ls) = refl
 
-bad≢line : {f : LineFields} → LineRead.BadShape ≡ LineRead.Line f → ⊥
-bad≢line {f} e = let z : true ≡ false = cc in true≢false z
-
-line_injective : {f g : LineFields} → LineRead.Line f ≡ LineRead.Line g → f ≡ g
-line_injective e = cc
-
 -- A LINE THAT IS READ: its bytes, what it is, and the pieces behind it.
 pub record LinePieces (file : List ℕ) (at : ℕ) (f : LineFields) : Type 0 where
   pub piece : List ℕ
@@ -194,21 +187,21 @@ pub record LinePieces (file : List ℕ) (at : ℕ) (f : LineFields) : Type 0 whe
   pub fields : f ≡ line_fields (at + length piece + 1) line
   pub inside : at + length piece + 1 ≤ length file
 
-pub line_pieces : (file : List ℕ) (at : ℕ) (f : LineFields) → line_at file at ≡ LineRead.Line f → LinePieces file at f
+pub line_pieces : (file : List ℕ) (at : ℕ) (f : LineFields) → line_at file at ≡ Some f → LinePieces file at f
 unfolding line_at
-line_pieces file at f e = go (line_there LineRead.BadShape (λ n l. line_read n (any_shape l)) file at (LineRead.Line f) bad≢line e)
+line_pieces file at f e = go (line_there None (λ n l. line_read n (any_shape l)) file at (Some f) (none-some f) e)
   where
-    go : FirstLine (λ n l. line_read n (any_shape l)) file at (LineRead.Line f) → LinePieces file at f
+    go : FirstLine (λ n l. line_read n (any_shape l)) file at (Some f) → LinePieces file at f
     go x = shaped_as (any_shape x.piece) refl x.is
       where
-        shaped_as : (s : Option (Line ℕ)) → any_shape x.piece ≡ s → line_read (at + length x.piece + 1) s ≡ LineRead.Line f → LinePieces file at f
-        shaped_as None s h = absurd (bad≢line h)
+        shaped_as : (s : Option (Line ℕ)) → any_shape x.piece ≡ s → line_read (at + length x.piece + 1) s ≡ Some f → LinePieces file at f
+        shaped_as None s h = absurd (none-some f h)
         shaped_as (Some L) s h =
-            subst (LinePieces file at) (line_injective h)
+            subst (LinePieces file at) (same_Some _ f h)
             (record { piece = x.piece; follower = x.follower; others = x.others; line = L; cut = x.cut; rest = x.rest; shaped = s; fields = refl; inside = x.inside })
 
 pub line_here : {S : Type 0} {run : S → List ℕ → Checked S} {fields : S → LineFields → Checked S} → ByFields run fields
-    → (file : List ℕ) (at : ℕ) (f : LineFields) → line_at file at ≡ LineRead.Line f → LineHere run fields file at f
+    → (file : List ℕ) (at : ℕ) (f : LineFields) → line_at file at ≡ Some f → LineHere run fields file at f
 line_here {S} {run} {fields} B file at f e =
     let p = line_pieces file at f e in
     let n : at + length p.piece + 1 ≡ f.next.at = ap (λ (g : LineFields). g.next.at) (sym p.fields) in
@@ -222,19 +215,19 @@ line_here {S} {run} {fields} B file at f e =
     }
 
 -- A BAD LINE: bytes behind the last LF, or a line that has no shape.
-no_shape : (n : ℕ) (s : Option (Line ℕ)) → line_read n s ≡ LineRead.BadShape → s ≡ None
+no_shape : (n : ℕ) (s : Option (Line ℕ)) → line_read n s ≡ None → s ≡ None
 no_shape n None h = refl
-no_shape n (Some L) h = absurd (bad≢line (sym h))
+no_shape n (Some L) h = absurd (none-some _ (sym h))
 
-pub bad_pieces : {R : Type 0} (file : List ℕ) (at : ℕ) → at < length file → line_at file at ≡ LineRead.BadShape
+pub bad_pieces : {R : Type 0} (file : List ℕ) (at : ℕ) → at < length file → line_at file at ≡ None
     → ((b : ℕ) (l : List ℕ) → split LF (drop at file) ≡ (b ∷ l) ∷ [] → R)
     → ((l m : List ℕ) (ls : List (List ℕ)) → split LF (drop at file) ≡ l ∷ m ∷ ls → any_shape l ≡ None → R) → R
 unfolding line_at
 bad_pieces file at before e tail unshaped =
-    no_line_there LineRead.BadShape (λ n l. line_read n (any_shape l)) file at before e tail (λ l m ls q h. unshaped l m ls q (no_shape (at + length l + 1) (any_shape l) h))
+    no_line_there None (λ n l. line_read n (any_shape l)) file at before e tail (λ l m ls q h. unshaped l m ls q (no_shape (at + length l + 1) (any_shape l) h))
 
 pub bad_line : {S : Type 0} {run : S → List ℕ → Checked S} {fields : S → LineFields → Checked S} → ByFields run fields
-    → (file : List ℕ) (at : ℕ) → at < length file → line_at file at ≡ LineRead.BadShape → (i : ℕ) (σ : S) → run_from run file at i (passed σ) ≡ stopped Reason.BadShape (suc i)
+    → (file : List ℕ) (at : ℕ) → at < length file → line_at file at ≡ None → (i : ℕ) (σ : S) → run_from run file at i (passed σ) ≡ stopped Reason.BadShape (suc i)
 unfolding run_lines
 bad_line {S} {run} B file at before e i σ =
     bad_pieces file at before e

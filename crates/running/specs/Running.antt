@@ -9,7 +9,7 @@ use Rattle.tableau.specs.Words.{words, relations, rule_names, Command, make, ass
 use Rattle.tableau.specs.Tree.{Checked, refused, passed, ◌>>=◌, require_some}
 use Rattle.tableau.specs.Reply.{State, run_command, run_line, RunEnd, run_lines}
 use Rattle.lines.specs.declared.LineFields.{LineFields}
-use Rattle.lines.specs.Lines.{pack_word, any_shape, numbers_of}
+use Rattle.lines.specs.Lines.{any_shape, numbers_of, line_fields}
 use Rattle.words.specs.Words.{lookup_packed}
 
 -- where the lines of a file lead, where i of them are read and the next begins at the position
@@ -40,10 +40,6 @@ pub record SmallNumbers (n : Four ℕ) : Type 0 where
   pub b : n.b < number_limit
   pub c : n.c < number_limit
   pub d : n.d < number_limit
-
--- the fields that a line is read as
-abbrev pub line_fields : ℕ → Line ℕ → LineFields
-line_fields next' l = record { letter = l.letter; word = pack_word l.word; a = l.fields.a; b = l.fields.b; c = l.fields.c; d = l.fields.d; next = record { at = next' } }
 
 -- A file's run of a line, by the fields that the line is read as.
 pub record ByFields {S : Type 0} (run : S → List ℕ → Checked S) (fields : S → LineFields → Checked S) : Type 0 where

@@ -3,7 +3,7 @@ use mathlib.Core.Path.{◌≡◌}
 use Prim.Native.Nat.{◌-◌}
 use lib.ListN.{length}
 use Rattle.reading_alone.proofs.Mixing.{mixed_from}
-use Rattle.reading_alone.proofs.read_lines.Given as goal
+use Rattle.reading_alone.proofs.mix_lines.Given as goal
 
 abbrev pub invariant-loop-at : goal.invariant-loop-at
 invariant-loop-at l = mixed_from l.file l.at l.value ≡ mixed_from l.file 0 0
