@@ -1,13 +1,8 @@
--- What the rules that close come to.
-use Rattle.std.specs.Prelude.{Bool, cond, ◌&&◌, eqb}
+-- What the rule that closes a branch that contradicts itself comes to.
+use Rattle.std.specs.Prelude.{Bool, cond, Result, Ok, Err}
 use Rattle.tableau.specs.declared.Reason.{Reason}
-use Rattle.tableau.specs.Terms.{TermNo}
 use Rattle.rules.specs.declared.outcome.Outcome.{Outcome}
 
 -- a closing, where its need is met
-abbrev pub closes_if : Bool → Outcome
-closes_if b = cond b Outcome.Closes (Outcome.Refused Reason.NeedNotMet)
-
--- two literals on two terms each, of relations that deny each other
-abbrev pub closes_on_same : TermNo → TermNo → TermNo → TermNo → Outcome
-closes_on_same a b x y = closes_if (eqb a x && eqb b y)
+abbrev pub closes_if : Bool → Result Outcome Reason
+closes_if b = cond b (Ok Outcome.Closes) (Err Reason.NeedNotMet)

@@ -118,7 +118,7 @@ pub fn fin(
     let TermView::Img(_, s, _) = table::view(terms, i) else {
         return Err(Reason::NeedNotMet);
     };
-    if i != image || r != s {
+    if (i, r) != (image, s) {
         return Err(Reason::NeedNotMet);
     }
     let turned = searches::on_three(terms, chains, Operator::Cup, i, r, TermNumber(0))?;

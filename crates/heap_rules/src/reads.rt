@@ -22,7 +22,7 @@ pub fn rdh(t: TermNumber, terms: &[u64; table::NUMBERS]) -> Result<Outcome, Reas
     let TermView::Wri(_, u, f, v) = table::view(terms, z) else {
         return Err(Reason::NeedNotMet);
     };
-    if u != k || f != g {
+    if (u, f) != (k, g) {
         return Err(Reason::NeedNotMet);
     }
     Ok(outcome::adds_one(literal(Relation::Eq, t, v)))

@@ -1,6 +1,6 @@
 -- What the functions of rules with like rows answer, said once: a relation, an operator or a side of the row is left open.
-use mathlib.Core.Path.{◌≡◌, sym, subst, ◌∙◌}
-use mathlib.Core.Bool.{Bool, false}
+use mathlib.Core.Path.{◌≡◌, refl, sym, subst, ◌∙◌}
+use mathlib.Core.Bool.{Bool, true, false, not, ◌&&◌, cond}
 use mathlib.Core.List.{List, [], ◌∷◌}
 use Rattle.std.specs.Prelude.{Option, None, Some, Result, Ok, Err, IsErrAnd}
 use Prim.Native.Nat.{ℕ}
@@ -16,6 +16,7 @@ use Rattle.tableau.specs.Fields.{arguments}
 use Rattle.tableau.specs.Terms.{Table, Term, Literal, literal, apply, at}
 use Rattle.tableau.specs.Rules.{Pattern, letter, operator, –, LiteralPattern, pattern, Need, p∶, q∶, t≐, is_region, Row, ◌⟶◌, ◌∈◌, ◌≈◌, only, ⟨◌⟩, rows, rule, letter_u, letter_r, letter_s}
 use Rattle.tableau.specs.Rules as row
+use Rattle.tableau.specs.Tree.{refused, passed, answer}
 use Rattle.tableau.specs.Steps.{Letters, bind, given, fits_literal, made_alternatives}
 use Rattle.packing.specs.declared.LiteralView.{LiteralView}
 use Rattle.packing.specs.declared.TermView.{TermView}
@@ -24,7 +25,7 @@ use Rattle.tableau.specs.declared.TermNumber.{TermNumber}
 use Rattle.table.specs.Held.{ViewAt}
 use Rattle.rules.specs.declared.outcome.Outcome.{Outcome}
 use Rattle.rules.specs.Answer.{IsNot, SearchableBy, Finds, Builds, Concludes, ConcludesFresh}
-use Rattle.rules.proofs.Laws.{Arguments2, Others, by_sides, by_test, computing, found, missing, no_arguments, passed_on, same}
+use Rattle.rules.proofs.Laws.{Arguments2, Others, agree, differ, by_sides, by_test, computing, found, missing, no_arguments, passed_on, same}
 
 -- a rule that asks for a fresh w answers so too, where the answer does not hang on it
 pub fresh_or_not : {A : Table → Type 0} {fresh : Freshness} {x : Rule} {P Q : Option Literal} {t w : ℕ} {r : Result Outcome Reason} → Concludes A x P Q t w r
@@ -42,6 +43,27 @@ pub always : {A : Table → Type 0} {x : Rule} {t w : ℕ} {ks : List (List Lite
     → Concludes A x None None t w (Ok r)
 unfolding computing
 always i f b = record { room = b.room; answers = λ table h fresh. rw (i, f table, b.adds) }
+
+-- A TEST: the row adds ks where b holds, and else its needs are not met
+pub record MetIf (A : Table → Type 0) (x : Rule) (P Q : Option Literal) (t w : ℕ) (b : Bool) (ks : List (List Literal)) : Type 0 where
+  pub answers : (table : Table) → A table → (fresh : Freshness) → answer table fresh P Q [] false t w x ≡ cond b (passed ks) (refused Reason.NeedNotMet)
+
+module _ {A : Table → Type 0} {x : Rule} {P Q : Option Literal} {t w : ℕ} {b : Bool} {ks : List (List Literal)} (m : MetIf A x P Q t w b ks) {r : Bool}
+    (e : r ≡ not b) where
+  pub unmet : r ≡ true → Concludes A x P Q t w (Err Reason.NeedNotMet)
+  unmet h = record { room = tt; answers = λ table k fresh. rw (m.answers table k fresh, differ e h) }
+
+  pub met : {o : Outcome} → r ≡ false → Builds o ks → Concludes A x P Q t w (Ok o)
+  met h g = record { room = g.room; answers = λ table k fresh. rw (m.answers table k fresh, agree e h, g.adds) }
+
+-- two tests, of which the second is looked at only where the first holds
+pub by_tests : {A : Type 0} (a b : Bool) → (a ≡ false → A) → (a ≡ true → b ≡ false → A) → (a ≡ true → b ≡ true → A) → A
+by_tests a b f g h = by_test a (λ i. by_test b (h i) (g i)) f
+
+-- one of them fails
+pub by_failed : {A : Type 0} (a b : Bool) → (a && b) ≡ false → (a ≡ false → A) → (a ≡ true → b ≡ false → A) → A
+by_failed true b e f g = g refl e
+by_failed false b e f g = f refl
 
 -- ANY ROW: p has another relation
 pub other_p : {A : Table → Type 0} {x : Rule} {R : Relation} {k l : Pattern} {ns : List Need} {f : Bool} {ks : List (List LiteralPattern)}

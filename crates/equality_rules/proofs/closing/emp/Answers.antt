@@ -1,8 +1,7 @@
 -- `emp` answers what its row says.
-use mathlib.Core.Path.{refl, subst, ◌∙◌}
+use mathlib.Core.Path.{refl, ◌∙◌}
 use Rattle.tableau.specs.declared.Relation.{Relation}
 use Rattle.tableau.specs.Terms.{at}
-use Rattle.packing.specs.Packing.{SmallLiteral}
 use Rattle.rules.proofs.Laws.{computing, is_emp, is_not}
 use Rattle.rules.proofs.Rows.{other_p, other_region}
 use Rattle.equality_rules.proofs.closing.emp.Goals as goal
@@ -20,10 +19,6 @@ returns c =
 pub returns-in_default : goal.returns-in_default
 unfolding computing
 returns-in_default c = let p = c.args.p in other_p p refl (is_not Relation.In p c.in_default.not-In)
-
-pub view-requires : goal.view-requires
-unfolding computing
-view-requires c = record { entries = c.requires.held_by; small = (subst SmallLiteral c.in-In.is c.requires.small_literal).1 }
 
 -- r is not emp
 pub returns-in_default-view : goal.returns-in_default-view

@@ -1,4 +1,3 @@
-use mathlib.Core.Path.{sym}
 use Rattle.tableau.specs.declared.Relation.{Relation}
 use Rattle.tableau.specs.Steps.{conclude_sub}
 use Rattle.rules.proofs.Laws.{by_sides, computing, is_not, test_fails, test_holds}
@@ -31,14 +30,5 @@ returns c =
       room = b.room;
       answers = λ table h fresh.
           let e = c.congruent.ensures _ _ (c.packed.ensures table h) (c.packed-2.ensures table h) in
-          rw (c.in-Eq.is, test_holds e c.if-not-congruent.false) (sym b.adds);
+          rw (c.in-Eq.is, test_holds e c.if-not-congruent.false, b.adds);
     }
-
-pub packed-requires : goal.packed-requires
-packed-requires c = record { entries = c.requires.held_by; small = c.requires.small.0 }
-
-pub packed-requires-2 : goal.packed-requires-2
-packed-requires-2 c = record { entries = c.requires.held_by; small = c.requires.small.1 }
-
-pub adds_one-requires : goal.adds_one-requires
-adds_one-requires c = rw c.literal.ensures c.requires.small

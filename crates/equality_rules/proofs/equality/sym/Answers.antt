@@ -1,25 +1,29 @@
-use mathlib.Core.Path.{sym, subst}
+-- `sym` answers what its rows say.
+use mathlib.Core.Path.{◌≡◌}
 use Rattle.tableau.specs.declared.Relation.{Relation}
-use Rattle.packing.specs.Packing.{SmallLiteral}
-use Rattle.rules.proofs.Laws.{computing, is_not}
+use Rattle.packing.specs.declared.LiteralView.{LiteralView}
+use Rattle.rules.proofs.Laws.{by_sides, computing, is_not}
 use Rattle.equality_rules.proofs.equality.sym.Goals as goal
+use Rattle.equality_rules.proofs.equality.sym.Goals.{in-Eq, in-Eq-2}
 
-pub adds_one-requires : goal.adds_one-requires
-adds_one-requires c =
-    let s = subst SmallLiteral c.in-Eq.is c.requires in
-    rw c.literal.ensures (s.1, s.0)
-
--- p is a eq b
-pub returns : goal.returns
-unfolding computing
-returns c =
-    let b = rw c.literal.ensures at c.adds_one.ensures in
-    record { room = b.room; answers = λ table h fresh. rw c.in-Eq.is (sym b.adds) }
-
-pub sym_unequal-requires : goal.sym_unequal-requires
-unfolding computing
-sym_unequal-requires c = (c.requires, is_not Relation.Eq c.args.p c.in_default.not-Eq)
-
+-- p is neither
 pub returns-in_default : goal.returns-in_default
 unfolding computing
-returns-in_default c = c.sym_unequal.ensures
+returns-in_default c =
+    let p = c.args.p in
+    let n = c.in_default in
+    record { room = tt; answers = λ table h fresh. rw (by_sides p, is_not Relation.Eq p n.not-Eq, is_not Relation.Ne p n.not-Ne) }
+
+-- p is a eq b, or a ne b
+pub returns : goal.returns
+unfolding computing
+returns c = elim c.match-p.branch [
+  | in-Eq w ↦
+      let p : c.args.p ≡ LiteralView.Eq c.match-p.a c.match-p.b = cc in
+      let b = rw (c.literal.ensures, c.relation.ensures, w.p-is) at c.adds_one.ensures in
+      record { room = b.room; answers = λ table h fresh. rw (p, b.adds) }
+  | in-Eq-2 w ↦
+      let p : c.args.p ≡ LiteralView.Ne c.match-p.a c.match-p.b = cc in
+      let b = rw (c.literal.ensures, c.relation.ensures, w.p-is) at c.adds_one.ensures in
+      record { room = b.room; answers = λ table h fresh. rw (p, b.adds) }
+]

@@ -1,13 +1,15 @@
 use lib.Dec.{eqb}
-use mathlib.Core.Path.{refl, ◌∙◌}
+use mathlib.Core.Bool.{true}
+use Rattle.tableau.proofs.Bools.{both_true}
+use mathlib.Core.Path.{◌≡◌, refl, ◌∙◌}
 use Rattle.tableau.specs.declared.Operator.{Operator}
 use Rattle.tableau.specs.declared.Relation.{Relation}
 use Rattle.tableau.specs.Terms.{Table, at}
 use Rattle.table.specs.Held.{Entries}
 use Rattle.rules.proofs.Laws.{Arguments2, Arguments3, agree, by_test, computing, differ, found, is_cup, is_img, is_not, missing, no_arguments}
-use Rattle.rules.proofs.Rows.{other_p, passes_on}
+use Rattle.rules.proofs.Rows.{by_failed, other_p, passes_on}
 use Rattle.heap_rules.proofs.images.fin.Goals as goal
-use Rattle.heap_rules.proofs.images.fin.Goals.{In-Cup, In-Img, then-ne-via-then-ne, then-ne-via-else-ne+then-ne-2}
+use Rattle.heap_rules.proofs.images.fin.Goals.{Else-ne, In-Cup, In-Img}
 
 -- the left side is cup(r,i)
 is_union : (u : goal.In-Cup) (table : Table) → Entries table u.args.terms.now
@@ -51,39 +53,45 @@ returns-in_default-view-2 c =
 pub returns-then-ne : goal.returns-then-ne
 unfolding computing
 returns-then-ne c =
+    let i = c.in-Cup.i.0 in
+    let image = c.in-Eq.image.0 in
     record {
       room = tt;
       answers = λ table h fresh.
           let U = is_union (goal.at.returns-then-ne c).In-Cup table h.entries in
           let I = is_image (goal.at.returns-then-ne c).In-Img table h.entries in
-          rw (c.in-Eq.is, U.2) (elim c.then-ne.branch [
-            | then-ne-via-then-ne w ↦ rw (differ c.ne.ensures w.if-ne.true)
-            | then-ne-via-else-ne+then-ne-2 w ↦ rw (agree c.ne.ensures w.if-ne.false, I.1, differ w.ne-else-ne.ensures w.if-ne-2.true)
-          ]);
+          rw (c.in-Eq.is, U.2)
+          (by_failed (eqb i image) (eqb c.in-Cup.r.0 c.in-Img.s.0) (differ c.ne.ensures c.if-ne.true) (λ m. rw m) (λ m n. rw (m, I.1, n)));
     }
+
+-- they are the same
+same_parts : (e : goal.Else-ne) → (eqb e.in-Cup.i.0 e.in-Eq.image.0 ≡ true) × (eqb e.in-Cup.r.0 e.in-Img.s.0 ≡ true)
+same_parts e = both_true _ _ (agree e.ne.ensures e.if-ne.false)
 
 -- cup(i,r) is no term
 pub returns-in_err-turned : goal.returns-in_err-turned
 unfolding computing
 returns-in_err-turned c =
+    let same = same_parts (goal.at.returns-in_err-turned c).Else-ne in
     passes_on c.from_residual.ensures.1 record {
       room = tt;
       answers = λ table h fresh.
           let U = is_union (goal.at.returns-in_err-turned c).In-Cup table h.entries in
           let I = is_image (goal.at.returns-in_err-turned c).In-Img table h.entries in
           let m = missing c.on_three.ensures h c.in_err-turned.was in
-          rw (c.in-Eq.is, U.2, agree c.ne.ensures c.if-ne.false, I.1, agree c.ne-else-ne.ensures c.if-ne-2.false, m.0, m.1);
+          rw (c.in-Eq.is, U.2, same.0, I.1, same.1, m.0, m.1);
     }
 
 -- cup(i,r) eq r
 pub returns : goal.returns
 unfolding computing
 returns c =
+    let same = same_parts (goal.at.returns c).Else-ne in
     let b = rw c.literal.ensures at c.adds_one.ensures in
     record {
       room = b.room;
       answers = λ table h fresh.
           let U = is_union (goal.at.returns c).In-Cup table h.entries in
           let I = is_image (goal.at.returns c).In-Img table h.entries in
-          rw (c.in-Eq.is, U.2, agree c.ne.ensures c.if-ne.false, I.1, agree c.ne-else-ne.ensures c.if-ne-2.false, found c.on_three.ensures h c.in_ok-turned.was, b.adds);
+          rw (c.in-Eq.is, U.2, same.0, I.1, same.1, found c.on_three.ensures h c.in_ok-turned.was, b.adds);
     }

@@ -1,34 +1,39 @@
+use lib.Dec.{eqb}
 use mathlib.Core.Path.{refl}
-use Rattle.rules.proofs.Laws.{agree, computing, differ}
-use Rattle.rules.proofs.Rows.{other_t}
+use mathlib.Core.Bool.{◌&&◌}
+use mathlib.Core.List.{[], ◌∷◌}
+use Rattle.std.specs.Prelude.{None}
+use Rattle.tableau.specs.declared.Relation.{Relation}
+use Rattle.tableau.specs.declared.Rule.{Rule}
+use Rattle.tableau.specs.Terms.{literal}
+use Rattle.rules.specs.Answer.{HeldBy}
+use Rattle.rules.proofs.Laws.{computing}
+use Rattle.rules.proofs.Rows.{MetIf, by_tests, met, other_t, unmet}
 use Rattle.heap_rules.proofs.Written.{other_heap, read_written}
 use Rattle.heap_rules.proofs.reads.rdh.Goals as goal
-use Rattle.heap_rules.proofs.reads.rdh.Goals.{then-ne-via-then-ne, then-ne-via-else-ne+then-ne-2}
+use Rattle.heap_rules.proofs.reads.rdh.Goals.{In-Wri}
 
--- the references differ, or the fields
-pub returns-then-ne : goal.returns-then-ne
+-- whether the references and the fields are the same decides
+same_place : (i : goal.In-Wri)
+    → let a = i.in-Rea in
+    let b = i.in-Wri in
+    MetIf (HeldBy i.args.terms.now) Rule.Rdh None None i.args.t.0 0 (eqb b.u.0 a.k.0 && eqb b.f.0 a.g.0)
+    ((literal Relation.Eq i.args.t.0 b.v.0 ∷ []) ∷ [])
 unfolding computing
-returns-then-ne c = record {
-  room = tt;
-  answers = λ table h fresh.
-      let K = read_written c.in-Rea.is c.view.ensures c.view-2.ensures c.in-Wri.is table h in
-      elim c.then-ne.branch [
-        | then-ne-via-then-ne w ↦ rw (K.0.1, K.1, differ c.ne.ensures w.if-ne.true)
-        | then-ne-via-else-ne+then-ne-2 w ↦ rw (K.0.1, K.1, agree c.ne.ensures w.if-ne.false, differ w.ne-else-ne.ensures w.if-ne-2.true)
-      ];
-}
-
--- t eq v
-pub returns : goal.returns
-unfolding computing
-returns c =
-    let b = rw c.literal.ensures at c.adds_one.ensures in
+same_place i =
+    let a = i.in-Rea in
+    let b = i.in-Wri in
     record {
-      room = b.room;
       answers = λ table h fresh.
-          let K = read_written c.in-Rea.is c.view.ensures c.view-2.ensures c.in-Wri.is table h in
-          rw (K.0.1, K.1, agree c.ne.ensures c.if-ne.false, agree c.ne-else-ne.ensures c.if-ne-2.false, b.adds);
+          let K = read_written a.is i.view.ensures i.view-2.ensures b.is table h in
+          rw (K.0.1, K.1) (by_tests (eqb b.u.0 a.k.0) (eqb b.f.0 a.g.0) (λ m. rw m) (λ m n. rw (m, n)) (λ m n. rw (m, n)));
     }
+
+pub returns-then-ne : goal.returns-then-ne
+returns-then-ne c = unmet (same_place (goal.at.returns-then-ne c).In-Wri) c.ne.ensures c.if-ne.true
+
+pub returns : goal.returns
+returns c = met (same_place (goal.at.returns c).In-Wri) c.ne.ensures c.if-ne.false (rw c.literal.ensures at c.adds_one.ensures)
 
 -- t is not rea(z,k,g)
 pub returns-in_default : goal.returns-in_default
