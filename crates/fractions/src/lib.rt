@@ -11,28 +11,29 @@ pub struct Fraction {
     pub denominator: u64,
 }
 
-// Euclid: the dividend and the divisor have the common divisors of `a` and `b`. The last divisor is 0, which every number divides.
+// Euclid: the dividend and the divisor have the common divisors of `a` and `b`. The last divisor is
+// 0, which every number divides.
 fn greatest_common_divisor(a: u64, b: u64) -> u64
     requires { 0 < b }
     ensures { result ≡ specification.greatest_common_divisor a b }
 {
-    let mut dividend = a;
-    let mut divisor = b;
+    let (mut dividend, mut divisor) = (a, b);
     while 0 < divisor {
-        let remainder = dividend % divisor;
-        dividend = divisor;
-        divisor = remainder;
+        (dividend, divisor) = (divisor, dividend % divisor);
     }
     dividend
 }
 
-pub fn lowest(fraction: Fraction) -> Fraction
-    requires { 0 < fraction.denominator }
-    ensures { fraction_record result ≡ specification.lowest (fraction_record fraction) }
-{
-    let divisor = greatest_common_divisor(fraction.numerator, fraction.denominator);
-    Fraction {
-        numerator: fraction.numerator / divisor,
-        denominator: fraction.denominator / divisor,
+impl Fraction {
+    #[tactic(auto, using(statistics::proofs::LowestTerms::common_positive), unfolding(statistics::specs::Fractions::lowest))]
+    pub fn lowest(self) -> Fraction
+        requires { 0 < self.denominator }
+        ensures { fraction_record result ≡ specification.lowest (fraction_record self) }
+    {
+        let divisor = greatest_common_divisor(self.numerator, self.denominator);
+        Fraction {
+            numerator: self.numerator / divisor,
+            denominator: self.denominator / divisor,
+        }
     }
 }
