@@ -1,24 +1,21 @@
 -- How far a file is read: the specification's state that it stands for, what a line makes of it, and the verdict where the file ends.
-use Rattle.std.specs.Prelude.{◌≡◌, Bool, true, false, cond, List, ℕ, ◌+◌, ◌-◌, ◌≤◌, min, ltb}
+use Rattle.std.specs.Prelude.{◌≡◌, Bool, true, false, Option, Some, None, Result, Ok, Err, List, ℕ, ◌+◌, ◌≤◌, min}
 use Rattle.tableau.specs.declared.Letter.{Letter}
 use Rattle.tableau.specs.declared.Reason.{Reason}
 use Rattle.tableau.specs.declared.Rule.{Rule}
 use Rattle.tableau.specs.File.{in_order}
 use Rattle.tableau.specs.Terms.{ClauseNo, Table, Clauses}
 use Rattle.tableau.specs.Tree as specification
-use Rattle.tableau.specs.Tree.{Checked, refused, passed, Status, is_open, is_closed, max_places, max_waiting}
+use Rattle.tableau.specs.Tree.{Checked, refused, passed, Status, is_open, is_closed}
 use Rattle.tableau.specs.Reply.{State, Verdict, accept, refuse}
 use Rattle.packing.specs.Packing.{unpack_literal}
-use Rattle.clauses.specs.declared.Span.{Span}
-use Rattle.tree.specs.declared.Tree.{Tree}
-use Rattle.tree.specs.declared.Extent.{Extent}
+use Rattle.tree.specs.declared.Begun.{Begun}
 use Rattle.tree.specs.declared.Change.{Change}
-use Rattle.tree.specs.declared.Growth.{Growth}
-use Rattle.tree.specs.Change.{Fits, SplitFits, changed, split_by, unchanged_from}
+use Rattle.tree.specs.Change.{Fits, changed, split_into, no_literals}
 use Rattle.reply.specs.declared.Counts.{Counts}
 use Rattle.reply.specs.Verdict.{counts_of}
 use Rattle.growth.specs.declared.Progress.{Progress}
-use Rattle.growth.specs.declared.LineResult.{LineResult}
+use Rattle.growth.specs.declared.LineEffect.{LineEffect}
 use Rattle.growth.specs.Growth.{closings_of}
 
 -- THE STATE of the specification, by the table, the clauses and the tree
@@ -43,85 +40,47 @@ abbrev pub at_start : Progress
 at_start = record { letter = Letter.T; closed = false; lines = 0; noted = 0; clauses = 0; counts = record { terms = 0; assumptions = 0; steps = 0; closings = 0 } }
 
 -- A LINE MORE of each letter, after which the tree is open
+abbrev pub after : Progress → Letter → Progress
+after g l = record g { letter = l; closed = false; lines = g.lines + 1 }
+
 abbrev pub after_term : Progress → Progress
-after_term g = record {
-  letter = Letter.T;
-  closed = false;
-  lines = g.lines + 1;
-  noted = 0;
-  clauses = g.clauses;
-  counts = record { terms = g.counts.terms + 1; assumptions = g.counts.assumptions; steps = g.counts.steps; closings = g.counts.closings };
-}
+after_term g = record (after g Letter.T) { noted = 0; counts = record (g.counts) { terms = g.counts.terms + 1 } }
 
 abbrev pub after_literal : Progress → Progress
-after_literal g = record {
-  letter = Letter.A;
-  closed = false;
-  lines = g.lines + 1;
-  noted = g.noted;
-  clauses = g.clauses;
-  counts = record { terms = g.counts.terms; assumptions = g.counts.assumptions + 1; steps = g.counts.steps; closings = g.counts.closings };
-}
+after_literal g = record (after g Letter.A) { counts = record (g.counts) { assumptions = g.counts.assumptions + 1 } }
 
 abbrev pub after_disjunct : Progress → ClauseNo → Progress
-after_disjunct g k = record { letter = Letter.C; closed = false; lines = g.lines + 1; noted = 0; clauses = k; counts = g.counts }
+after_disjunct g k = record (after g Letter.C) { noted = 0; clauses = k }
 
 abbrev pub after_step : Progress → Rule → ℕ → Progress
-after_step g x noted' = record {
-  letter = Letter.S;
-  closed = false;
-  lines = g.lines + 1;
+after_step g x noted' = record (after g Letter.S) {
   noted = noted';
-  clauses = g.clauses;
-  counts = record { terms = g.counts.terms; assumptions = g.counts.assumptions; steps = g.counts.steps + 1; closings = g.counts.closings + closings_of x };
+  counts = record (g.counts) { steps = g.counts.steps + 1; closings = g.counts.closings + closings_of x };
 }
 
-abbrev pub closed_by : Progress → Progress
-closed_by g = record { letter = g.letter; closed = true; lines = g.lines; noted = g.noted; clauses = g.clauses; counts = g.counts }
+-- THE EFFECT of a line, by how far the file is read after it and what it makes of the tree of a branch B where W waits
+abbrev pub changed_to : Progress → Change → LineEffect
+changed_to g c = record { progress = record g { noted = min g.noted c.cut }; change = c }
 
-abbrev pub cut_to : Progress → ℕ → Progress
-cut_to g n = record { letter = g.letter; closed = g.closed; lines = g.lines; noted = min g.noted n; clauses = g.clauses; counts = g.counts }
+abbrev pub grown_to : Progress → List ℕ → List ℕ → Option Change → LineEffect
+grown_to g B W (Some c) = changed_to g c
+grown_to g B W None = record { progress = record g { closed = true }; change = split_into B W no_literals Begun.Nothing }
 
--- THE RESULT of a line, by how far the file is read after it and what it makes of the tree
-abbrev pub result_of : Progress → Extent → Growth → LineResult
-result_of g e (Growth.To c) = LineResult.Passed (cut_to g c.cut) c
-result_of g e Growth.Closed = LineResult.Passed (closed_by g) (unchanged_from e)
-result_of g e (Growth.Refused r) = LineResult.Refused r g.lines
+-- what the line says, with the table, the clauses and their array after it
+abbrev pub state_after : List ℕ → Table → Clauses → List ℕ → List ℕ → Result LineEffect Reason → Checked State
+state_after words table C B W (Ok e) = passed (state_at table C (changed unpack_literal words B W e.change) e.progress)
+state_after words table C B W (Err r) = refused r
 
--- the result of a split into the literals of a clause
-abbrev pub split_of : Progress → Extent → Span → LineResult
-split_of g e s =
-    cond (ltb max_places (e.len + 1)) (LineResult.Refused Reason.BranchFull g.lines)
-    (cond (ltb max_waiting (e.count + (s.count - 1))) (LineResult.Refused Reason.WaitingFull g.lines)
-    (LineResult.Splits g s))
-
--- what it says, with the table, the clauses and their array after the line
-abbrev pub state_after : List ℕ → Table → Clauses → Tree → LineResult → Checked State
-state_after words table C t (LineResult.Passed g c) = passed (state_at table C (changed unpack_literal t c) g)
-state_after words table C t (LineResult.Splits g s) = passed (state_at table C (split_by unpack_literal words t s) g)
-state_after words table C t (LineResult.Refused r i) = refused r
-
--- what is so of the result of a line that was read after g, on a tree of extent e
-pub record Next (g : Progress) (e : Extent) (g' : Progress) (c : Change) : Type 0 where
-  pub lines : g'.lines ≡ g.lines + 1
-  pub counted : Counted g'
-  pub fits : Fits e c
-  pub noted : g'.noted ≤ c.cut
-
-pub record NextSplit (g : Progress) (e : Extent) (g' : Progress) (s : Span) : Type 0 where
-  pub lines : g'.lines ≡ g.lines + 1
-  pub counted : Counted g'
-  pub fits : SplitFits e s
-  pub noted : g'.noted ≤ e.len
-
-abbrev pub Follows : Progress → Extent → LineResult → Type 0
-Follows g e (LineResult.Passed g' c) = Next g e g' c
-Follows g e (LineResult.Splits g' s) = NextSplit g e g' s
-Follows g e (LineResult.Refused r i) = i ≡ g.lines + 1
+-- what is so of the effect of a line that was read after g
+pub record Next (g : Progress) (B W : List ℕ) (e : LineEffect) : Type 0 where
+  pub lines : e.progress.lines ≡ g.lines + 1
+  pub counted : Counted e.progress
+  pub fits : Fits B W e.change
+  pub noted : e.progress.noted ≤ e.change.cut
 
 -- the counts with the clauses
 abbrev pub total_of : Progress → Counts
-total_of g = record { terms = g.counts.terms; assumptions = g.counts.assumptions + g.clauses; steps = g.counts.steps; closings = g.counts.closings }
+total_of g = record (g.counts) { assumptions = g.counts.assumptions + g.clauses }
 
 -- the verdict where the file ends: on a closed tree its counts, else check 17
 abbrev pub verdict_if : Bool → Progress → Verdict

@@ -1,24 +1,27 @@
 // What a line makes of the tree and of the counts, and the verdict where the file ends.
 #![tactic(auto)]
 
-ghost use Rattle.std.specs.Prelude.{◌≡◌, ◌<◌, ◌≤◌};
+ghost use Rattle.std.specs.Prelude.{◌≡◌, ℕ, ◌+◌, ◌<◌, ◌≤◌, get_or};
 ghost use Rattle.tableau.specs.File.{max_bytes};
-ghost use Rattle.tableau.specs.Reply.{max_disjuncts};
-ghost use Rattle.tree.specs.Change.{InLimits};
+ghost use Rattle.tableau.specs.Reply.{max_clause_lines};
+ghost use Rattle.packing.specs.Packing.{code_limit};
+ghost use Rattle.tree.specs.State.{AreCodes, AreWaiting};
 ghost use Rattle.rules.specs.Answer.{Room};
 ghost use Rattle.reply.specs.Verdict.{verdict_of};
-ghost use Rattle.growth.specs.Growth.{closings_of, Grows};
-ghost use Rattle.growth.specs.Progress.{Counted, at_start, after_term, after_literal, after_disjunct, after_step, closed_by, cut_to, result_of};
-ghost use Rattle.growth.specs.Progress.{split_of, total_of, verdict_at_end};
+ghost use Rattle.growth.specs.Growth.{closings_of, Grows, SplitsClause};
+ghost use Rattle.growth.specs.Progress.{Counted, at_start, after, after_term, after_literal};
+ghost use Rattle.growth.specs.Progress.{after_disjunct, after_step, changed_to, grown_to};
+ghost use Rattle.growth.specs.Progress.{verdict_at_end};
 
 use clauses::Span;
 use reply::{Counts, Verdict};
 use rules::outcome::Outcome;
-use tableau::{ClauseNumber, Letter, Reason, Rule};
-use tree::{Change, Extent, Growth, Tree};
+use tableau::{ClauseNumber, Letter, Reason, Refusal, Rule};
+use tree::{Alternative, Begun, Change, TreeView};
 
-// How far a file is read: the letter of its last line, whether the tree is closed, the lines so far and their counts, the number of the last clause. The first `noted`
-// literals of the branch have their rows of mentions.
+// How far a file is read: the letter of its last line, whether the tree is closed, the lines so far
+// and their counts, the number of the last clause. The first `noted` literals of the branch have
+// their rows of mentions.
 #[derive(Clone, Copy)]
 pub struct Progress {
     pub letter: Letter,
@@ -29,39 +32,51 @@ pub struct Progress {
     pub counts: Counts,
 }
 
-// The result of a line: how far the file is read after it and what it makes of the tree, which is a change, or a split into the literals of a clause; or the reason of
-// its refusal beside its number.
+// What a line comes to: how far the file is read after it, and the change that it makes of the tree.
 #[derive(Clone, Copy)]
-pub enum LineResult {
-    Passed(Progress, Change),
-    Splits(Progress, Span),
-    Refused(Reason, usize),
+pub struct LineEffect {
+    pub progress: Progress,
+    pub change: Change,
 }
 
 // `cls`, `emp` and `bck` close.
 fn closings(rule: Rule) -> usize
     ensures { result ≡ closings_of rule }
 {
-    match rule {
-        Rule::Cls => 1,
-        Rule::Emp => 1,
-        Rule::Bck => 1,
-        _ => 0,
+    usize::from(matches!(rule, Rule::Cls | Rule::Emp | Rule::Bck))
+}
+
+// What an outcome makes of the tree, with checks 15 and 16: a change, or none where it is closed.
+pub fn grow(tree: TreeView, outcome: Outcome) -> Result<Option<Change>, Reason>
+    requires { AreCodes tree.branch.now × AreWaiting tree.waiting.now × Room outcome }
+    ensures { Grows tree.entry.branch.now tree.entry.waiting.now outcome result }
+{
+    match outcome {
+        Outcome::Closes => Ok(tree.close()),
+        Outcome::Adds(a) => tree.extend(a).map(Some),
+        Outcome::Splits(a, b) => tree.split2(a, b).map(Some),
+        Outcome::SplitsThree(a, b, c) => tree.split3(a, b, c).map(Some),
     }
 }
 
-// What an outcome makes of the tree, with checks 15 and 16.
-pub fn grow(extent: Extent, outcome: Outcome) -> Growth
-    requires { InLimits extent × Room outcome }
-    ensures { Grows extent outcome result }
+// A clause is split into its literals, with checks 15 and 16: each is an alternative of its own.
+pub fn split_clause(
+    tree: TreeView,
+    literals: &[u32; clauses::WORDS],
+    span: Span,
+) -> Result<Change, Reason>
+    requires tree { AreCodes tree.branch.now × AreWaiting tree.waiting.now }
+    requires span { (1 ≤ span.count) × (span.from + span.count ≤ max_clause_lines) }
+    requires literals { (i : ℕ) → get_or literals.now i 0 < code_limit }
+    ensures { SplitsClause literals.now tree.entry.branch.now tree.entry.waiting.now span result }
 {
-    match outcome {
-        Outcome::Refused(reason) => Growth::Refused(reason),
-        Outcome::Closes => extent.close(),
-        Outcome::Adds(a) => extent.extend(a),
-        Outcome::Splits(a, b) => extent.split2(a, b),
-        Outcome::SplitsThree(a, b, c) => extent.split3(a, b, c),
-    }
+    let rest = Span {
+        from: span.from + 1,
+        count: span.count - 1,
+    };
+    tree.require_room(1, rest.count)?;
+    let first = Alternative::one(literals[span.from]);
+    Ok(tree.split(first, Begun::Each(rest)))
 }
 
 impl Progress {
@@ -83,24 +98,31 @@ impl Progress {
         }
     }
 
+    // A line more, which leaves the tree open.
+    fn after(self, letter: Letter) -> Self
+        requires { self.lines < max_bytes }
+        ensures { result ≡ after self letter }
+    {
+        Self {
+            letter,
+            closed: false,
+            lines: self.lines + 1,
+            ..self
+        }
+    }
+
     // A T line: the rows are those of another table, and none is kept.
     pub fn after_term(self) -> Self
         requires { Counted self × (self.lines < max_bytes) }
         ensures { result ≡ after_term self }
     {
-        let c = self.counts;
         Self {
-            letter: Letter::T,
-            closed: false,
-            lines: self.lines + 1,
             noted: 0,
-            clauses: self.clauses,
             counts: Counts {
-                terms: c.terms + 1,
-                assumptions: c.assumptions,
-                steps: c.steps,
-                closings: c.closings,
+                terms: self.counts.terms + 1,
+                ..self.counts
             },
+            ..self.after(Letter::T)
         }
     }
 
@@ -108,19 +130,12 @@ impl Progress {
         requires { Counted self × (self.lines < max_bytes) }
         ensures { result ≡ after_literal self }
     {
-        let c = self.counts;
         Self {
-            letter: Letter::A,
-            closed: false,
-            lines: self.lines + 1,
-            noted: self.noted,
-            clauses: self.clauses,
             counts: Counts {
-                terms: c.terms,
-                assumptions: c.assumptions + 1,
-                steps: c.steps,
-                closings: c.closings,
+                assumptions: self.counts.assumptions + 1,
+                ..self.counts
             },
+            ..self.after(Letter::A)
         }
     }
 
@@ -129,14 +144,10 @@ impl Progress {
         requires { Counted self × (self.lines < max_bytes) }
         ensures { result ≡ after_disjunct self clause.0 }
     {
-        let counts = self.counts;
         Self {
-            letter: Letter::C,
-            closed: false,
-            lines: self.lines + 1,
             noted: 0,
             clauses: clause.0,
-            counts,
+            ..self.after(Letter::C)
         }
     }
 
@@ -145,102 +156,62 @@ impl Progress {
         requires { Counted self × (self.lines < max_bytes) }
         ensures { result ≡ after_step self rule noted }
     {
-        let c = self.counts;
         Self {
-            letter: Letter::S,
-            closed: false,
-            lines: self.lines + 1,
             noted,
-            clauses: self.clauses,
             counts: Counts {
-                terms: c.terms,
-                assumptions: c.assumptions,
-                steps: c.steps + 1,
-                closings: c.closings + closings(rule),
+                steps: self.counts.steps + 1,
+                closings: self.counts.closings + closings(rule),
+                ..self.counts
+            },
+            ..self.after(Letter::S)
+        }
+    }
+
+    // The line makes this change. Rows of literals behind a cut no longer hold.
+    pub fn changed(self, change: Change) -> LineEffect
+        ensures { result ≡ changed_to self change }
+    {
+        LineEffect {
+            progress: Self {
+                noted: self.noted.min(change.cut),
+                ..self
+            },
+            change,
+        }
+    }
+
+    // The same, or the tree is closed.
+    pub fn grown(self, tree: TreeView, growth: Option<Change>) -> LineEffect
+        ensures { result ≡ grown_to self tree.entry.branch.now tree.entry.waiting.now growth }
+    {
+        match growth {
+            Some(change) => self.changed(change),
+            None => LineEffect {
+                progress: Self {
+                    closed: true,
+                    ..self
+                },
+                change: tree.unchanged(),
             },
         }
     }
 
-    fn close(self) -> Self
-        ensures { result ≡ closed_by self }
-    {
-        let letter = self.letter;
-        let counts = self.counts;
-        Self {
-            letter,
-            closed: true,
-            lines: self.lines,
-            noted: self.noted,
-            clauses: self.clauses,
-            counts,
-        }
-    }
-
-    // Rows of literals behind a cut no longer hold.
-    fn cut(self, len: usize) -> Self
-        ensures { result ≡ cut_to self len }
-    {
-        let letter = self.letter;
-        let counts = self.counts;
-        Self {
-            letter,
-            closed: self.closed,
-            lines: self.lines,
-            noted: self.noted.min(len),
-            clauses: self.clauses,
-            counts,
-        }
-    }
-
-    // The result of the line after which the file is read so far, by what the line makes of the tree.
-    pub fn result(self, extent: Extent, growth: Growth) -> LineResult
-        ensures { result ≡ result_of self extent growth }
-    {
-        match growth {
-            Growth::Refused(reason) => LineResult::Refused(reason, self.lines),
-            Growth::Closed => LineResult::Passed(self.close(), extent.unchanged()),
-            Growth::To(change) => LineResult::Passed(self.cut(change.cut), change),
-        }
-    }
-
-    // The result of a split into the literals of a clause, with checks 15 and 16.
-    pub fn split(self, extent: Extent, span: Span) -> LineResult
-        requires { InLimits extent × (1 ≤ span.count) × (span.count ≤ max_disjuncts) }
-        ensures { result ≡ split_of self extent span }
-    {
-        let len = extent.len;
-        let count = extent.count;
-        if Tree::PLACES < len + 1 {
-            return LineResult::Refused(Reason::BranchFull, self.lines);
-        }
-        if Tree::WAITING < count + (span.count - 1) {
-            return LineResult::Refused(Reason::WaitingFull, self.lines);
-        }
-        LineResult::Splits(self, span)
-    }
-
-    // "The assumed count takes A lines plus clauses."
-    fn total(self) -> Counts
-        requires { Counted self × (self.lines ≤ max_bytes) }
-        ensures { result ≡ total_of self }
-    {
-        let c = self.counts;
-        Counts {
-            terms: c.terms,
-            assumptions: c.assumptions + self.clauses,
-            steps: c.steps,
-            closings: c.closings,
-        }
-    }
-
-    // The end of the file: a closed tree is accepted, an open one breaks check 17.
+    // The end of the file: a closed tree is accepted, an open one breaks check 17. "The assumed
+    // count takes A lines plus clauses."
     pub fn end(self) -> Verdict
         requires { Counted self × (self.lines ≤ max_bytes) }
         ensures { verdict_of result ≡ verdict_at_end self }
     {
         if self.closed {
-            return Verdict::Accepted(self.total());
+            Ok(Counts {
+                assumptions: self.counts.assumptions + self.clauses,
+                ..self.counts
+            })
+        } else {
+            Err(Refusal {
+                reason: Reason::BranchOpen,
+                line: self.lines + 1,
+            })
         }
-        Verdict::Refused(Reason::BranchOpen, self.lines + 1)
     }
 }

@@ -16,7 +16,7 @@ use Rattle.packing.specs.Packing.{code_limit}
 use Rattle.tableau.specs.Reply.{max_clause_lines}
 use Rattle.clauses.specs.Held.{codes_at}
 use Rattle.tree.specs.State.{codes_of, AtMost, one_code, packed, packed_one, cut_of, unpacked, HasRoom, waiting_of}
-use Rattle.tree.specs.Change.{begun_of, begun_count, MayBegin}
+use Rattle.tree.specs.Change.{begun_of, begun_count, MayBegin, each_alone}
 
 -- the third code is not packed
 short : (n x y z z' : ℕ) → n ≤ 2 → take n (x ∷ y ∷ z ∷ []) ≡ take n (x ∷ y ∷ z' ∷ [])
@@ -85,9 +85,6 @@ codes_length words i (suc n) = ap suc (codes_length words (suc i) n)
 
 one_code_lem : (code : ℕ) → code < code_limit → AtMost 2 (one_code code)
 one_code_lem code small = record { count = omega arith; first = small; second = omega arith; third = omega arith }
-
-abbrev pub each_alone : {A : Type 0} → List A → List (List A)
-each_alone = map (λ l. l ∷ [])
 
 pub each_map : {A B : Type 0} (f : A → B) (l : List A) → map (map f) (each_alone l) ≡ each_alone (map f l)
 each_map f [] = refl

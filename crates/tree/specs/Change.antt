@@ -81,6 +81,10 @@ pub record SplitsAt (words B W : List ℕ) (ks : List (List ℕ)) (r : Result Ch
 abbrev pub Splits : List ℕ → List ℕ → List (List ℕ) → Result Change Reason → Type 0
 Splits B W ks r = (words : List ℕ) → SplitsAt words B W ks r
 
+-- alternatives of one literal each
+abbrev pub each_alone : {A : Type 0} → List A → List (List A)
+each_alone = map (λ l. l ∷ [])
+
 -- A CLOSING: its change, or that the tree is closed
 abbrev pub status_after : (ℕ → Literal) → List ℕ → List ℕ → List ℕ → Option Change → Status
 status_after f words B W (Some c) = is_open (changed f words B W c)

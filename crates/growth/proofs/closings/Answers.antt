@@ -1,24 +1,25 @@
 -- `cls`, `emp` and `bck` are the rules that close.
-use mathlib.Core.Path.{sym, ap}
+use mathlib.Core.Path.{◌≡◌, ap}
+use mathlib.Core.Logic.{◌⊎◌, inl, inr}
+use Rattle.tableau.specs.declared.Rule.{Rule}
 use Rattle.tableau.specs.Words.{rule_names}
 use Rattle.tableau.specs.Rules.{rule}
 use Rattle.tableau.proofs.Places.{rules}
 use Rattle.growth.specs.Growth.{closings_of}
 use Rattle.growth.proofs.Laws.{not_closing}
 use Rattle.growth.proofs.closings.Goals as goal
+use Rattle.growth.proofs.closings.Goals.{in-Cls, in_default}
 
-pub returns-in-Cls : goal.returns-in-Cls
+closes : {x : Rule} → (x ≡ Rule.Cls) ⊎ ((x ≡ Rule.Emp) ⊎ (x ≡ Rule.Bck)) → closings_of x ≡ 1
 unfolding rule
-returns-in-Cls c = sym (ap closings_of c.in-Cls.is)
+closes (inl e) = ap closings_of e
+closes (inr (inl e)) = ap closings_of e
+closes (inr (inr e)) = ap closings_of e
 
-pub returns-in-Emp : goal.returns-in-Emp
-unfolding rule
-returns-in-Emp c = sym (ap closings_of c.in-Emp.is)
-
-pub returns-in-Bck : goal.returns-in-Bck
-unfolding rule
-returns-in-Bck c = sym (ap closings_of c.in-Bck.is)
-
-pub returns-in_default : goal.returns-in_default
+pub returns : goal.returns
 unfolding rules rule_names
-returns-in_default c = sym (not_closing c.args.rule (c.in_default.not-Cls, (c.in_default.not-Emp, (c.in_default.not-Bck, tt))))
+returns c =
+    elim c.match-matches.branch [
+      | in-Cls w ↦ rw (c.from.ensures, w.matches-is, closes w.in-Cls.is)
+      | in_default w ↦ rw (c.from.ensures, w.matches-is, not_closing c.args.rule (w.in_default.not-Cls, (w.in_default.not-Emp, (w.in_default.not-Bck, tt))))
+    ]
