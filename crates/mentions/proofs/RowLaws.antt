@@ -1,6 +1,6 @@
 -- A row that is filled word by word, and that of a new term.
 use mathlib.Core.Path.{◌≡◌, refl, sym, ◌∙◌, ap}
-use mathlib.Core.Bool.{Bool, ◌||◌}
+use mathlib.Core.Bool.{Bool, ◌||◌, or_comm, or_assoc}
 use mathlib.Core.List.{List}
 use mathlib.Core.Logic.{inl, inr, ⊎_elim}
 use Prim.Native.Nat.{ℕ, ◌+◌, ◌*◌, ◌/◌, ◌%◌, ◌^◌, ◌<◌, ◌≤◌}
@@ -20,10 +20,8 @@ use Rattle.mentions.proofs.BitLaws.{bit_or_lem, own_here}
 -- the words of the arguments' rows, joined
 pub joined_bits : (rows : List ℕ) (k : Four TermNo) (i : ℕ) {x y z w : ℕ}
     → x ≡ get_or rows (k.a * row + i) 0 → y ≡ get_or rows (k.b * row + i) 0 → z ≡ get_or rows (k.c * row + i) 0 → w ≡ get_or rows (k.d * row + i) 0
-    → (q : ℕ) → bit_at (bit_or x (bit_or y (bit_or z w))) q ≡ joined_bit rows k i q
-joined_bits rows k i {x} {y} {z} {w} ex ey ez ew q =
-    bit_or_lem x (bit_or y (bit_or z w)) q ∙ (λ j. bit_at (ex j) q || (bit_or_lem y (bit_or z w) q
-    ∙ (λ j. bit_at (ey j) q || (bit_or_lem z w q ∙ (λ j. bit_at (ez j) q || bit_at (ew j) q)) j)) j)
+    → (q : ℕ) → bit_at (bit_or (bit_or (bit_or x y) z) w) q ≡ joined_bit rows k i q
+joined_bits rows k i {x} {y} {z} {w} ex ey ez ew q = simp (bit_or_lem, or_assoc, ex, ey, ez, ew)
 
 -- A ROW, word by word
 module _ (old : List ℕ) (t : ℕ) (f : ℕ → ℕ → Bool) where
@@ -61,7 +59,7 @@ module _ (old mid : List ℕ) (t : TermNo) (f : ℕ → ℕ → Bool) (F : Fille
   place = t * row + t / 64
 
   abbrev word : ℕ
-  word = bit_or (1 * 2 ^ (t % 64) % 2 ^ 64) (get_or mid place 0)
+  word = bit_or (get_or mid place 0) (1 * 2 ^ (t % 64) % 2 ^ 64)
 
   own_bit : (w : TermNo) → w < 640 → is_mentioned (set mid place word) t w ≡ (eqb t w || f (w / 64) (w % 64))
   own_bit w m = elim (dec (eqb (w / 64) (t / 64))) [
@@ -70,7 +68,8 @@ module _ (old mid : List ℕ) (t : TermNo) (f : ℕ → ℕ → Bool) (F : Fille
         let z : w / 64 * 64 + w % 64 ≡ w = omega arith in
         ap (λ (j : ℕ). bit_at (get_or (set mid place word) (t * row + j) 0) (w % 64)) e
         ∙ ap (λ (v : ℕ). bit_at v (w % 64)) (get_or-set_same mid place word 0 (omega arith))
-        ∙ bit_or_lem (1 * 2 ^ (t % 64) % 2 ^ 64) (get_or mid place 0) (w % 64)
+        ∙ bit_or_lem (get_or mid place 0) (1 * 2 ^ (t % 64) % 2 ^ 64) (w % 64)
+        ∙ or_comm (row_bit mid t (t / 64) (w % 64)) (bit_at (1 * 2 ^ (t % 64) % 2 ^ 64) (w % 64))
         ∙ (λ i. (own_here t (w / 64) (w % 64) (sym e) (omega arith) ∙ ap (eqb t) z) i
         || (ap (λ (j : ℕ). row_bit mid t j (w % 64)) (sym e) ∙ F.words (w / 64) (w % 64) (omega arith) (omega arith)) i)
     | inr p ↦

@@ -1,5 +1,10 @@
 -- An enum without payload is cast to the number that the specification gives it.
-use mathlib.Core.Path.{◌≡◌, refl}
+use mathlib.Core.Path.{◌≡◌, refl, sym, ◌∙◌, ap, ap₂}
+use mathlib.Core.Bool.{Bool}
+use mathlib.Core.Logic.{inl, inr}
+use Prim.Native.Nat.{ℕ}
+use lib.Dec.{eqb}
+use borrow.Author.Tests.{eq-eqb, ne_eqb, eqb-true, eqb-false}
 use denote.Enum.Bare.{sameb}
 use denote.Enum.Declared.{tag_of}
 use Rattle.tableau.specs.declared.Sort.{Sort}
@@ -8,6 +13,7 @@ use Rattle.tableau.specs.declared.Relation.{Relation}
 use Rattle.tableau.specs.contracts.Sort as sort-type
 use Rattle.tableau.specs.contracts.Operator as operator-type
 use Rattle.tableau.specs.contracts.Relation as relation-type
+use Rattle.tableau.proofs.Bools.{dec}
 use Rattle.tableau.specs.Terms.{sort_index, operator_index, relation_index, same_sort}
 
 pub sort_tag : (s : Sort) → tag_of sort-type.the_type s ≡ sort_index s
@@ -42,11 +48,15 @@ relation_tag Relation.Ne = refl
 relation_tag Relation.Le = refl
 relation_tag Relation.Nl = refl
 
--- `==` of sorts, at an `rfv`'s
-pub reference_tag : (s : Sort) → sameb sort-type.the_type s Sort.Reference ≡ same_sort Sort.Reference s
-unfolding sort_index
-reference_tag Sort.Reference = refl
-reference_tag Sort.Region = refl
-reference_tag Sort.Heap = refl
-reference_tag Sort.Field = refl
-reference_tag Sort.Class = refl
+-- `==` of sorts is the specification's test, either way round
+pub same_sorts : (s r : Sort) → sameb sort-type.the_type s r ≡ same_sort s r
+same_sorts s r = ap₂ eqb (sort_tag s) (sort_tag r)
+
+pub sort_is : {b : Bool} {s s' : Sort} (r : Sort) → b ≡ sameb sort-type.the_type s r → s ≡ s' → b ≡ same_sort r s'
+sort_is {b} {s} {s'} r e q = e ∙ same_sorts s r ∙ turned (sort_index s) (sort_index r) ∙ ap (same_sort r) q
+  where
+    turned : (m n : ℕ) → eqb m n ≡ eqb n m
+    turned m n = elim (dec (eqb m n)) [
+      | inl p ↦ p ∙ sym (eq-eqb n m (sym (eqb-true m n p)))
+      | inr p ↦ p ∙ sym (ne_eqb n m (λ e. eqb-false m n p (sym e)))
+    ]

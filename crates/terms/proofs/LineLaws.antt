@@ -1,6 +1,7 @@
 -- A T line and an A line, from what each of their checks comes to.
 use mathlib.Core.Path.{◌≡◌, refl, sym, ◌∙◌, ap, subst}
 use mathlib.Core.Bool.{Bool, true, false, ◌&&◌, not, and-true, true≢false, false≢true}
+use mathlib.Core.Logic.{◌⊎◌, ⊎_elim}
 use mathlib.Core.List.{[], ◌∷◌, ◌++◌}
 use Rattle.std.specs.Prelude.{Option, None, Some, IsSome, IsNone}
 use Prim.Native.Nat.{ℕ, ◌≤◌}
@@ -14,7 +15,7 @@ use Rattle.tableau.specs.declared.TermNumber.{TermNumber}
 use Rattle.tableau.specs.declared.Reason.{Reason}
 use Rattle.tableau.specs.Basics.{is_some, Four, four, every}
 use Rattle.tableau.specs.Fields.{unused, of, word_fields, sides}
-use Rattle.tableau.specs.Terms.{TermNo, Table, written, max_terms, same_sort, at, sort_of}
+use Rattle.tableau.specs.Terms.{TermNo, Table, written, max_terms, same_sort, one_sort, at, sort_of}
 use Rattle.tableau.specs.Terms as specification
 use Rattle.tableau.specs.Tree.{Checked, passed, ◌>>◌, require}
 use Rattle.tableau.specs.Reply.{zero_if_unused, is_term, term_or_name, of_sort, is_new, term_line, literal_line}
@@ -104,12 +105,33 @@ both_terms table Relation.Ne k = two_tests (is_term table k.a) (is_term table k.
 both_terms table Relation.Le k = two_tests (is_term table k.a) (is_term table k.b)
 both_terms table Relation.Nl k = two_tests (is_term table k.a) (is_term table k.b)
 
--- check 9 of a relation that asks for the sort of each side
-pub both_sorted : (table : Table) (s s' : Sort) (l : Literal)
-    → (same_sort s (sort_of (at table l.left.0)) && same_sort s' (sort_of (at table l.right.0)))
-    ≡ (every (of_sort table) (four (of s) (of s') unused unused) (sides_in l) && true)
-both_sorted table s s' l =
-    two_tests (same_sort s (sort_of (at table l.left.0))) (same_sort s' (sort_of (at table l.right.0))) ∙ sym (and-true _)
+-- check 9: the sorts of both sides, by the relation
+module _ (table : Table) (l : Literal) where
+  abbrev left_sort : Sort
+  left_sort = sort_of (at table l.left.0)
+
+  abbrev right_sort : Sort
+  right_sort = sort_of (at table l.right.0)
+
+  abbrev sorted : Relation → Bool
+  sorted R = sides_sorted table R (sides_in l)
+
+  -- each has its own
+  both_sorted : (s s' : Sort) → (same_sort s left_sort && same_sort s' right_sort) ≡ (every (of_sort table) (four (of s) (of s') unused unused) (sides_in l) && true)
+  both_sorted s s' = two_tests (same_sort s left_sort) (same_sort s' right_sort) ∙ sym (and-true _)
+
+  pub member_sorts : (l.relation ≡ Relation.In) ⊎ (l.relation ≡ Relation.Ni) → (same_sort Sort.Reference left_sort && same_sort Sort.Region right_sort) ≡ sorted l.relation
+  unfolding sides one_sort
+  member_sorts = ⊎_elim (λ e. both_sorted Sort.Reference Sort.Region ∙ sym (ap sorted e)) (λ e. both_sorted Sort.Reference Sort.Region ∙ sym (ap sorted e))
+
+  pub class_sorts : (l.relation ≡ Relation.Le) ⊎ (l.relation ≡ Relation.Nl) → (same_sort Sort.Class left_sort && same_sort Sort.Class right_sort) ≡ sorted l.relation
+  unfolding sides one_sort
+  class_sorts = ⊎_elim (λ e. both_sorted Sort.Class Sort.Class ∙ sym (ap sorted e)) (λ e. both_sorted Sort.Class Sort.Class ∙ sym (ap sorted e))
+
+  -- both have one
+  pub one_sort_of_both : (l.relation ≡ Relation.Eq) ⊎ (l.relation ≡ Relation.Ne) → same_sort left_sort right_sort ≡ sorted l.relation
+  unfolding sides one_sort
+  one_sort_of_both = ⊎_elim (λ e. sym (ap sorted e)) (λ e. sym (ap sorted e))
 
 -- so the sides of a literal that passed check 8 can be packed
 pub sides_packable : (table : Table) (l : Literal) → length table ≤ max_terms

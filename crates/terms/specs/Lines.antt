@@ -1,8 +1,10 @@
 -- What T, A and C lines give.
-use Rattle.std.specs.Prelude.{◌≡◌, Bool, ◌&&◌, [], ◌∷◌, ◌++◌, ℕ, ◌+◌, ◌<◌}
+use Rattle.std.specs.Prelude.{◌≡◌, Bool, ◌&&◌, List, [], ◌∷◌, ◌++◌, ℕ, ◌+◌, ◌<◌}
+use Rattle.std.specs.Prelude.{Option, None, Some, get_or}
 use Rattle.std.specs.Prelude.{Result, Ok, Err, IfOk, MatchResult}
 use Rattle.tableau.specs.declared.Reason.{Reason}
 use Rattle.tableau.specs.declared.Relation.{Relation}
+use Rattle.tableau.specs.declared.Sort.{Sort}
 use Rattle.tableau.specs.Basics.{Four, four, every}
 use Rattle.tableau.specs.Fields.{Argument, unused, of, sides}
 use Rattle.tableau.specs.Terms.{Table, Literal, at, sort_of, one_sort}
@@ -11,17 +13,15 @@ use Rattle.tableau.specs.Reply.{of_sort, term_line}
 use Rattle.syntax.specs.declared.Term.{Term}
 use Rattle.syntax.specs.Syntax.{word_in, fields_in, term_in}
 use Rattle.packing.specs.Packing.{pack_literal, code_limit}
-use Rattle.terms.specs.declared.arguments.ArgumentSort.{ArgumentSort}
-use Rattle.terms.specs.declared.arguments.ArgumentRow.{ArgumentRow}
 use Rattle.terms.specs.Arrays.{Arrays, Held}
 
 -- AN OPERATOR'S ROW, as the specification has it
-abbrev pub argument_in : ArgumentSort → Argument
-argument_in ArgumentSort.None = unused
-argument_in (ArgumentSort.Of s) = of s
+abbrev pub argument_in : Option Sort → Argument
+argument_in None = unused
+argument_in (Some s) = of s
 
-abbrev pub row_in : ArgumentRow → Four Argument
-row_in r = four (argument_in r.a) (argument_in r.b) (argument_in r.c) (argument_in r.d)
+abbrev pub row_in : List (Option Sort) → Four Argument
+row_in r = four (argument_in (get_or r 0 None)) (argument_in (get_or r 1 None)) (argument_in (get_or r 2 None)) (argument_in (get_or r 3 None))
 
 -- A T LINE: its reply, and what the arrays hold afterwards
 abbrev pub making_of : Checked Table → Result (Unit {0}) Reason

@@ -1,5 +1,4 @@
 -- A bit of words joined by `or` is a bit of one of them.
-use native.Mathlib.Omega.{arith}
 use Rattle.syntax.specs.Syntax.{arguments_in}
 use Rattle.mentions.proofs.RowLaws.{joined_bits}
 use Rattle.mentions.proofs.joined_word.Goals as goal
@@ -8,15 +7,3 @@ pub returns : goal.returns
 returns c =
     joined_bits c.args.rows.now (arguments_in c.args.k) c.args.i c.word_at.ensures
     c.word_at-2.ensures c.word_at-3.ensures c.word_at-4.ensures
-
-pub word_at-requires : goal.word_at-requires
-word_at-requires c = (omega arith, c.requires.1)
-
-pub word_at-requires-2 : goal.word_at-requires-2
-word_at-requires-2 c = (omega arith, c.requires.1)
-
-pub word_at-requires-3 : goal.word_at-requires-3
-word_at-requires-3 c = (omega arith, c.requires.1)
-
-pub word_at-requires-4 : goal.word_at-requires-4
-word_at-requires-4 c = (omega arith, c.requires.1)

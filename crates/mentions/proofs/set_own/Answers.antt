@@ -4,4 +4,4 @@ use Rattle.mentions.proofs.RowLaws.{own_set}
 use Rattle.mentions.proofs.set_own.Goals as goal
 
 pub returns : goal.returns
-returns c old f F = own_set old _ _ f F (omega (arith, c.requires)) (omega (arith, c.requires))
+returns c old f F = own_set old _ _ f F (omega arith) (omega arith)

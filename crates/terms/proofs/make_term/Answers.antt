@@ -106,7 +106,7 @@ note-requires c =
     let p = c.requires.held in
     let b = arguments_below p.0 c.args.term (eight (goal.at.note-requires c).Else-not-are_made p.0 p.1) in
     let q : length p.0 ≡ c.args.n = p.1.count in
-    (omega arith, (omega arith, omega arith, omega arith, omega arith), p.1.mentioned.size)
+    (omega arith, (omega arith, omega arith, omega arith, omega arith))
 
 pub returns : goal.returns
 returns c =

@@ -1,59 +1,36 @@
--- Each arm knows the relation.
-use mathlib.Core.Path.{◌∙◌}
+-- Each arm knows the relation; the left side fails, or the right decides.
+use Rattle.std.proofs.Common.{◌∙◌, ap₂}
 use Rattle.tableau.specs.declared.Sort.{Sort}
-use Rattle.tableau.specs.Fields.{sides}
-use Rattle.tableau.specs.Terms.{one_sort}
-use Rattle.terms.proofs.LineLaws.{both_sorted}
+use Rattle.tableau.specs.Terms.{at, sort_of, same_sort}
+use Rattle.packing.proofs.Tags.{same_sorts, sort_is}
+use Rattle.terms.proofs.LineLaws.{first_decides, second_decides, member_sorts, class_sorts, one_sort_of_both}
 use Rattle.terms.proofs.sides.have_sorts.Goals as goal
 
-pub of_sorts-requires : goal.of_sorts-requires
-unfolding sides one_sort
-of_sorts-requires c = record { entries = c.requires.entries; packable_literal = c.requires.packable_literal }
+pub returns-then-eq : goal.returns-then-eq
+returns-then-eq c table E =
+    second_decides (sort_is Sort.Reference c.eq.ensures (c.sort_of-left.ensures table E)) c.if-eq.true
+    (sort_is Sort.Region c.eq-then-eq.ensures (c.sort_of-right.ensures table E))
+    ∙ member_sorts table c.args.literal c.in-In.is
 
-pub of_sorts-requires-in-Ni : goal.of_sorts-requires-in-Ni
-unfolding sides one_sort
-of_sorts-requires-in-Ni c = record { entries = c.requires.entries; packable_literal = c.requires.packable_literal }
-
-pub of_one_sort-requires : goal.of_one_sort-requires
-unfolding sides one_sort
-of_one_sort-requires c = record { entries = c.requires.entries; packable_literal = c.requires.packable_literal }
-
-pub of_one_sort-requires-in-Ne : goal.of_one_sort-requires-in-Ne
-unfolding sides one_sort
-of_one_sort-requires-in-Ne c = record { entries = c.requires.entries; packable_literal = c.requires.packable_literal }
-
-pub of_sorts-requires-in-Le : goal.of_sorts-requires-in-Le
-unfolding sides one_sort
-of_sorts-requires-in-Le c = record { entries = c.requires.entries; packable_literal = c.requires.packable_literal }
-
-pub of_sorts-requires-in-Nl : goal.of_sorts-requires-in-Nl
-unfolding sides one_sort
-of_sorts-requires-in-Nl c = record { entries = c.requires.entries; packable_literal = c.requires.packable_literal }
-
-pub returns-in-In : goal.returns-in-In
-unfolding sides one_sort
-returns-in-In c table E = rw c.in-In.is
-    (c.of_sorts.ensures table E ∙ both_sorted table Sort.Reference Sort.Region c.args.literal)
-
-pub returns-in-Ni : goal.returns-in-Ni
-unfolding sides one_sort
-returns-in-Ni c table E = rw c.in-Ni.is
-    (c.of_sorts-in-Ni.ensures table E ∙ both_sorted table Sort.Reference Sort.Region c.args.literal)
+pub returns-else-eq : goal.returns-else-eq
+returns-else-eq c table E =
+    first_decides (same_sort Sort.Region (sort_of (at table c.args.literal.right.0)))
+    (sort_is Sort.Reference c.eq.ensures (c.sort_of-left.ensures table E)) c.if-eq.false
+    ∙ member_sorts table c.args.literal c.in-In.is
 
 pub returns-in-Eq : goal.returns-in-Eq
-unfolding sides one_sort
-returns-in-Eq c table E = rw c.in-Eq.is (c.of_one_sort.ensures table E)
+returns-in-Eq c table E =
+    c.eq-in-Eq.ensures ∙ same_sorts _ _ ∙ ap₂ same_sort (c.sort_of-left.ensures table E) (c.sort_of-right.ensures table E)
+    ∙ one_sort_of_both table c.args.literal c.in-Eq.is
 
-pub returns-in-Ne : goal.returns-in-Ne
-unfolding sides one_sort
-returns-in-Ne c table E = rw c.in-Ne.is (c.of_one_sort-in-Ne.ensures table E)
+pub returns-then-eq-2 : goal.returns-then-eq-2
+returns-then-eq-2 c table E =
+    second_decides (sort_is Sort.Class c.eq-in-Le.ensures (c.sort_of-left.ensures table E)) c.if-eq-2.true
+    (sort_is Sort.Class c.eq-then-eq-2.ensures (c.sort_of-right.ensures table E))
+    ∙ class_sorts table c.args.literal c.in-Le.is
 
-pub returns-in-Le : goal.returns-in-Le
-unfolding sides one_sort
-returns-in-Le c table E = rw c.in-Le.is
-    (c.of_sorts-in-Le.ensures table E ∙ both_sorted table Sort.Class Sort.Class c.args.literal)
-
-pub returns-in-Nl : goal.returns-in-Nl
-unfolding sides one_sort
-returns-in-Nl c table E = rw c.in-Nl.is
-    (c.of_sorts-in-Nl.ensures table E ∙ both_sorted table Sort.Class Sort.Class c.args.literal)
+pub returns-else-eq-2 : goal.returns-else-eq-2
+returns-else-eq-2 c table E =
+    first_decides (same_sort Sort.Class (sort_of (at table c.args.literal.right.0)))
+    (sort_is Sort.Class c.eq-in-Le.ensures (c.sort_of-left.ensures table E)) c.if-eq-2.false
+    ∙ class_sorts table c.args.literal c.in-Le.is
