@@ -48,13 +48,19 @@ always i f b = record { room = b.room; answers = λ table h fresh. rw (i, f tabl
 pub record MetIf (A : Table → Type 0) (x : Rule) (P Q : Option Literal) (t w : ℕ) (b : Bool) (ks : List (List Literal)) : Type 0 where
   pub answers : (table : Table) → A table → (fresh : Freshness) → answer table fresh P Q [] false t w x ≡ cond b (passed ks) (refused Reason.NeedNotMet)
 
-module _ {A : Table → Type 0} {x : Rule} {P Q : Option Literal} {t w : ℕ} {b : Bool} {ks : List (List Literal)} (m : MetIf A x P Q t w b ks) {r : Bool}
-    (e : r ≡ not b) where
-  pub unmet : r ≡ true → Concludes A x P Q t w (Err Reason.NeedNotMet)
-  unmet h = record { room = tt; answers = λ table k fresh. rw (m.answers table k fresh, differ e h) }
+module _ {A : Table → Type 0} {x : Rule} {P Q : Option Literal} {t w : ℕ} {b : Bool} {ks : List (List Literal)} (m : MetIf A x P Q t w b ks) where
+  pub where_false : b ≡ false → Concludes A x P Q t w (Err Reason.NeedNotMet)
+  where_false e = record { room = tt; answers = λ table k fresh. rw (m.answers table k fresh, e) }
 
-  pub met : {o : Outcome} → r ≡ false → Builds o ks → Concludes A x P Q t w (Ok o)
-  met h g = record { room = g.room; answers = λ table k fresh. rw (m.answers table k fresh, agree e h, g.adds) }
+  pub where_true : {o : Outcome} → b ≡ true → Builds o ks → Concludes A x P Q t w (Ok o)
+  where_true e g = record { room = g.room; answers = λ table k fresh. rw (m.answers table k fresh, e, g.adds) }
+
+  -- by what `!=` answers
+  pub unmet : {r : Bool} → r ≡ not b → r ≡ true → Concludes A x P Q t w (Err Reason.NeedNotMet)
+  unmet e h = where_false (differ e h)
+
+  pub met : {r : Bool} {o : Outcome} → r ≡ not b → r ≡ false → Builds o ks → Concludes A x P Q t w (Ok o)
+  met e h g = where_true (agree e h) g
 
 -- two tests, of which the second is looked at only where the first holds
 pub by_tests : {A : Type 0} (a b : Bool) → (a ≡ false → A) → (a ≡ true → b ≡ false → A) → (a ≡ true → b ≡ true → A) → A

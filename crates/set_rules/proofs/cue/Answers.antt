@@ -1,16 +1,9 @@
 -- `cue` answers what its row says.
 use mathlib.Core.Path.{refl}
 use Rattle.tableau.specs.declared.Relation.{Relation}
-use Rattle.rules.proofs.Laws.{computing, is_cup, is_not, view_small}
+use Rattle.rules.proofs.Laws.{computing, is_cup, is_not}
 use Rattle.rules.proofs.Rows.{other_p, other_region, parted}
 use Rattle.set_rules.proofs.cue.Goals as goal
-
--- u in cup(r,s)
-pub splits-requires : goal.splits-requires
-splits-requires c =
-    let u = (rw c.in-In.is at c.requires.small_literal).0 in
-    let n = view_small c.requires.held_by c.view.ensures c.in-Cup.is in
-    rw (c.literal.ensures, c.literal-2.ensures) ((u, n.0), (u, n.1))
 
 pub returns : goal.returns
 unfolding computing
@@ -22,10 +15,6 @@ returns c =
 pub returns-in_default : goal.returns-in_default
 unfolding computing
 returns-in_default c = let p = c.args.p in other_p p refl (is_not Relation.In p c.in_default.not-In)
-
-pub view-requires : goal.view-requires
-unfolding computing
-view-requires c = record { entries = c.requires.held_by; small = (rw c.in-In.is at c.requires.small_literal).1 }
 
 -- x is not cup(r,s)
 pub returns-in_default-view : goal.returns-in_default-view

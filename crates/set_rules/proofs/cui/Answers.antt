@@ -1,15 +1,12 @@
 -- `cui` answers what its rows say.
-use borrow.Author.Tests.{eq-eqb, ne_eqb}
 use Rattle.tableau.specs.declared.Operator.{Operator}
 use Rattle.tableau.specs.declared.Relation.{Relation}
 use Rattle.tableau.specs.Terms.{at}
-use Rattle.rules.proofs.Laws.{by_sides, computing, is_not, no_arguments}
-use Rattle.set_rules.proofs.Regions.{or_holds, or_fails, united}
+use Rattle.rules.proofs.Laws.{agree, by_sides, computing, differ, is_not, no_arguments}
+use Rattle.rules.proofs.Rows.{where_false, where_true}
+use Rattle.set_rules.proofs.Regions.{united}
 use Rattle.set_rules.proofs.cui.Goals as goal
-use Rattle.set_rules.proofs.cui.Goals.{then-x-r, else-x-r}
-use lib.Dec.{eqb}
-use mathlib.Core.Bool.{◌||◌}
-use mathlib.Core.Path.{◌≡◌}
+use Rattle.set_rules.proofs.cui.Goals.{else-ne-via-then-ne+else-ne-2, else-ne-via-else-ne}
 
 -- p is not u in x
 pub returns-in_default : goal.returns-in_default
@@ -28,20 +25,18 @@ returns-in_default-view c =
       answers = λ table h fresh. rw (c.in-In.is, no_arguments Operator.Cup (at table t) (c.view.ensures table h).is c.in_default-view.not-Cup);
     }
 
--- u in x, and t is cup(r,s)
-pub adds_if-requires : goal.adds_if-requires
-adds_if-requires c =
-    let g = c.requires.small_literal in
-    rw c.literal.ensures ((rw c.in-In.is at g.0).0, g.1)
+-- x is neither
+pub returns-then-ne-2 : goal.returns-then-ne-2
+returns-then-ne-2 c =
+    where_false (united c.in-In.is c.in-Cup.is c.view.ensures)
+    (rw (differ c.ne.ensures c.if-ne.true, differ c.ne-then-ne.ensures c.if-ne-2.true))
 
+-- x is r or s
 pub returns : goal.returns
 returns c =
-    let told : c.if-x-r.adds_if ≡ (eqb c.in-In.x.0 c.in-Cup.r.0 || eqb c.in-In.x.0 c.in-Cup.s.0) =
-    elim c.if-x-r.branch [
-      | then-x-r w ↦ or_holds _ w.adds_if-is (eq-eqb _ _ w.if-x-r.true)
-      | else-x-r w ↦ or_fails w.adds_if-is (ne_eqb _ _ w.if-x-r.false)
-    ] in
-    united c.in-In.is c.in-Cup.is c.view.ensures told (rw c.literal.ensures at c.adds_if.ensures)
-
-pub view-requires : goal.view-requires
-view-requires c = record { entries = c.requires.held_by; small = c.requires.small_literal.1 }
+    where_true (united c.in-In.is c.in-Cup.is c.view.ensures)
+    (elim c.else-ne.branch [
+      | else-ne-via-then-ne+else-ne-2 w ↦ rw (differ c.ne.ensures w.if-ne.true, agree w.ne-then-ne.ensures w.if-ne-2.false)
+      | else-ne-via-else-ne w ↦ rw (agree c.ne.ensures w.if-ne.false)
+    ])
+    (rw c.literal.ensures at c.adds_one.ensures)

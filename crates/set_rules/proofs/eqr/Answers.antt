@@ -1,31 +1,34 @@
 -- `eqr` answers what its row says.
 use mathlib.Core.Path.{refl}
 use Rattle.tableau.specs.declared.Relation.{Relation}
-use Rattle.rules.proofs.Laws.{computing, is_not}
-use Rattle.rules.proofs.Rows.{other_p}
-use Rattle.set_rules.proofs.Regions.{moves, no_regions}
+use Rattle.rules.proofs.Laws.{agree, computing, differ, is_not}
+use Rattle.rules.proofs.Rows.{other_p, where_false, where_true}
+use Rattle.set_rules.proofs.Regions.{carried, no_member}
 use Rattle.set_rules.proofs.eqr.Goals as goal
+use Rattle.set_rules.proofs.eqr.Goals.{then-not-are_regions-via-then-not-are_regions, then-not-are_regions-via-else-not-are_regions+then-ne}
 
--- p is not r eq s
+-- q is not u in x
 pub returns-in_default : goal.returns-in_default
 unfolding computing
-returns-in_default c = let p = c.args.p in other_p p refl (is_not Relation.Eq p c.in_default.not-Eq)
+returns-in_default c = let q = c.args.q in no_member refl c.in_default.is-0 q (is_not Relation.In q c.in_default.not-In-1)
 
-pub are_regions-requires : goal.are_regions-requires
+-- p is not r eq s
+pub returns-in_default-2 : goal.returns-in_default-2
 unfolding computing
-are_regions-requires c = record { held_by = c.requires.held_by; small = rw c.in-Eq.is at c.requires.small_literal.0 }
+returns-in_default-2 c = let p = c.args.p in other_p p refl (is_not Relation.Eq p c.in_default.not-Eq-0)
 
--- one of them is no region
+-- one of them is no region, or x is another
 pub returns-then-not-are_regions : goal.returns-then-not-are_regions
 unfolding computing
-returns-then-not-are_regions c = no_regions refl c.in-Eq.is c.are_regions.ensures c.if-not-are_regions.true
-
--- they are regions
-pub moves_member-requires : goal.moves_member-requires
-unfolding computing
-moves_member-requires c = let g = c.requires.small_literal in (g.1, (rw c.in-Eq.is at g.0).1)
+returns-then-not-are_regions c =
+    where_false (carried refl c.in-Eq-In.is-0 c.in-Eq-In.is-1 c.are_regions.ensures refl refl)
+    (elim c.then-not-are_regions.branch [
+      | then-not-are_regions-via-then-not-are_regions w ↦ rw w.if-not-are_regions.true
+      | then-not-are_regions-via-else-not-are_regions+then-ne w ↦ rw (w.if-not-are_regions.false, differ w.ne.ensures w.if-ne.true)
+    ])
 
 pub returns : goal.returns
 unfolding computing
-returns c = moves refl c.in-Eq.is c.are_regions.ensures c.args.q c.if-not-are_regions.false (λ u. refl) (λ u. refl)
-    c.moves_member.ensures
+returns c =
+    where_true (carried refl c.in-Eq-In.is-0 c.in-Eq-In.is-1 c.are_regions.ensures refl refl)
+    (rw (c.if-not-are_regions.false, agree c.ne.ensures c.if-ne.false)) (rw c.literal.ensures at c.adds_one.ensures)

@@ -17,14 +17,6 @@ returns-in_default c =
 pub returns-in-NotFresh : goal.returns-in-NotFresh
 returns-in-NotFresh c = unequal c.in-Ne.is c.are_regions.ensures tt (rw (c.if-not-are_regions.false, c.in-NotFresh.is))
 
--- r ne s, and w is fresh
-pub splits_two_two-requires : goal.splits_two_two-requires
-splits_two_two-requires c =
-    let g = c.requires.small_literal in
-    let h = rw c.in-Ne.is at g.0 in
-    rw (c.literal.ensures, c.literal-2.ensures, c.literal-3.ensures, c.literal-4.ensures)
-    record { packable_literal = ((g.1, h.0), (g.1, h.1)); packable_literal_2 = ((g.1, h.0), (g.1, h.1)) }
-
 pub returns : goal.returns
 returns c =
     let built = rw (
@@ -34,10 +26,7 @@ returns c =
       c.literal-4.ensures,
     ) at c.splits_two_two.ensures in
     unequal c.in-Ne.is c.are_regions.ensures built.room
-    (rw (c.if-not-are_regions.false, c.in_default-fresh.is) built.adds)
-
-pub are_regions-requires : goal.are_regions-requires
-are_regions-requires c = record { held_by = c.requires.held_by; small = rw c.in-Ne.is at c.requires.small_literal.0 }
+    (rw (c.if-not-are_regions.false, c.in_default-fresh.is, built.adds))
 
 -- r or s is no region
 pub returns-then-not-are_regions : goal.returns-then-not-are_regions
