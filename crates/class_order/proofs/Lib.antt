@@ -1,3 +1,4 @@
+pub mod BranchLaws
 pub mod WordLaws
 pub mod RowLaws
 pub mod FillLaws

@@ -9,29 +9,31 @@ use lib.Dec.{eqb}
 use borrow.Author.Tests.{eqb-true, eqb-false}
 use Rattle.tableau.specs.declared.Sort.{Sort}
 use Rattle.tableau.specs.declared.Relation.{Relation}
-use Rattle.tableau.specs.Terms.{TermNo, Table, Literal, literal, at, sort_of, sort_index, relation_index, same_sort, same_relation}
+use Rattle.tableau.specs.Terms.{TermNo, Table, Literal, literal, at, sort_of, relation_index, same_sort, same_relation}
 use Rattle.tableau.proofs.Bools.{dec, clash, eqb_same, one_true, or_l, or_r}
 use Rattle.tableau.proofs.Match.{same_sort_lem}
 use Rattle.packing.specs.declared.LiteralView.{LiteralView}
 use Rattle.packing.specs.Packing.{Packs, Small, IsNot, relation_of, literal_of}
-use Rattle.partition.specs.Blocks.{block_of, IsPartition}
+use Rattle.partition.specs.declared.Partition.{Partition}
+use Rattle.partition.specs.Blocks.{block_of}
+use Rattle.class_order.specs.declared.Rows.{Rows}
 use Rattle.class_order.specs.Rows as order
-use Rattle.class_order.specs.Rows.{Path, is_under, Words, Raised, Only, Kept, Extended, HeldIf, RaisedLiteral, Composed, RaisedClass}
+use Rattle.class_order.proofs.WordLaws.{same_rows}
+use Rattle.class_order.specs.Rows.{Path, is_under, Raised, Only, Kept, Extended, HeldIf, RaisedLiteral, Composed, RaisedClass}
 
 -- CHANGES OF ROWS, one after the other
-pub unchanged : (P : Table → List Literal → Type 0) (blocks rows : List ℕ) → Words rows → Extended P blocks rows rows
-unchanged P blocks rows W = record { words = W; kept = λ x y lx ly h. h; only = λ table B p O. O }
+pub unchanged : (P : Table → List Literal → Type 0) (blocks : Partition) (rows : Rows) → Extended P blocks rows rows
+unchanged P blocks rows = record { kept = λ x y lx ly h. h; only = λ table B p O. O }
 
-pub extended_then : (P Q T : Table → List Literal → Type 0) (blocks old mid new : List ℕ) → Extended P blocks old mid → Extended Q blocks mid new
+pub extended_then : (P Q T : Table → List Literal → Type 0) (blocks : Partition) (old mid new : Rows) → Extended P blocks old mid → Extended Q blocks mid new
     → ((table : Table) (B : List Literal) → T table B → P table B) → ((table : Table) (B : List Literal) → T table B → Q table B) → Extended T blocks old new
 extended_then P Q T blocks old mid new E F p q = record {
-  words = F.words;
   kept = λ x y lx ly h. F.kept x y lx ly (E.kept x y lx ly h);
   only = λ table B t O. F.only table B (q table B t) (E.only table B (p table B t) O);
 }
 
 -- ONE ROW RAISED
-module _ (old new : List ℕ) (x y : TermNo) (r : Bool) (R : Raised old new x y r) (lx : Small x) (ly : Small y) where
+module _ (old new : Rows) (x y : TermNo) (r : Bool) (R : Raised old new x y r) (lx : Small x) (ly : Small y) where
   raised_kept : Kept old new
   raised_kept v z lv lz h = elim (dec (eqb v x)) [
     | inl p ↦ let e = eqb-true v x p in
@@ -42,10 +44,10 @@ module _ (old new : List ℕ) (x y : TermNo) (r : Bool) (R : Raised old new x y 
   pub raised_under : is_under new x y ≡ true
   raised_under = R.row y ly ∙ or_r (is_under old x y) (or_r (is_under old y y) (eqb_same y))
 
-  raised_above : new ≡ old → (z : TermNo) → Small z → is_under new y z ≡ true → is_under new x z ≡ true
-  raised_above e z lz h = R.row z lz ∙ or_r (is_under old x z) (or_l (eqb y z) (subst (λ (l : List ℕ). is_under l y z ≡ true) e h))
+  raised_above : new.words ≡ old.words → (z : TermNo) → Small z → is_under new y z ≡ true → is_under new x z ≡ true
+  raised_above e z lz h = R.row z lz ∙ or_r (is_under old x z) (or_l (eqb y z) (subst (λ (v : Rows). is_under v y z ≡ true) (same_rows old new e) h))
 
-  raised_only : (table : Table) (B : List Literal) (blocks : List ℕ) → Path table B blocks x y → Only table B blocks old → Only table B blocks new
+  raised_only : (table : Table) (B : List Literal) (blocks : Partition) → Path table B blocks x y → Only table B blocks old → Only table B blocks new
   raised_only table B blocks p O v z lv lz h = elim (dec (eqb v x)) [
     | inl q ↦ let e = eqb-true v x q in
         subst (λ w. Path table B blocks w z) (sym e)
@@ -61,12 +63,12 @@ module _ (old new : List ℕ) (x y : TermNo) (r : Bool) (R : Raised old new x y 
       go (inl k) = O x z lx lz k
       go (inr k) = beyond (one_true (is_under old y z) (eqb y z) k)
 
-  pub raised_extended : (P : Table → List Literal → Type 0) (blocks : List ℕ) → ((table : Table) (B : List Literal) → P table B → Path table B blocks x y) → Extended P blocks old new
-  raised_extended P blocks path = record { words = R.words; kept = raised_kept; only = λ table B p O. raised_only table B blocks (path table B p) O }
+  pub raised_extended : (P : Table → List Literal → Type 0) (blocks : Partition) → ((table : Table) (B : List Literal) → P table B → Path table B blocks x y) → Extended P blocks old new
+  raised_extended P blocks path = record { kept = raised_kept; only = λ table B p O. raised_only table B blocks (path table B p) O }
 
   -- of a pair that the rows hold already
   pub raised_composed : is_under old x y ≡ true → Composed old new
-  raised_composed h blocks = record { words = R.words; kept = raised_kept; only = λ table B p O. raised_only table B blocks (O x y lx ly h) O }
+  raised_composed h blocks = record { kept = raised_kept; only = λ table B p O. raised_only table B blocks (O x y lx ly h) O }
 
 -- A LITERAL of another relation, and one of le
 other_relation : (R : Relation) (p : LiteralView) (a b : TermNo) → IsNot R p → literal_of p ≡ literal R a b → ⊥
@@ -83,9 +85,9 @@ other_relation R p a b n e = clash (ap (same_relation R) (relation_is p e) ∙ e
 pub not_read : (R : Relation) (p : LiteralView) (l : Literal) (a b : TermNo) → l ≡ literal_of p → IsNot R p → l ≡ literal R a b → ⊥
 not_read R p l a b is n e = other_relation R p a b n (sym is ∙ e)
 
-pub literal_skipped : (blocks rows : List ℕ) (p : LiteralView) (l : Literal) → Words rows → l ≡ literal_of p → IsNot Relation.Le p → RaisedLiteral blocks rows rows l false
-literal_skipped blocks rows p l W is n = record {
-  change = unchanged _ blocks rows W;
+pub literal_skipped : (blocks : Partition) (rows : Rows) (p : LiteralView) (l : Literal) → l ≡ literal_of p → IsNot Relation.Le p → RaisedLiteral blocks rows rows l false
+literal_skipped blocks rows p l is n = record {
+  change = unchanged _ blocks rows;
   less = refl;
   held = record { under = λ a b e. absurd (not_read Relation.Le p l a b is n e); above = λ a b z e. absurd (not_read Relation.Le p l a b is n e) };
 }
@@ -93,7 +95,7 @@ literal_skipped blocks rows p l W is n = record {
 pub read_sides : {R : Relation} {a b m n : TermNo} → literal R m n ≡ literal R a b → (m ≡ a) × (n ≡ b)
 read_sides e = (cc, cc)
 
-module _ (blocks old new : List ℕ) (l : Literal) (m n : TermNo) (S : IsPartition blocks) (is : l ≡ literal Relation.Le m n) where
+module _ (blocks : Partition) (old new : Rows) (l : Literal) (m n : TermNo) (is : l ≡ literal Relation.Le m n) where
   abbrev x : TermNo
   x = block_of blocks m
 
@@ -105,32 +107,24 @@ module _ (blocks old new : List ℕ) (l : Literal) (m n : TermNo) (S : IsPartiti
   held_if false R = record {
     under = λ a b e. let s = read_sides (sym is ∙ e) in
         subst (λ v. is_under new (block_of blocks v) (block_of blocks b) ≡ true) s.0
-        (subst (λ v. is_under new x (block_of blocks v) ≡ true) s.1 (raised_under old new x y false R (S.small m) (S.small n)));
+        (subst (λ v. is_under new x (block_of blocks v) ≡ true) s.1 (raised_under old new x y false R (blocks.valid.small m) (blocks.valid.small n)));
     above = λ a b z e lz h. let s = read_sides (sym is ∙ e) in
         subst (λ v. is_under new (block_of blocks v) z ≡ true) s.0
-        (raised_above old new x y false R (S.small m) (S.small n) R.less z lz (subst (λ v. is_under new (block_of blocks v) z ≡ true) (sym s.1) h));
+        (raised_above old new x y false R (blocks.valid.small m) (blocks.valid.small n) R.less z lz (subst (λ v. is_under new (block_of blocks v) z ≡ true) (sym s.1) h));
   }
 
   pub literal_raised : (r : Bool) → Raised old new x y r → RaisedLiteral blocks old new l r
   literal_raised r R = record {
-    change = raised_extended old new x y r R (S.small m) (S.small n) _ blocks (λ table B o. order.edge m n (o.0, o.1 ∙ ap Some is) refl refl);
+    change = raised_extended old new x y r R (blocks.valid.small m) (blocks.valid.small n) _ blocks (λ table B o. order.edge m n (o.0, o.1 ∙ ap Some is) refl refl);
     less = R.less;
     held = held_if r R;
   }
 
--- A CLASS TERM, and another
-pub class_skipped : (blocks rows : List ℕ) (p t : ℕ) (b : Bool) → Words rows → ((table : Table) → Packs (at table t) p → b ≡ same_sort Sort.Class (sort_of (at table t))) → b ≡ false
-    → RaisedClass blocks rows rows p t
-unfolding sort_index
-class_skipped blocks rows p t b W told e = record {
-  change = unchanged _ blocks rows W;
-  done = λ table k s. clash (told table k ∙ ap (same_sort Sort.Class) s) e;
-}
-
-pub class_raised : (blocks old new : List ℕ) (p t : ℕ) (b r : Bool) → IsPartition blocks → ((table : Table) → Packs (at table t) p → b ≡ same_sort Sort.Class (sort_of (at table t))) → b ≡ true
+-- A CLASS TERM
+pub class_raised : (blocks : Partition) (old new : Rows) (p t : ℕ) (b r : Bool) → ((table : Table) → Packs (at table t) p → b ≡ same_sort Sort.Class (sort_of (at table t))) → b ≡ true
     → Raised old new (block_of blocks t) (block_of blocks t) r → RaisedClass blocks old new p t
-class_raised blocks old new p t b r S told e R = record {
-  change = raised_extended old new _ _ r R (S.small t) (S.small t) _ blocks
+class_raised blocks old new p t b r told e R = record {
+  change = raised_extended old new _ _ r R (blocks.valid.small t) (blocks.valid.small t) _ blocks
       (λ table B k. order.loop t (sym (same_sort_lem Sort.Class (sort_of (at table t)) (sym (told table k) ∙ e))) refl);
-  done = λ table k s. raised_under old new _ _ r R (S.small t) (S.small t);
+  done = λ table k s. raised_under old new _ _ r R (blocks.valid.small t) (blocks.valid.small t);
 }

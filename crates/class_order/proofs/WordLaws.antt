@@ -1,7 +1,9 @@
 -- Words of a row joined, and the row that comes of them.
 use mathlib.Core.Path.{◌≡◌, refl, sym, ◌∙◌, ap, subst}
-use mathlib.Core.Bool.{Bool, true, false, ◌||◌}
+use mathlib.Core.Bool.{Bool, true, false, not, ◌||◌}
 use mathlib.Core.List.{List}
+use mathlib.Core.HLevel.{is_prop→PathP}
+use Rattle.std.proofs.Props.{props}
 use mathlib.Core.Logic.{inl, inr, ⊎_elim}
 use Prim.Native.Nat.{ℕ, zero, suc, ◌+◌, ◌-◌, ◌*◌, ◌/◌, ◌%◌, ◌^◌, ◌<◌, ◌≤◌}
 use native.Mathlib.Nat.{eq-or-lt_of_le}
@@ -10,18 +12,15 @@ use lib.Bits.{bit_or, or_lt, or_add_and, and_le_r}
 use lib.Dec.{eqb}
 use lib.ListN.{length, get_or, set, replicate, length-set, length-replicate}
 use lib.Seq.{get_or-set_same, get_or-set_other, set-get_or, set_out}
-use borrow.Author.Tests.{eqb-true, eqb-false, ne_eqb}
+use borrow.Author.Tests.{eqb-true, eqb-false}
 use Rattle.tableau.proofs.Bools.{dec}
 use Rattle.packing.specs.Packing.{Small}
 use Rattle.table.proofs.GrowthLaws.{zeros}
 use Rattle.mentions.specs.Mentions.{bit_at}
 use Rattle.mentions.proofs.BitLaws.{bit_or_lem, bit_zero}
-use Rattle.partition.proofs.Loops.{up_to, nothing_yet, below_or}
-use Rattle.class_order.specs.Rows.{is_under, Words, Empty, room, Less, united_word, RaisedWord, Raised}
-
--- a word in which the bit of y is not
-pub own_elsewhere : (y i q : ℕ) → (y / 64 ≡ i → ⊥) → q < 64 → bit_at 0 q ≡ eqb y (i * 64 + q)
-own_elsewhere y i q ne l = bit_zero q ∙ sym (ne_eqb y (i * 64 + q) (λ e. ne (let z : y / 64 ≡ i = omega arith in z)))
+use Rattle.partition.proofs.Loops.{up_to, below_or}
+use Rattle.class_order.specs.declared.Rows.{Rows}
+use Rattle.class_order.specs.Words.{Words, room, Less, united_word, RaisedWord}
 
 -- a word that grows leaves less room
 room_same : (n : ℕ) (rows : List ℕ) (i w : ℕ) → n ≤ i → room n (set rows i w) ≡ room n rows
@@ -69,14 +68,14 @@ module _ (rows : List ℕ) (to from own : ℕ) (W : Words rows) (lt : to < 16384
       let b : ℕ = bit_or (get_or rows from 0) own in
       omega (arith, or_add_and (get_or rows to 0) b, and_le_r (get_or rows to 0) b)
 
-  pub word_same : word ≡ get_or rows to 0 → RaisedWord rows rows to from own false
-  word_same e = record { words = W; is = sym (set-get_or rows to 0) ∙ ap (set rows to) (sym e); less = refl }
-
-  pub word_new : (word ≡ get_or rows to 0 → ⊥) → RaisedWord rows (set rows to word) to from own true
-  word_new ne = record {
+  pub word_raised : RaisedWord rows (set rows to word) to from own (not (eqb word (get_or rows to 0)))
+  word_raised = record {
     words = words_set rows to word W word_fits;
     is = refl;
-    less = room_less 16384 rows to word lt (omega (arith, W.size)) (omega (arith, ne, word_more)) word_fits;
+    less = elim (dec (eqb word (get_or rows to 0))) [
+      | inl p ↦ rw p (ap (set rows to) (eqb-true word (get_or rows to 0) p) ∙ set-get_or rows to 0)
+      | inr p ↦ rw p (room_less 16384 rows to word lt (omega (arith, W.size)) (omega (arith, eqb-false word (get_or rows to 0) p, word_more)) word_fits)
+    ];
   }
 
 -- THE FIRST i WORDS of the row x
@@ -91,9 +90,6 @@ pub record RaisedPart (old new : List ℕ) (x y i : ℕ) (r : Bool) : Type 0 whe
   pub before : (j : ℕ) → j < x * 16 → get_or new j 0 ≡ get_or old j 0
   pub after : (j : ℕ) → x * 16 + i ≤ j → get_or new j 0 ≡ get_or old j 0
   pub less : Less r old new
-
-pub raised_none : (old : List ℕ) (x y : ℕ) → Words old → RaisedPart old old x y 0 false
-raised_none old x y W = record { most = omega arith; words = W; done = nothing_yet _; before = λ j l. refl; after = λ j l. refl; less = refl }
 
 module _ (old mid new : List ℕ) (x y i own : ℕ) (r s : Bool) (lx : Small x) (ly : Small y) (li : i < 16) (P : RaisedPart old mid x y i r)
     (ow : (q : ℕ) → q < 64 → bit_at own q ≡ eqb y (i * 64 + q)) (R : RaisedWord mid new (x * 16 + i) (y * 16 + i) own s) where
@@ -124,21 +120,13 @@ module _ (old mid new : List ℕ) (x y i own : ℕ) (r s : Bool) (lx : Small x) 
     less = less_then r s old mid new P.less R.less;
   }
 
-pub raised_all : (old new : List ℕ) (x y i : ℕ) (r : Bool) → 16 ≤ i → RaisedPart old new x y i r → Raised old new x y r
-raised_all old new x y i r h P = record {
-  words = P.words;
-  row = λ z l. P.done (z / 64) (omega arith) (z % 64) (omega arith)
-      ∙ ap (λ v. is_under old x z || (is_under old y z || eqb y v)) (let e : z / 64 * 64 + z % 64 ≡ z = omega arith in e);
-  others = λ v z ne l m. ap (λ w. bit_at w (z % 64)) (elim (below_or v x) [
-    | inl k ↦ P.before (v * 16 + z / 64) (omega arith)
-    | inr k ↦ P.after (v * 16 + z / 64) (omega (arith, P.most, ne))
-  ]);
-  less = P.less;
-}
+-- rows of the same words
+pub same_rows : (old new : Rows) → new.words ≡ old.words → new ≡ old
+same_rows old new e = λ i. record { words = e i; valid = is_prop→PathP (λ j. Words (e j)) (λ j. Prim.hlevel props) new.valid old.valid i }
 
 -- NO BITS
-pub no_bits : (n : ℕ) → n ≡ 16384 → Empty (replicate {A = ℕ} n 0)
-no_bits n e = record {
-  words = record { size = length-replicate {A = ℕ} n 0 ∙ e; fits = λ k. rw (zeros n k) (omega arith) };
-  none = λ x y. ap (λ v. bit_at v (y % 64)) (zeros n (x * 16 + y / 64)) ∙ bit_zero (y % 64);
-}
+pub no_bits : (n : ℕ) → n ≡ 16384 → Words (replicate {A = ℕ} n 0)
+no_bits n e = record { size = length-replicate {A = ℕ} n 0 ∙ e; fits = λ k. rw (zeros n k) (omega arith) }
+
+pub none_under : (n x y : ℕ) → bit_at (get_or (replicate {A = ℕ} n 0) (x * 16 + y / 64) 0) (y % 64) ≡ false
+none_under n x y = ap (λ v. bit_at v (y % 64)) (zeros n (x * 16 + y / 64)) ∙ bit_zero (y % 64)

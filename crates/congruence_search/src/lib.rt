@@ -28,16 +28,11 @@ const HOPS: usize = 8;
 // More than ordinary files need.
 const STEPS: usize = 16384;
 
-// 2^28
-const HALF: u64 = 268435456;
-
-// Odd and below 2^35, so that the sum of the products fits.
+// Other factors than those of the term table, so that terms which share a hash there do not share one
+// here. They are odd.
 const LOW_FACTOR: u64 = 22695477211;
 
 const HIGH_FACTOR: u64 = 28629151879;
-
-// 2^25
-const BELOW: u64 = 33554432;
 
 // What a search knows, and how far it has come.
 #[derive(Drop)]
@@ -79,12 +74,8 @@ struct Search<'a> {
     ghost counts: { (front ≤ 1024) × (waiting ≤ 1024) × (entered ≤ 4096) },
 }
 
-// Another hash than that of the term table, so that terms which share one do not share the other.
-fn hash(signature: u64) -> usize
-    ensures { Small result }
-{
-    ((signature % HALF * LOW_FACTOR + signature / HALF % HALF * HIGH_FACTOR) / BELOW
-        % NUMBERS as u64) as usize
+fn hash(signature: u64) -> usize {
+    table::hash(signature, LOW_FACTOR, HIGH_FACTOR)
 }
 
 impl<'a> Search<'a> {
