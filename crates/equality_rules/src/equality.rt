@@ -6,7 +6,6 @@ ghost use Rattle.packing.specs.Packing.{literal_of, Small, SmallLiteral};
 ghost use Rattle.rules.specs.Answer.{Anywhere, HeldBy, Concludes};
 
 use packing::LiteralView;
-use packing::literals::{left, relation, right};
 use packing::term_codes::congruent;
 use rules::outcome;
 use rules::outcome::{Outcome, literal};
@@ -28,7 +27,7 @@ pub fn sym(p: LiteralView) -> Result<Outcome, Reason>
     let (LiteralView::Eq(a, b) | LiteralView::Ne(a, b)) = p else {
         return Err(Reason::NeedNotMet);
     };
-    Ok(outcome::adds_one(literal(relation(p), b, a)))
+    Ok(outcome::adds_one(literal(p.relation(), b, a)))
 }
 
 // a eq b; b eq c gives a eq c.
@@ -74,10 +73,10 @@ pub fn rep(p: LiteralView, q: LiteralView, side: Side) -> Result<Outcome, Reason
     let LiteralView::Eq(a, b) = q else {
         return Err(Reason::NeedNotMet);
     };
-    let (m, n) = (left(p), right(p));
+    let (m, n) = (p.left(), p.right());
     match side.0 {
-        1 if m == a => Ok(outcome::adds_one(literal(relation(p), b, n))),
-        2 if n == a => Ok(outcome::adds_one(literal(relation(p), m, b))),
+        1 if m == a => Ok(outcome::adds_one(literal(p.relation(), b, n))),
+        2 if n == a => Ok(outcome::adds_one(literal(p.relation(), m, b))),
         _ => Err(Reason::NeedNotMet),
     }
 }
