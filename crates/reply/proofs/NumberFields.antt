@@ -1,11 +1,10 @@
 -- Numbers written one behind the other: what is written, with the form of those that are left behind it, stays the same.
 use Prim.Native.Nat.{ℕ, ◌+◌, ◌<◌}
-use mathlib.Core.Path.{◌≡◌, ◌∙◌, ap}
+use mathlib.Core.Path.{◌≡◌}
 use mathlib.Core.List.{List, [], ◌∷◌, ◌++◌, append_assoc}
 use native.Mathlib.Numerals.{add-one}
-use lib.ListN.{length, take, drop, get_or}
+use lib.ListN.{length, drop, get_or}
 use lib.Seq.{drop-cons, drop-length}
-use Rattle.reply.specs.Line.{Put}
 
 -- `each` is the form of one number, `all` that of several
 module _ (each : ℕ → List ℕ) (all : List ℕ → List ℕ) (first : (n : ℕ) (ns : List ℕ) → all (n ∷ ns) ≡ each n ++ all ns) where
@@ -15,7 +14,3 @@ module _ (each : ℕ → List ℕ) (all : List ℕ → List ℕ) (first : (n : �
 
 pub none_left : (ns : List ℕ) (i : ℕ) → i ≡ length ns → drop i ns ≡ []
 none_left ns i e = rw e (drop-length ns)
-
--- a text at the start, and one behind it
-pub two_texts : {a b line line' line'' : List ℕ} {n r : ℕ} → Put line 0 a line' n → Put line' n b line'' r → take r line'' ≡ a ++ b
-two_texts {b = b} p q = q.held ∙ ap (λ (xs : List ℕ). xs ++ b) p.held

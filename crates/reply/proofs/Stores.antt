@@ -1,7 +1,7 @@
 -- Bytes stored in a list.
 use Prim.Native.Nat.{ℕ, suc, ◌+◌, ◌<◌}
 use mathlib.Core.Path.{◌≡◌}
-use mathlib.Core.List.{List, [], ◌∷◌, ◌++◌, append_assoc}
+use mathlib.Core.List.{List, [], ◌∷◌, ◌++◌}
 use native.Mathlib.Numerals.{add-one}
 use native.Mathlib.Omega.{arith}
 use lib.ListN.{length, take, drop, set, length-set}
@@ -10,10 +10,6 @@ use lib.Seq.{take-suc-set, drop-cons, drop-set-lt, get_or-set_same}
 -- behind the first n
 pub stored_behind : (xs : List ℕ) (n v : ℕ) → n < length xs → take (n + 1) (set xs n v) ≡ take n xs ++ (v ∷ [])
 stored_behind xs n v h = rw add-one (take-suc-set xs n v h)
-
-pub stored : (p q xs : List ℕ) (n m v : ℕ) → n < length xs → m ≡ n + 1 → take n xs ≡ p ++ q
-    → take m (set xs n v) ≡ p ++ (q ++ (v ∷ []))
-stored p q xs n m v h e f = rw (e, stored_behind xs n v h, f) (append_assoc p q (v ∷ []))
 
 -- before the last ones
 pub stored_before : (xs : List ℕ) (n v : ℕ) → n < length xs → drop n (set xs n v) ≡ v ∷ drop (n + 1) xs

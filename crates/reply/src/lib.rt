@@ -1,4 +1,5 @@
-// The reply: seven numbers in the build host's buffer, or one line of text. Both forms are made of parts for any numbers.
+// The reply: seven numbers in the build host's buffer, or one line of text. Both forms are made of
+// parts for any numbers.
 #![tactic(auto)]
 
 mod buffer;
@@ -8,8 +9,8 @@ ghost use Rattle.std.specs.Prelude.{◌≡◌};
 ghost use Rattle.tableau.specs.Reply.{refusal_of, reason_number, reply_numbers, reply_of};
 ghost use Rattle.reply.specs.Verdict.{verdict_of, reply_record};
 
-pub use buffer::{put_numbers, write_numbers};
-pub use line::{put_decimal, put_fields, write_line};
+pub use buffer::put_numbers;
+pub use line::Text;
 use tableau::{Reason, Refusal};
 
 // The counts after a yes.
@@ -41,18 +42,24 @@ impl Reply {
     // The reply buffer of a build host: seven numbers of four bytes.
     pub const BUFFER_BYTES: usize = 28;
 
-    // Room for the reply line, with some to spare: `yes`, seven commas with a number of up to 20 digits each, LF.
-    pub const LINE_BYTES: usize = 160;
-}
-
-// A line of text: the first `len` of its bytes.
-#[derive(Drop)]
-pub struct Text {
-    pub bytes: [u8; Reply::LINE_BYTES],
-    pub len: usize,
+    // The numbers in the order in which both forms give them.
+    fn numbers(self) -> [usize; 7]
+        ensures { result ≡ reply_numbers (reply_record self) }
+    {
+        [
+            self.number,
+            self.line,
+            self.terms,
+            self.assumptions,
+            self.steps,
+            self.closings,
+            self.place,
+        ]
+    }
 }
 
 // The refusal number of documents 01 and 02.
+#[tactic(auto, unfolding(tableau::specs::Reply::refusal_of))]
 pub fn reason_number(reason: Reason) -> usize
     ensures { result ≡ reason_number reason }
 {
@@ -82,6 +89,7 @@ pub fn reason_number(reason: Reason) -> usize
 }
 
 // The place of a reply with this reason: only where w is not fresh there is one.
+#[tactic(auto, using(tableau::proofs::Refusals::reason_fits), unfolding(tableau::specs::Reply::refusal_of))]
 fn reason_place(reason: Reason) -> usize
     ensures { result ≡ (refusal_of reason).place }
 {
@@ -92,6 +100,7 @@ fn reason_place(reason: Reason) -> usize
 }
 
 // After a yes the number, the line and the place are 0, after a no the four counts.
+#[tactic(auto, unfolding(tableau::specs::Reply::reply_of))]
 pub fn reply_of(verdict: Verdict) -> Reply
     ensures { reply_record result ≡ reply_of (verdict_of verdict) }
 {
@@ -117,18 +126,4 @@ pub fn reply_of(verdict: Verdict) -> Reply
             place: reason_place(refusal.reason),
         },
     }
-}
-
-// The numbers in the order in which both forms give them.
-fn numbers(reply: Reply) -> [usize; 7]
-    ensures { result ≡ reply_numbers (reply_record reply) }
-{
-    let number = reply.number;
-    let line = reply.line;
-    let terms = reply.terms;
-    let assumptions = reply.assumptions;
-    let steps = reply.steps;
-    let closings = reply.closings;
-    let place = reply.place;
-    [number, line, terms, assumptions, steps, closings, place]
 }

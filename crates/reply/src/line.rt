@@ -1,90 +1,112 @@
-// The reply as one line of text. Each function writes behind the first `len` bytes and returns how many there are then.
-ghost use Rattle.std.specs.Prelude.{◌≡◌, ◌∷◌, ◌+◌, ◌*◌, ◌≤◌, ◌<◌, length, take};
+// The reply as one line of text.
+ghost use Rattle.std.specs.Prelude.{List, [], ◌∷◌, ◌++◌, ◌≡◌, ℕ, ◌+◌, ◌*◌, ◌≤◌, ◌<◌, length, take};
 ghost use Rattle.tableau.specs.File.{comma};
-ghost use Rattle.tableau.specs.Reply.{decimal, comma_numbers, yes_or_no, reply_line};
-ghost use Rattle.reply.specs.Line.{line_bytes, number_digits, field_bytes, Put};
+ghost use Rattle.tableau.specs.Reply.{decimal, comma_numbers, reply_line};
+ghost use Rattle.reply.specs.Line.{line_bytes, number_digits, field_bytes};
 ghost use Rattle.reply.specs.Verdict.{reply_record};
 
-use crate::{Reply, numbers};
+use crate::Reply;
+use std::marker::Model;
 
-const LF: u8 = 10;
+// Room for the reply line, with some to spare: `yes`, seven commas with a number of up to 20 digits
+// each, LF.
+const LINE_BYTES: usize = 160;
 
 // A 64-bit number has no more.
 const DIGITS: usize = 20;
 
-fn put_text(line: &mut [u8; Reply::LINE_BYTES], len: usize, text: &[u8]) -> usize
-    requires { (len + length text.now ≤ line_bytes) × (length line.old ≡ line_bytes) }
-    ensures value { result ≡ len + length text.now }
-    ensures put { Put line.old len text.now line.new result }
-{
-    let mut i = 0;
-    while i < text.len() {
-        line[len + i] = text[i];
-        i += 1;
+// A line of text: the first `len` of its bytes.
+#[derive(Drop)]
+pub struct Text {
+    bytes: [u8; LINE_BYTES],
+    len: usize,
+}
+
+impl Model for Text {
+    ghost Value = { List ℕ };
+
+    ghost view = { λ t. take t.len t.bytes };
+
+    ghost invariant = { λ t. t.len ≤ line_bytes };
+}
+
+impl Text {
+    pub fn new() -> Text
+        ensures { result ≡ [] }
+    {
+        Text {
+            bytes: [0; LINE_BYTES],
+            len: 0,
+        }
     }
-    len + i
-}
 
-// The digits are found from the last to the first: those from `pos + 1` on stand, and `rest` is what they leave of the value.
-pub fn put_decimal(line: &mut [u8; Reply::LINE_BYTES], len: usize, value: usize) -> usize
-    requires { (len + number_digits ≤ line_bytes) × (length line.old ≡ line_bytes) }
-    ensures upper_bound { result ≤ len + number_digits }
-    ensures put { Put line.old len (decimal value) line.new result }
-{
-    let mut digits = [0; DIGITS];
-    let mut pos = DIGITS - 1;
-    let mut rest = value;
-    while 10 <= rest {
-        digits[pos] = (48 + rest % 10) as u8;
-        rest /= 10;
-        pos -= 1;
+    pub fn as_bytes(&self) -> &[u8]
+        ensures { result.now ≡ self.now }
+    {
+        &self.bytes[..self.len]
     }
-    digits[pos] = (48 + rest) as u8;
-    put_text(line, len, &digits[pos..])
-}
 
-fn put_field(line: &mut [u8; Reply::LINE_BYTES], len: usize, value: usize) -> usize
-    requires { (len + 1 + number_digits ≤ line_bytes) × (length line.old ≡ line_bytes) }
-    ensures upper_bound { result ≤ len + 1 + number_digits }
-    ensures put { Put line.old len (comma ∷ decimal value) line.new result }
-{
-    line[len] = b',';
-    put_decimal(line, len + 1, value)
-}
-
-// The fields behind the first one, and LF.
-pub fn put_fields(line: &mut [u8; Reply::LINE_BYTES], len: usize, values: &[usize]) -> usize
-    requires { (len + field_bytes * length values.now < line_bytes) × (length line.old ≡ line_bytes) }
-    ensures upper_bound { result ≤ line_bytes }
-    ensures put { Put line.old len (comma_numbers values.now) line.new result }
-{
-    let mut next = len;
-    let mut i = 0;
-    while i < values.len() {
-        next = put_field(line, next, values[i]);
-        i += 1;
+    fn put(&mut self, text: &[u8])
+        requires { length self.old + length text.now ≤ line_bytes }
+        ensures { self.new ≡ self.old ++ text.now }
+    {
+        let end = self.len + text.len();
+        self.bytes[self.len..end].copy_from_slice(text);
+        self.len = end;
     }
-    line[next] = LF;
-    next + 1
-}
 
-fn put_answer(line: &mut [u8; Reply::LINE_BYTES], yes: bool) -> usize
-    requires { length line.old ≡ line_bytes }
-    ensures upper_bound { result ≤ 3 }
-    ensures put { Put line.old 0 (yes_or_no yes) line.new result }
-{
-    if yes {
-        return put_text(line, 0, b"yes");
+    // The digits are found from the last to the first: those from `pos + 1` on stand, and `rest` is
+    // what they leave of the value.
+    pub fn put_decimal(&mut self, value: usize)
+        requires { length self.old + number_digits ≤ line_bytes }
+        ensures upper_bound { length self.new ≤ length self.old + number_digits }
+        ensures put { self.new ≡ self.old ++ decimal value }
+    {
+        let mut digits = [0; DIGITS];
+        let mut pos = DIGITS - 1;
+        let mut rest = value;
+        while 10 <= rest {
+            digits[pos] = b'0' + (rest % 10) as u8;
+            rest /= 10;
+            pos -= 1;
+        }
+        digits[pos] = b'0' + rest as u8;
+        self.put(&digits[pos..]);
     }
-    put_text(line, 0, b"no")
+
+    // A comma and a number.
+    fn put_field(&mut self, value: usize)
+        requires { length self.old + field_bytes ≤ line_bytes }
+        ensures upper_bound { length self.new ≤ length self.old + field_bytes }
+        ensures put { self.new ≡ self.old ++ comma ∷ decimal value }
+    {
+        self.put(b",");
+        self.put_decimal(value);
+    }
+
+    // The fields behind the first one, and LF.
+    pub fn put_fields(&mut self, values: &[usize])
+        requires { length self.old + field_bytes * length values.now < line_bytes }
+        ensures { self.new ≡ self.old ++ comma_numbers values.now }
+    {
+        for value in values {
+            self.put_field(*value);
+        }
+        self.put(b"\n");
+    }
 }
 
-pub fn write_line(reply: Reply, line: &mut [u8; Reply::LINE_BYTES]) -> usize
-    requires { length line.old ≡ line_bytes }
-    ensures upper_bound { (result ≤ line_bytes) × (length line.new ≡ line_bytes) }
-    ensures line_after { take result line.new ≡ reply_line (reply_record reply) }
-{
-    let is_yes = reply.is_yes;
-    let len = put_answer(line, is_yes);
-    put_fields(line, len, &numbers(reply))
+impl Reply {
+    pub fn line(self) -> Text
+        ensures { result ≡ reply_line (reply_record self) }
+    {
+        let mut text = Text::new();
+        if self.is_yes {
+            text.put(b"yes");
+        } else {
+            text.put(b"no");
+        }
+        text.put_fields(&self.numbers());
+        text
+    }
 }

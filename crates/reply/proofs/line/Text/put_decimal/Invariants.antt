@@ -5,7 +5,7 @@ use Prim.Native.Nat.{suc, ◌+◌, ◌<◌, ◌^◌}
 use lib.ListN.{length, drop}
 use Rattle.tableau.specs.Reply.{decimal_from, decimal}
 use Rattle.reply.specs.Line.{number_digits}
-use Rattle.reply.proofs.line.put_decimal.Given as goal
+use Rattle.reply.proofs.line.Text.put_decimal.Given as goal
 
 abbrev pub invariant-loop-rest : goal.invariant-loop-rest
 invariant-loop-rest l = (l.pos < number_digits) × (length l.digits ≡ number_digits) × (l.rest < 10 ^ (l.pos + 1))

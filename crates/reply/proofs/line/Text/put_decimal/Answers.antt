@@ -1,14 +1,15 @@
-use mathlib.Core.Path.{◌≡◌, refl, sym, ◌∙◌}
+use mathlib.Core.List.{◌++◌}
+use mathlib.Core.Path.{◌≡◌, refl, sym, ap, ◌∙◌}
 use Prim.Native.Nat.{◌%◌, ◌+◌, ◌-◌, ◌≤◌}
 use native.Mathlib.Omega.{arith}
-use lib.ListN.{length, take, drop, set, length-set, length-drop, length-take}
+use lib.ListN.{length, take, drop, set, length-set, length-append, length-drop, length-take}
 use lib.Seq.{take_all}
 use Rattle.tableau.specs.Reply.{decimal}
 use Rattle.tableau.proofs.Decimals.{next_digit_lem, last_digit}
 use Rattle.reply.specs.Line.{number_digits}
 use Rattle.reply.proofs.Stores.{stored_before}
 use Rattle.reply.proofs.Decimals.{room}
-use Rattle.reply.proofs.line.put_decimal.Goals as goal
+use Rattle.reply.proofs.line.Text.put_decimal.Goals as goal
 
 pub loop-rest-preserved : goal.loop-rest-preserved
 loop-rest-preserved c =
@@ -33,7 +34,10 @@ returns c =
     ∙ stored_before l.digits l.pos (48 + l.rest) (omega arith)
     ∙ sym (last_digit l.rest (drop (l.pos + 1) l.digits) (omega arith))
     ∙ l.invariant.3 in
-    record { upper_bound = omega (arith, simp (length-take, length-drop, length-set) at c.put_text.ensures.value); put = rw (sym text) c.put_text.ensures.put }
+    record {
+      upper_bound = rw c.put.ensures (simp (length-append, length-take, length-drop, length-set) (omega arith));
+      put = c.put.ensures ∙ ap (λ ds. a.self.now ++ ds) text;
+    }
 
 pub loop-rest-init : goal.loop-rest-init
 loop-rest-init c = (omega arith, refl, omega arith, refl)
@@ -41,8 +45,8 @@ loop-rest-init c = (omega arith, refl, omega arith, refl)
 pub overflow_sub-pos-in-loop-rest : goal.overflow_sub-pos-in-loop-rest
 overflow_sub-pos-in-loop-rest c = omega (arith, room c.loop-rest.pos c.loop-rest.rest c.loop-rest-test.true c.loop-rest.invariant.2)
 
-pub slice_bounds-put_text-end : goal.slice_bounds-put_text-end
-slice_bounds-put_text-end c = simp length-set (omega arith)
+pub slice_bounds-put-end : goal.slice_bounds-put-end
+slice_bounds-put-end c = simp length-set (omega arith)
 
-pub put_text-requires : goal.put_text-requires
-put_text-requires c = (simp (length-take, length-drop, length-set) (omega arith), c.requires.1)
+pub put-requires : goal.put-requires
+put-requires c = simp (length-take, length-drop, length-set) (omega arith)

@@ -1,7 +1,7 @@
 -- The numbers fill the buffer.
 use mathlib.Core.Path.{◌∙◌, ap}
 use Rattle.tableau.specs.Reply.{number_bytes, reply_bytes}
-use Rattle.reply.proofs.buffer.write_numbers.Goals as goal
+use Rattle.reply.proofs.Reply.write_numbers.Goals as goal
 
 pub returns : goal.returns
 unfolding reply_bytes
