@@ -1,23 +1,23 @@
 -- What the array says of check 21 and of a clause, and the array with a literal more.
 use mathlib.Core.Path.{◌≡◌, refl, sym, ◌∙◌, ap, subst}
-use mathlib.Core.Bool.{Bool, true, false, ◌&&◌, cond, and-false}
+use mathlib.Core.Bool.{Bool, true, false, ◌&&◌, cond}
 use mathlib.Core.List.{List, [], ◌∷◌, ◌++◌, map, append-nil, map-append}
 use mathlib.Core.Logic.{◌⊎◌, inl, inr}
 use Prim.Native.Nat.{ℕ, zero, suc, ◌+◌, ◌-◌, ◌≤◌, ◌<◌}
 use native.Mathlib.Numerals.{add-one}
 use native.Mathlib.Omega.{arith}
-use lib.Dec.{eqb, leb, ltb}
+use lib.Dec.{eqb, leb}
 use lib.ListN.{length, get_or, set, replicate, length-append, length-set, length-replicate}
 use lib.Seq.{get_or-set_same, get_or-set_other}
-use borrow.Author.Tests.{eqb-true, eqb-false, eq-eqb, ne_eqb, leb-true, leb-false, le-leb, lt-leb, lt-ltb}
+use borrow.Author.Tests.{eqb-true, eqb-false, eq-eqb, ne_eqb, leb-true, leb-false, le-leb, lt-leb}
 use Rattle.tableau.specs.Terms.{ClauseNo, Literal, Disjunct, Clauses, clause_of, last_clause, lines_to}
 use Rattle.tableau.specs.Tree.{is_clause}
-use Rattle.tableau.specs.Reply.{max_disjuncts, max_clause_lines, last_or_next, takes_disjunct}
+use Rattle.tableau.specs.Reply.{max_clause_lines, takes_disjunct}
 use Rattle.tableau.proofs.Bools.{dec, eqb_same}
 use Rattle.tableau.proofs.ClauseLaws.{InSequence, no_clauses, Fitting, fitting, last_after, clause_after, in_sequence_after}
 use Rattle.packing.specs.Packing.{unpack_literal, code_limit}
 use Rattle.clauses.proofs.Arrays.{all_set, get_d_zeros}
-use Rattle.clauses.specs.Held.{words_length, end_at, codes_at, ClausesHeld, SpanOf}
+use Rattle.clauses.specs.Held.{words_length, end_at, codes_at, ClausesHeld}
 
 -- CHECK 11: a clause is one of the numbers up to the last
 pub is_clause_lem : (C : Clauses) (k : ClauseNo) → InSequence C → is_clause C k ≡ (leb 1 k && leb k (last_clause C))
@@ -35,7 +35,7 @@ is_clause_lem C k s = go (dec (leb 1 k)) (dec (leb k (last_clause C)))
     go (inl a) (inr b) = rw (a, b) (nowhere (λ q. omega (arith, leb-false k _ b, q.1)))
     go (inr a) b = rw a (nowhere (λ q. omega (arith, leb-false 1 k a, q.0)))
 
--- CHECK 21, where the number is the next, neither, or the last
+-- HOW MANY CLAUSES there are
 module _ {C : Clauses} {words : List ℕ} {last : ClauseNo} (H : ClausesHeld C words last) where
   -- no clause has a number past the last
   pub none_past : (k : ClauseNo) → last < k → length (clause_of C k) ≡ 0
@@ -52,45 +52,6 @@ module _ {C : Clauses} {words : List ℕ} {last : ClauseNo} (H : ClausesHeld C w
 
   pub last_few : last ≤ max_clause_lines
   last_few = omega (arith, grows last (omega arith), H.lines, H.sequence.few)
-
-  pub takes_next : (k : ClauseNo) → k ≡ last + 1 → takes_disjunct C k ≡ ltb (length C) max_clause_lines
-  takes_next k e =
-      rw (
-        le-leb 1 k (omega arith),
-        ne_eqb k (last_clause C) (λ z. omega (arith, H.last)),
-        eq-eqb k (suc (last_clause C)) (omega (arith, H.last)),
-        lt-ltb (length (clause_of C k)) max_disjuncts (omega (arith, none_past k (omega arith))),
-      )
-
-  pub takes_neither : (k : ClauseNo) → (k ≡ last + 1 → ⊥) → (last ≡ 0) ⊎ (k ≡ last → ⊥) → takes_disjunct C k ≡ false
-  takes_neither k n m = rw (neither k n m)
-    where
-      neither : (k : ClauseNo) → (k ≡ last + 1 → ⊥) → (last ≡ 0) ⊎ (k ≡ last → ⊥) → last_or_next C k ≡ false
-      neither zero n m = refl
-      neither (suc k) n (inl z) = rw (ne_eqb (suc k) (last_clause C) (λ e. omega (arith, H.last)), ne_eqb (suc k) (suc (last_clause C)) (λ e. n (omega (arith, H.last)))) (and-false (leb 1 (suc k)))
-      neither (suc k) n (inr z) = rw (ne_eqb (suc k) (last_clause C) (λ e. z (e ∙ H.last)), ne_eqb (suc k) (suc (last_clause C)) (λ e. n (omega (arith, H.last)))) (and-false (leb 1 (suc k)))
-
-  pub takes_last : (k : ClauseNo) → k ≡ last → (last ≡ 0 → ⊥) → takes_disjunct C k ≡ (ltb (end_at words last - end_at words (last - 1)) max_disjuncts && ltb (end_at words last) max_clause_lines)
-  takes_last k e z =
-      let c = H.counts (last - 1) (omega arith) in
-      let q : suc (last - 1) ≡ last = omega arith in
-      let n : length (clause_of C last) ≡ end_at words last - end_at words (last - 1) = (let d = (rw q at c) in omega (arith, d)) in
-      rw (e, H.last, le-leb 1 last (omega arith), eq-eqb last last refl, n, H.lines)
-
-  -- THE CLAUSE k stands between two ends
-  pub span_of : (k : ClauseNo) → 1 ≤ k → k ≤ last → SpanOf C words k (record { from = end_at words (k - 1); count = end_at words k - end_at words (k - 1) })
-  span_of k h l =
-      let q : suc (k - 1) ≡ k = omega arith in
-      let c : end_at words (k - 1) + length (clause_of C k) ≡ end_at words k = subst (λ j. end_at words (k - 1) + length (clause_of C j) ≡ end_at words j) q (H.counts (k - 1) (omega arith)) in
-      let n : end_at words k - end_at words (k - 1) ≡ length (clause_of C k) = omega (arith, c) in
-      let some' = H.sequence.each k h (omega (arith, H.last)) in
-      record {
-        some = omega (arith, n, some');
-        few = omega (arith, n, H.sequence.short k);
-        inside = omega (arith, n, c, H.inside k l, H.sequence.few);
-        end = omega (arith, n, c) ∙ H.ends k l;
-        literals = rw n (subst (λ j. map unpack_literal (codes_at words (end_at words (k - 1)) (length (clause_of C j))) ≡ clause_of C j) q (H.codes (k - 1) (omega arith)));
-      }
 
 -- THE CODES between two indices: where two arrays agree, and one more
 pub same_codes : (words words' : List ℕ) (i n : ℕ) → ((j : ℕ) → i ≤ j → j < i + n → get_or words' j 0 ≡ get_or words j 0) → codes_at words' i n ≡ codes_at words i n
