@@ -12,7 +12,7 @@ use Rattle.evaluation.specs.declared.FactWord.{FactWord}
 use Rattle.evaluation.specs.declared.FactField.{FactField}
 use Rattle.evaluation.specs.Facts.{fact_index, fact_fields, Fact, Facts, subject_of, speaks_of, find, said, fields_or0, given}
 use Rattle.evaluation.proofs.Finding.{same_word, index_small, speaks_inv}
-use Rattle.facts.specs.Keys.{value_part, value_of, pack_key, key_of, fact_key, fact_value, has_key, value_at, Fits, AllFit}
+use Rattle.facts.specs.Keys.{value_part, value_of, pack_key, key_of, stored, has_key, value_at, Fits, AllFit}
 
 -- THE PARTS OF A KEY
 unpacked : (i a b c j x y z : ℕ) → i < 10 → c < 16 → b < 64 → j < 10 → z < 16 → y < 64 → pack_key i a b c ≡ pack_key j x y z → (i ≡ j) × (a ≡ x) × (b ≡ y) × (c ≡ z)
@@ -63,21 +63,21 @@ unfolding value_of
 value_zeros w = rw (no_value (fact_fields w).a, no_value (fact_fields w).b, no_value (fact_fields w).c, no_value (fact_fields w).d)
 
 module _ (w : FactWord) (n : Four ℕ) (p : Fits (subject_of w n)) where
-  pub has_said : (facts : Facts) → AllFit facts → has_key (map fact_key facts) (key_of w n) ≡ said facts w n
-  unfolding has_key said find AllFit
+  pub has_said : (facts : Facts) → AllFit facts → has_key (map stored facts) (key_of w n) ≡ said facts w n
+  unfolding said find AllFit
   has_said [] f = refl
   has_said (x ∷ xs) f = rw (key_speaks w n x.word x.fields p f.0) (which (speaks_of w n x) (has_said xs f.1))
     where
-      which : (b : Bool) → has_key (map fact_key xs) (key_of w n) ≡ is_some (find xs w n) → (b || has_key (map fact_key xs) (key_of w n)) ≡ is_some (cond b (Some x.fields) (find xs w n))
+      which : (b : Bool) → has_key (map stored xs) (key_of w n) ≡ is_some (find xs w n) → (b || has_key (map stored xs) (key_of w n)) ≡ is_some (cond b (Some x.fields) (find xs w n))
       which true e = refl
       which false e = e
 
-  pub value_given : (facts : Facts) → AllFit facts → value_at (map fact_key facts) (map fact_value facts) (key_of w n) ≡ value_of w (given facts w n)
+  pub value_given : (facts : Facts) → AllFit facts → value_at (map stored facts) (key_of w n) ≡ value_of w (given facts w n)
   unfolding value_at find AllFit
   value_given [] f = sym (value_zeros w)
   value_given (x ∷ xs) f = rw (key_speaks w n x.word x.fields p f.0) (which (speaks_of w n x) refl (value_given xs f.1))
     where
-      which : (b : Bool) → speaks_of w n x ≡ b → value_at (map fact_key xs) (map fact_value xs) (key_of w n) ≡ value_of w (fields_or0 (find xs w n))
-          → cond b (fact_value x) (value_at (map fact_key xs) (map fact_value xs) (key_of w n)) ≡ value_of w (fields_or0 (cond b (Some x.fields) (find xs w n)))
+      which : (b : Bool) → speaks_of w n x ≡ b → value_at (map stored xs) (key_of w n) ≡ value_of w (fields_or0 (find xs w n))
+          → cond b (value_of x.word x.fields) (value_at (map stored xs) (key_of w n)) ≡ value_of w (fields_or0 (cond b (Some x.fields) (find xs w n)))
       which true s e = ap (λ y. value_of y x.fields) (sym (speaks_inv w n x s).0)
       which false s e = e

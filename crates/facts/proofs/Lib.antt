@@ -1,4 +1,3 @@
-pub mod Searches
 pub mod KeyLaws
 pub mod Ranges
 pub mod WordChecks

@@ -1,7 +1,9 @@
 -- The run over a heap file: its start, a bad line, a line refused, a line more, the end.
 use mathlib.Core.Path.{◌≡◌, refl, sym, ◌∙◌, ap, subst}
 use mathlib.Core.Bool.{true}
-use mathlib.Core.List.{List, [], ◌∷◌, ◌++◌, map}
+use mathlib.Core.List.{List, [], ◌∷◌, ◌++◌}
+use Rattle.std.specs.Prelude.{None, Some, Ok, Err}
+use Rattle.std.proofs.lemmas.List.{map-append}
 use Prim.Native.Nat.{ℕ, suc, ◌+◌, ◌*◌, ◌<◌, ◌≤◌}
 use native.Mathlib.Numerals.{add-one}
 use native.Mathlib.Omega.{arith}
@@ -18,22 +20,22 @@ use Rattle.tableau.proofs.Bools.{both_true, every_true}
 use Rattle.evaluation.specs.declared.FactWord.{FactWord}
 use Rattle.evaluation.specs.Facts.{fact_fields, Fact, Facts, sizes, is_nil, subject_of, zero_unless_used, in_range, run_fact}
 use Rattle.lines.specs.declared.LineFields.{LineFields}
-use Rattle.lines.specs.declared.LineRead.{LineRead}
 use Rattle.lines.specs.Lines.{line_at, numbers_of}
 use Rattle.running.specs.Running.{run_from, least_line}
 use Rattle.running.proofs.Lines.{line_here, bad_line, refused_here, at_end_lem}
 use Rattle.facts.specs.declared.Sizes.{Sizes}
-use Rattle.facts.specs.declared.checks.NewFact.{NewFact}
-use Rattle.facts.specs.declared.checks.FactResult.{FactResult}
-use Rattle.facts.specs.Keys.{sizes_of, fact_key, fact_value, facts_length, Fits, AllFit, FactsHeld}
+use Rattle.facts.specs.declared.StoredFact.{StoredFact}
+use Rattle.facts.specs.Keys.{sizes_of, stored, facts_length, Fits, AllFit, FactsHeld}
 use Rattle.facts.specs.Reading.{SizesFit, sizes_after, Added, FactDone, Finished}
 use Rattle.facts.proofs.Ranges.{subject_fits}
 use Rattle.facts.proofs.LineChecks.{fact_fields_lem}
 
--- Every line before the position passed, and arrays and sizes are what these lines say.
-pub record Reached (file keys values : List ℕ) (s : Sizes) (n at : ℕ) : Type 0 where
+-- Every line before the position passed, and the facts stored and the sizes are what these lines say.
+pub record Reached (file : List ℕ) (held : List StoredFact) (s : Sizes) (n at : ℕ) : Type 0 where
   pub facts : Facts
-  pub held : FactsHeld facts keys values n
+  pub count : n ≡ length facts
+  pub size : length held ≡ facts_length
+  pub held' : FactsHeld facts (take n held)
   pub sized : sizes facts ≡ sizes_of s
   pub fit : SizesFit (sizes_of s)
   pub lines : least_line * n ≤ at
@@ -44,11 +46,13 @@ pub record Reached (file keys values : List ℕ) (s : Sizes) (n at : ℕ) : Type
 abbrev no_sizes : Sizes
 no_sizes = record { references = 0; fields = 0; classes = 0 }
 
-pub reached_start : {file keys values : List ℕ} → length keys ≡ facts_length → length values ≡ facts_length → length file ≤ max_bytes → Reached file keys values no_sizes 0 0
+pub reached_start : {file : List ℕ} {held : List StoredFact} → length held ≡ facts_length → length file ≤ max_bytes → Reached file held no_sizes 0 0
 unfolding AllFit
-reached_start k v h = record {
+reached_start k h = record {
   facts = [];
-  held = record { keys_size = k; values_size = v; count = refl; room = omega arith; keys = refl; values = refl; fit = tt };
+  count = refl;
+  size = k;
+  held' = record { is = refl; fit = tt };
   sized = refl;
   fit = record { a = omega arith; b = omega arith; c = omega arith };
   lines = omega arith;
@@ -63,16 +67,16 @@ unfolding AllFit
 fit_more [] x f h = (h, tt)
 fit_more (y ∷ ys) x f h = (f.0, fit_more ys x f.1 h)
 
-map_more : (g : Fact → ℕ) (facts : Facts) (x : Fact) → map g (facts ++ (x ∷ [])) ≡ map g facts ++ (g x ∷ [])
-map_more g [] x = refl
-map_more g (y ∷ ys) x = ap (λ l. g y ∷ l) (map_more g ys x)
-
--- one entry more in an array
-entry_more : (g : Fact → ℕ) (facts : Facts) (x : Fact) (l : List ℕ) (n v : ℕ) → n < length l → take n l ≡ map g facts → v ≡ g x → take (n + 1) (set l n v) ≡ map g (facts ++ (x ∷ []))
-entry_more g facts x l n v h e q = rw (add-one n) (take-suc-set l n v h ∙ (λ i. e i ++ (q i ∷ [])) ∙ sym (map_more g facts x))
+-- one fact more is stored
+held_more : (facts : Facts) (x : Fact) (held : List StoredFact) (n : ℕ) (y : StoredFact) → n < length held → FactsHeld facts (take n held) → y ≡ stored x → Fits (subject_of x.word x.fields)
+    → FactsHeld (facts ++ (x ∷ [])) (take (n + 1) (set held n y))
+held_more facts x held n y h H q f = record {
+  is = rw add-one (take-suc-set held n y h ∙ (λ i. H.is i ++ (q i ∷ [])) ∙ sym (map-append stored facts (x ∷ [])));
+  fit = fit_more facts x H.fit f;
+}
 
 -- the first line gives the sizes, and they are within their limits; no other changes them
-module _ (facts : Facts) (f : LineFields) (s : Sizes) (g : sizes facts ≡ sizes_of s) (x : NewFact) (d : Added facts f x) where
+module _ (facts : Facts) (f : LineFields) (s : Sizes) (g : sizes facts ≡ sizes_of s) (x : StoredFact) (d : Added facts f x) where
   abbrev new : Fact
   new = record { word = d.word; fields = numbers_of f }
 
@@ -89,47 +93,40 @@ module _ (facts : Facts) (f : LineFields) (s : Sizes) (g : sizes facts ≡ sizes
         },
       )
 
-more_sizes : (facts : Facts) (f : LineFields) (s : Sizes) → sizes facts ≡ sizes_of s → SizesFit (sizes_of s) → (x : NewFact) (d : Added facts f x) (n : ℕ) → n ≡ length facts
+more_sizes : (facts : Facts) (f : LineFields) (s : Sizes) → sizes facts ≡ sizes_of s → SizesFit (sizes_of s) → (x : StoredFact) (d : Added facts f x) (n : ℕ) → n ≡ length facts
     → let s' = sizes_after (eqb n 0) f s in (sizes (facts ++ (record { word = d.word; fields = numbers_of f } ∷ [])) ≡ sizes_of s') × SizesFit (sizes_of s')
 more_sizes [] f s g h x d n e = let k = first_sizes [] f s g x d refl in rw e (ap (λ (y : ℕ). four f.a f.b f.c y) k.0, k.1)
 more_sizes (y ∷ ys) f s g h x d n e = rw (e, eqb-suc-zero (length ys)) (g, h)
 
 -- A RUN that has come to a position
-module _ {file keys values : List ℕ} {s : Sizes} {n at : ℕ} (R : Reached file keys values s n at) where
+module _ {file : List ℕ} {held : List StoredFact} {s : Sizes} {n at : ℕ} (R : Reached file held s n at) where
   -- another line has room
   pub room : at + least_line ≤ length file → n + 1 < facts_length
   room h = omega (arith, R.lines, R.short)
 
-  pub bad : at < length file → line_at file at ≡ LineRead.BadShape → run_from run_fact file 0 0 (passed []) ≡ stopped Reason.BadShape (n + 1)
+  pub bad : at < length file → line_at file at ≡ None → run_from run_fact file 0 0 (passed []) ≡ stopped Reason.BadShape (n + 1)
   bad h e = rw (add-one n) (R.runs ∙ bad_line fact_fields_lem file at h e n R.facts)
 
-  pub finished : length file ≤ at → Finished file keys values (record { count = n; sizes = s })
-  finished h = record { facts = R.facts; held = R.held; sized = R.sized; runs = R.runs ∙ at_end_lem run_fact file at h n R.facts }
+  pub finished : length file ≤ at → Finished file held (record { count = n; sizes = s })
+  finished h = record { facts = R.facts; room = omega (arith, R.lines, R.inside, R.short); held' = R.held'; sized = R.sized; runs = R.runs ∙ at_end_lem run_fact file at h n R.facts }
 
-  module _ (f : LineFields) (e : line_at file at ≡ LineRead.Line f) where
-    pub refused_line : (r : Reason) → FactDone R.facts f (FactResult.Refused r) → run_from run_fact file 0 0 (passed []) ≡ stopped r (n + 1)
+  module _ (f : LineFields) (e : line_at file at ≡ Some f) where
+    pub refused_line : (r : Reason) → FactDone R.facts f (Err r) → run_from run_fact file 0 0 (passed []) ≡ stopped r (n + 1)
     refused_line r d =
         rw (add-one n)
         (R.runs ∙ (line_here fact_fields_lem file at f e).runs n R.facts ∙ ap (run_from run_fact file f.next.at (suc n)) d ∙ refused_here run_fact file f.next.at (suc n) r)
 
-    pub more : (x : NewFact) → FactDone R.facts f (FactResult.Passed x) → Reached file (set keys n x.key) (set values n x.value) (sizes_after (eqb n 0) f s) (n + 1) f.next.at
+    pub more : (x : StoredFact) → FactDone R.facts f (Ok x) → Reached file (set held n x) (sizes_after (eqb n 0) f s) (n + 1) f.next.at
     more x d =
         let l = line_here fact_fields_lem file at f e in
-        let H = R.held in
-        let g = more_sizes R.facts f s R.sized R.fit x d n H.count in
+        let g = more_sizes R.facts f s R.sized R.fit x d n R.count in
         let y : Fact = record { word = d.word; fields = numbers_of f } in
         let m : n + 1 < facts_length = room (omega (arith, l.longer, l.inside)) in
         record {
           facts = R.facts ++ (y ∷ []);
-          held = record {
-            keys_size = length-set keys n x.key ∙ H.keys_size;
-            values_size = length-set values n x.value ∙ H.values_size;
-            count = rw (length-append R.facts (y ∷ [])) (ap (λ (k : ℕ). k + 1) H.count);
-            room = omega arith;
-            keys = entry_more fact_key R.facts y keys n x.key (omega (arith, H.keys_size)) H.keys d.added.is_key;
-            values = entry_more fact_value R.facts y values n x.value (omega (arith, H.values_size)) H.values d.added.is_value;
-            fit = fit_more R.facts y H.fit (subject_fits (sizes R.facts) (rw R.sized R.fit) d.word (numbers_of f) d.added.ranges);
-          };
+          count = rw (length-append R.facts (y ∷ [])) (ap (λ (k : ℕ). k + 1) R.count);
+          size = length-set held n x ∙ R.size;
+          held' = held_more R.facts y held n x (omega (arith, R.size)) R.held' d.added.is (subject_fits (sizes R.facts) (rw R.sized R.fit) d.word (numbers_of f) d.added.ranges);
           sized = g.0;
           fit = g.1;
           lines = omega (arith, R.lines, l.longer);

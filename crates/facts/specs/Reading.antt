@@ -1,7 +1,8 @@
 -- The specification's run over the D lines of a file, told by the fields that a line was read as and by the arrays that hold the facts.
-use Rattle.std.specs.Prelude.{◌≡◌, Bool, true, false, List, [], ◌∷◌, ◌++◌, ℕ, ◌<◌, ◌≤◌, eqb}
+use Rattle.std.specs.Prelude.{◌≡◌, Bool, true, false, List, [], ◌∷◌, ◌++◌, ℕ, ◌<◌, ◌≤◌, eqb, take, Result, Ok, Err}
 use Rattle.std.specs.Bool.{beq}
 use Rattle.tableau.specs.declared.Reason.{Reason}
+use Rattle.tableau.specs.declared.Refusal.{Refusal}
 use Rattle.tableau.specs.Basics.{Four, every, bytes, lookup}
 use Rattle.tableau.specs.Tree.{Checked, refused, passed, ◌>>=◌, ◌>>◌, require, require_some}
 use Rattle.tableau.specs.Reply.{stopped, ended}
@@ -13,11 +14,9 @@ use Rattle.lines.specs.Lines.{pack_word, numbers_of}
 use Rattle.words.specs.Words.{lookup_packed}
 use Rattle.running.specs.Running.{run_from}
 use Rattle.facts.specs.declared.Sizes.{Sizes}
-use Rattle.facts.specs.declared.checks.NewFact.{NewFact}
-use Rattle.facts.specs.declared.checks.FactResult.{FactResult}
+use Rattle.facts.specs.declared.StoredFact.{StoredFact}
 use Rattle.facts.specs.declared.reading.FactsRead.{FactsRead}
-use Rattle.facts.specs.declared.reading.FactsEnd.{FactsEnd}
-use Rattle.facts.specs.Keys.{sizes_of, value_part, key_of, value_of, FactsHeld}
+use Rattle.facts.specs.Keys.{sizes_of, value_part, stored, facts_length, FactsHeld}
 
 -- `siz`, packed
 abbrev pub siz_word : ℕ
@@ -51,40 +50,40 @@ pub record ValuesFit (r : Four FactField) (n : Four ℕ) : Type 0 where
   pub d : value_part r.d n.d < 64
 
 -- A LINE CHECKED, its word known: it is refused, or it passes with the key and the value that it adds
-pub record WordAdded (facts : Facts) (f : LineFields) (w : FactWord) (x : NewFact) : Type 0 where
+pub record WordAdded (facts : Facts) (f : LineFields) (w : FactWord) (x : StoredFact) : Type 0 where
   pub unused_zero : every zero_unless_used (fact_fields w) (numbers_of f) ≡ true
   pub ranges : every (in_range (sizes facts)) (fact_fields w) (numbers_of f) ≡ true
-  pub is_key : x.key ≡ key_of w (numbers_of f)
-  pub is_value : x.value ≡ value_of w (numbers_of f)
+  pub is : x ≡ stored (record { word = w; fields = numbers_of f })
   pub runs : run_word facts f w ≡ passed (facts ++ (record { word = w; fields = numbers_of f } ∷ []))
 
-abbrev pub WordDone : Facts → LineFields → FactWord → FactResult → Type 0
-WordDone facts f w (FactResult.Passed x) = WordAdded facts f w x
-WordDone facts f w (FactResult.Refused r) = run_word facts f w ≡ refused r
+abbrev pub WordDone : Facts → LineFields → FactWord → Result StoredFact Reason → Type 0
+WordDone facts f w (Ok x) = WordAdded facts f w x
+WordDone facts f w (Err r) = run_word facts f w ≡ refused r
 
 -- the same of any word; the first line is `siz`
-pub record Added (facts : Facts) (f : LineFields) (x : NewFact) : Type 0 where
+pub record Added (facts : Facts) (f : LineFields) (x : StoredFact) : Type 0 where
   pub word : FactWord
   pub first : is_nil facts ≡ true → word ≡ FactWord.Siz
   pub added : WordAdded facts f word x
   pub runs : run_fact_fields facts f ≡ run_word facts f word
 
-abbrev pub FactDone : Facts → LineFields → FactResult → Type 0
-FactDone facts f (FactResult.Passed x) = Added facts f x
-FactDone facts f (FactResult.Refused r) = run_fact_fields facts f ≡ refused r
+abbrev pub FactDone : Facts → LineFields → Result StoredFact Reason → Type 0
+FactDone facts f (Ok x) = Added facts f x
+FactDone facts f (Err r) = run_fact_fields facts f ≡ refused r
 
 -- the sizes after a line, those of the first
 abbrev pub sizes_after : Bool → LineFields → Sizes → Sizes
 sizes_after true f s = record { references = f.a; fields = f.b; classes = f.c }
 sizes_after false f s = s
 
--- ALL LINES PASSED: the arrays hold the facts that they say
-pub record Finished (file keys values : List ℕ) (e : FactsRead) : Type 0 where
+-- ALL LINES PASSED: the facts that they say are stored
+pub record Finished (file : List ℕ) (held : List StoredFact) (e : FactsRead) : Type 0 where
   pub facts : Facts
-  pub held : FactsHeld facts keys values e.count
+  pub room : e.count ≤ facts_length
+  pub held' : FactsHeld facts (take e.count held)
   pub sized : sizes facts ≡ sizes_of e.sizes
   pub runs : run_from run_fact file 0 0 (passed []) ≡ ended facts e.count
 
-abbrev pub FactsTo : List ℕ → List ℕ → List ℕ → FactsEnd → Type 0
-FactsTo file keys values (FactsEnd.Stopped r i) = run_from run_fact file 0 0 (passed []) ≡ stopped r i
-FactsTo file keys values (FactsEnd.Ended e) = Finished file keys values e
+abbrev pub FactsTo : List ℕ → List StoredFact → Result FactsRead Refusal → Type 0
+FactsTo file held (Ok e) = Finished file held e
+FactsTo file held (Err r) = run_from run_fact file 0 0 (passed []) ≡ stopped r.reason r.line

@@ -1,23 +1,16 @@
 // The words of D lines, and the tests of a line's fields by the table of words.
 ghost use Rattle.std.specs.Prelude.{◌≡◌};
 ghost use Rattle.tableau.specs.Basics.{four, every};
-ghost use Rattle.evaluation.specs.Facts.{fact_index, fact_fields, zero_unless_used, in_domain, in_range, subject_part};
+ghost use Rattle.evaluation.specs.Facts.{fact_words, fact_fields, zero_unless_used, in_domain, in_range, subject_part};
 ghost use Rattle.lines.specs.Lines.{numbers_of};
-ghost use Rattle.facts.specs.Keys.{sizes_of, row_of, FactKnown, value_part};
+ghost use Rattle.words.specs.Words.{lookup_packed};
+ghost use Rattle.facts.specs.Keys.{sizes_of, value_part};
 
 use crate::Sizes;
 use evaluation::{Domain, FactField, FactWord};
 use lines::LineFields;
 
-#[derive(Clone, Copy)]
-pub enum FactFound {
-    Known(FactWord),
-    Unknown,
-}
-
-const WORD_COUNT: usize = 10;
-
-const WORDS: [FactWord; WORD_COUNT] = [
+static WORDS: [FactWord; 10] = [
     FactWord::Siz,
     FactWord::Alc,
     FactWord::Typ,
@@ -30,52 +23,16 @@ const WORDS: [FactWord; WORD_COUNT] = [
     FactWord::Arv,
 ];
 
-pub fn word_of(word: usize) -> FactFound
-    ensures { FactKnown word result }
+pub fn word_of(word: usize) -> Option<FactWord>
+    ensures { result ≡ lookup_packed fact_words word }
 {
-    let words = WORDS;
-    let index = words::search(word, b"siz alc typ dty sub rfv fnv clv rgv arv ");
-    if index < WORD_COUNT {
-        return FactFound::Known(words[index]);
-    }
-    FactFound::Unknown
+    words::row_of(word, b"siz alc typ dty sub rfv fnv clv rgv arv ", &WORDS)
 }
 
-pub fn index_of(word: FactWord) -> usize
-    ensures { result ≡ fact_index word }
-{
-    match word {
-        FactWord::Siz => 0,
-        FactWord::Alc => 1,
-        FactWord::Typ => 2,
-        FactWord::Dty => 3,
-        FactWord::Sub => 4,
-        FactWord::Rfv => 5,
-        FactWord::Fnv => 6,
-        FactWord::Clv => 7,
-        FactWord::Rgv => 8,
-        FactWord::Arv => 9,
-    }
-}
-
-// What the four fields of a line hold.
-#[derive(Clone, Copy)]
-pub struct FactRow {
-    pub a: FactField,
-    pub b: FactField,
-    pub c: FactField,
-    pub d: FactField,
-}
-
-fn row(a: FactField, b: FactField, c: FactField, d: FactField) -> FactRow
-    ensures { row_of result ≡ four a b c d }
-{
-    FactRow { a, b, c, d }
-}
-
-// The table of D lines.
-pub fn row_of(word: FactWord) -> FactRow
-    ensures { row_of result ≡ fact_fields word }
+// The table of D lines: what the four fields of a line hold.
+#[tactic(auto, unfolding(evaluation::specs::Facts::fact_fields))]
+pub fn row_of(word: FactWord) -> (FactField, FactField, FactField, FactField)
+    ensures { four result.0 result.1 result.2 result.3 ≡ fact_fields word }
 {
     let none = FactField::Unused;
     let reference = FactField::Subject(Domain::Reference);
@@ -86,21 +43,21 @@ pub fn row_of(word: FactWord) -> FactRow
     let to_field = FactField::Value(Domain::Field);
     let to_class = FactField::Value(Domain::Class);
     match word {
-        FactWord::Siz => row(
+        FactWord::Siz => (
             FactField::Size(64),
             FactField::Size(16),
             FactField::Size(16),
             none,
         ),
-        FactWord::Alc => row(reference, none, none, none),
-        FactWord::Typ => row(reference, to_class, none, none),
-        FactWord::Dty => row(field, to_class, none, none),
-        FactWord::Sub => row(class, class, none, none),
-        FactWord::Rfv => row(name, to_reference, none, none),
-        FactWord::Fnv => row(name, to_field, none, none),
-        FactWord::Clv => row(name, to_class, none, none),
-        FactWord::Rgv => row(name, reference, none, none),
-        FactWord::Arv => row(name, reference, field, to_reference),
+        FactWord::Alc => (reference, none, none, none),
+        FactWord::Typ => (reference, to_class, none, none),
+        FactWord::Dty => (field, to_class, none, none),
+        FactWord::Sub => (class, class, none, none),
+        FactWord::Rfv => (name, to_reference, none, none),
+        FactWord::Fnv => (name, to_field, none, none),
+        FactWord::Clv => (name, to_class, none, none),
+        FactWord::Rgv => (name, reference, none, none),
+        FactWord::Arv => (name, reference, field, to_reference),
     }
 }
 
@@ -110,29 +67,18 @@ fn zero_unless_used(field: FactField, n: usize) -> bool
 {
     match field {
         FactField::Unused => n == 0,
-        FactField::Size(most) => true,
-        FactField::Subject(domain) => true,
-        FactField::Value(domain) => true,
+        _ => true,
     }
 }
 
-pub fn unused_zero(row: FactRow, f: LineFields) -> bool
-    ensures { result ≡ every zero_unless_used (row_of row) (numbers_of f) }
+pub fn unused_zero(word: FactWord, f: LineFields) -> bool
+    ensures { result ≡ every zero_unless_used (fact_fields word) (numbers_of f) }
 {
-    let a = row.a;
-    let b = row.b;
-    let c = row.c;
-    let d = row.d;
-    if !zero_unless_used(a, f.a) {
-        return false;
-    }
-    if !zero_unless_used(b, f.b) {
-        return false;
-    }
-    if !zero_unless_used(c, f.c) {
-        return false;
-    }
-    zero_unless_used(d, f.d)
+    let (a, b, c, d) = row_of(word);
+    zero_unless_used(a, f.a)
+        && zero_unless_used(b, f.b)
+        && zero_unless_used(c, f.c)
+        && zero_unless_used(d, f.d)
 }
 
 // Check 19: a number in its range.
@@ -152,34 +98,19 @@ fn in_range(sizes: Sizes, field: FactField, n: usize) -> bool
 {
     match field {
         FactField::Unused => true,
-        FactField::Size(most) => {
-            if n < 1 {
-                return false;
-            }
-            n <= most
-        }
-        FactField::Subject(domain) => in_domain(sizes, domain, n),
-        FactField::Value(domain) => in_domain(sizes, domain, n),
+        FactField::Size(most) => 1 <= n && n <= most,
+        FactField::Subject(domain) | FactField::Value(domain) => in_domain(sizes, domain, n),
     }
 }
 
-pub fn all_in_range(sizes: Sizes, row: FactRow, f: LineFields) -> bool
-    ensures { result ≡ every (in_range (sizes_of sizes)) (row_of row) (numbers_of f) }
+pub fn all_in_range(sizes: Sizes, word: FactWord, f: LineFields) -> bool
+    ensures { result ≡ every (in_range (sizes_of sizes)) (fact_fields word) (numbers_of f) }
 {
-    let a = row.a;
-    let b = row.b;
-    let c = row.c;
-    let d = row.d;
-    if !in_range(sizes, a, f.a) {
-        return false;
-    }
-    if !in_range(sizes, b, f.b) {
-        return false;
-    }
-    if !in_range(sizes, c, f.c) {
-        return false;
-    }
-    in_range(sizes, d, f.d)
+    let (a, b, c, d) = row_of(word);
+    in_range(sizes, a, f.a)
+        && in_range(sizes, b, f.b)
+        && in_range(sizes, c, f.c)
+        && in_range(sizes, d, f.d)
 }
 
 // A field as a part of the subject, and as the value.
@@ -187,10 +118,8 @@ pub fn subject_part(field: FactField, n: usize) -> usize
     ensures { result ≡ subject_part field n }
 {
     match field {
-        FactField::Unused => 0,
-        FactField::Size(most) => 0,
-        FactField::Subject(domain) => n,
-        FactField::Value(domain) => 0,
+        FactField::Subject(_) => n,
+        _ => 0,
     }
 }
 
@@ -198,9 +127,7 @@ pub fn value_part(field: FactField, n: usize) -> usize
     ensures { result ≡ value_part field n }
 {
     match field {
-        FactField::Unused => 0,
-        FactField::Size(most) => 0,
-        FactField::Subject(domain) => 0,
-        FactField::Value(domain) => n,
+        FactField::Value(_) => n,
+        _ => 0,
     }
 }

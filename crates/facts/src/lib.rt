@@ -9,6 +9,12 @@ pub mod reading;
 // The lines of 60,000 bytes, each of 13 at least, and one to spare.
 pub const FACTS: usize = 4616;
 
+#[derive(Clone, Copy)]
+pub struct StoredFact {
+    pub key: u64,
+    pub value: u8,
+}
+
 // The sizes that the first line gives; 0 before it.
 #[derive(Clone, Copy)]
 pub struct Sizes {

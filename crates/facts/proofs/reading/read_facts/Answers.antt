@@ -1,81 +1,61 @@
 use mathlib.Core.Path.{◌≡◌, sym, ◌∙◌, subst}
-use Prim.Native.Nat.{◌+◌, ◌<◌}
+use mathlib.Core.Bool.{Bool}
+use Prim.Native.Nat.{◌+◌}
 use native.Mathlib.Omega.{arith}
-use Rattle.lines.specs.declared.LineRead.{LineRead}
-use Rattle.lines.specs.Lines.{line_at, LFAhead}
+use lib.Dec.{eqb}
+use lib.ListN.{set}
+use borrow.Author.Tests.{eq-eqb, ne_eqb}
+use Rattle.std.specs.Prelude.{Some}
+use Rattle.lines.specs.Lines.{line_at}
 use Rattle.lines.proofs.FileSteps.{ahead_here, no_line_behind}
 use Rattle.running.proofs.Lines.{line_here}
-use Rattle.facts.specs.Keys.{facts_length}
-use Rattle.facts.specs.Reading.{FactDone}
+use Rattle.facts.specs.Reading.{sizes_after}
 use Rattle.facts.proofs.LineChecks.{fact_fields_lem}
-use Rattle.facts.proofs.Reached.{reached_start, room, bad, finished, refused_line, more}
+use Rattle.facts.proofs.Reached.{reached_start, Reached, bad, finished, refused_line, more}
 use Rattle.facts.proofs.reading.read_facts.Goals as goal
-use Rattle.facts.proofs.reading.read_facts.Goals.{After-check_fact, In-Line, In-Passed, In-loop-at}
+use Rattle.facts.proofs.reading.read_facts.Goals.{In-Some, In-Ok}
 
 pub loop-at-init : goal.loop-at-init
-loop-at-init c = let p = c.requires in reached_start p.0 p.1 p.2
+loop-at-init c = reached_start c.told-facts c.requires
 
-ahead : (c : goal.In-loop-at) → LFAhead (c.args.file.now) c.loop-at.at
-ahead c = c.lines_end-end.ensures.ahead _ c.loop-at-test.true
-
--- check 2
 pub returns-in_default : goal.returns-in_default
-returns-in_default c = bad c.loop-at.invariant (ahead_here _ _ (ahead (goal.at.returns-in_default c).In-loop-at)) (sym c.read_line.ensures ∙ c.in_default.is)
+returns-in_default c = bad c.loop-at.invariant (ahead_here _ _ (c.lines_end-end.ensures.ahead _ c.loop-at-test.true)) (sym c.read_line.ensures ∙ c.in_default.is)
 
-is_line : (c : goal.In-Line) → line_at (c.args.file.now) c.loop-at.at ≡ LineRead.Line c.in-Line.f
-is_line c = sym c.read_line.ensures ∙ c.in-Line.is
+is_line : (c : goal.In-Some) → line_at (c.args.file.now) c.loop-at.at ≡ Some c.in-Some.f
+is_line c = sym c.read_line.ensures ∙ c.in-Some.is
 
 pub check_fact-requires : goal.check_fact-requires
-check_fact-requires c =
+check_fact-requires c = ((line_here fact_fields_lem _ _ _ (is_line (goal.at.check_fact-requires c).In-Some)).small, c.loop-at.invariant.fit)
+
+pub returns-in-Err : goal.returns-in-Err
+returns-in-Err c = let R = c.loop-at.invariant in refused_line R _ (is_line (goal.at.returns-in-Err c).In-Some) _ (c.in-Err.ensures R.facts R.held' R.sized)
+
+pub loop-at-smaller-then-count-eq0 : goal.loop-at-smaller-then-count-eq0
+loop-at-smaller-then-count-eq0 c =
+    let l = line_here fact_fields_lem _ _ _ (is_line (goal.at.loop-at-smaller-then-count-eq0 c).In-Some) in
+    omega (arith, l.longer, l.inside)
+
+more_here : (c : goal.In-Ok) → {b : Bool} → eqb c.loop-at.count 0 ≡ b
+    → Reached c.args.file.now (set c.loop-at.facts c.loop-at.count c.in-Ok.fact) (sizes_after b c.in-Some.f c.loop-at.sizes) (c.loop-at.count + 1) c.in-Some.f.next.at
+more_here c e =
     let R = c.loop-at.invariant in
-    record { by_index = (R.facts, _, R.held); small_numbers = ((line_here fact_fields_lem _ _ _ (is_line (goal.at.check_fact-requires c).In-Line)).small, R.fit) }
+    subst
+    (λ (b : Bool). Reached c.args.file.now (set c.loop-at.facts c.loop-at.count c.in-Ok.fact) (sizes_after b c.in-Some.f c.loop-at.sizes) (c.loop-at.count + 1) c.in-Some.f.next.at) e
+    (more R _ (sym c.read_line.ensures ∙ c.in-Some.is) _ (c.in-Ok.ensures R.facts R.held' R.sized))
 
-checked : (c : goal.After-check_fact) → FactDone c.loop-at.invariant.facts c.in-Line.f c.check_fact.result
-checked c = let R = c.loop-at.invariant in c.check_fact.ensures R.facts _ R.held R.sized
-
-pub returns-in-Refused : goal.returns-in-Refused
-returns-in-Refused c = refused_line c.loop-at.invariant _ (is_line (goal.at.returns-in-Refused c).In-Line) _ (subst (FactDone _ _) c.in-Refused.is (checked (goal.at.returns-in-Refused c).After-check_fact))
-
-has_room : (c : goal.In-Passed) → c.loop-at.count + 1 < facts_length
-has_room c =
-    let l = line_here fact_fields_lem _ _ _ ((sym c.read_line.ensures ∙ c.in-Line.is)) in
-    room c.loop-at.invariant (omega (arith, l.longer, l.inside))
+pub loop-at-preserved-then-count-eq0 : goal.loop-at-preserved-then-count-eq0
+loop-at-preserved-then-count-eq0 c = more_here (goal.at.loop-at-preserved-then-count-eq0 c).In-Ok (eq-eqb _ 0 c.if-count-eq0.true)
 
 pub loop-at-smaller : goal.loop-at-smaller
 loop-at-smaller c =
-    let l = line_here fact_fields_lem _ _ _ (is_line (goal.at.loop-at-smaller c).In-Line) in
+    let l = line_here fact_fields_lem _ _ _ (is_line (goal.at.loop-at-smaller c).In-Some) in
     omega (arith, l.longer, l.inside)
 
 pub loop-at-preserved : goal.loop-at-preserved
-loop-at-preserved c = rw c.sizes_after-sizes.ensures (more c.loop-at.invariant _ (is_line (goal.at.loop-at-preserved c).In-Line) _ (subst (FactDone _ _) c.in-Passed.is (checked (goal.at.loop-at-preserved c).After-check_fact)))
+loop-at-preserved c = more_here (goal.at.loop-at-preserved c).In-Ok (ne_eqb _ 0 c.if-count-eq0.false)
 
--- behind the last LF stands nothing, or a bad line
 pub returns-then-at-file : goal.returns-then-at-file
 returns-then-at-file c = bad c.loop-at.invariant c.if-at-file.true (no_line_behind _ _ _ c.lines_end-end.ensures c.loop-at-test.false)
 
 pub returns : goal.returns
 returns c = finished c.loop-at.invariant c.if-at-file.false
-
-pub read_line-requires : goal.read_line-requires
-read_line-requires c = ahead (goal.at.read_line-requires c).In-loop-at
-
-pub overflow_add-result : goal.overflow_add-result
-overflow_add-result c = omega (arith, c.loop-at.invariant.held.room)
-
-pub overflow_add-result-in-Refused : goal.overflow_add-result-in-Refused
-overflow_add-result-in-Refused c = omega (arith, c.loop-at.invariant.held.room)
-
-pub offset_bounds-keys-count : goal.offset_bounds-keys-count
-offset_bounds-keys-count c = omega (arith, has_room (goal.at.offset_bounds-keys-count c).In-Passed)
-
-pub bounds-keys-count : goal.bounds-keys-count
-bounds-keys-count c = omega (arith, has_room (goal.at.bounds-keys-count c).In-Passed)
-
-pub bounds-values-count : goal.bounds-values-count
-bounds-values-count c = omega (arith, has_room (goal.at.bounds-values-count c).In-Passed)
-
-pub overflow_add-count : goal.overflow_add-count
-overflow_add-count c = omega (arith, has_room (goal.at.overflow_add-count c).In-Passed)
-
-pub overflow_add-result-then-at-file : goal.overflow_add-result-then-at-file
-overflow_add-result-then-at-file c = omega (arith, c.loop-at.invariant.held.room)
