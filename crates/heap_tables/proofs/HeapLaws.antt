@@ -1,5 +1,5 @@
 -- The tables that are read are those of the heap that the lines say.
-use Rattle.std.proofs.Common.{◌≡◌, ℕ, ◌%◌, ◌^◌, ◌<◌, ◌≤◌, Bool, true, false, ◌||◌, eqb, ltb, leb, List, get_or, take, sym, refl, ap, ◌∙◌, subst, inl, inr, mod-eq_of_lt, arith, ltb-false, ltb-true, eqb-true, leb-true}
+use Rattle.std.proofs.Common.{◌≡◌, ℕ, ◌%◌, ◌^◌, ◌<◌, ◌≤◌, Bool, true, false, ◌||◌, eqb, ltb, leb, List, get_or, sym, refl, ap, ◌∙◌, subst, inl, inr, mod-eq_of_lt, arith, ltb-false, ltb-true, eqb-true, leb-true}
 use Rattle.tableau.specs.Basics.{four}
 use Rattle.tableau.specs.Meaning.{◌and◌, ◌or◌, FiniteHeap, Ref, Field, Class, Region, within}
 use Rattle.tableau.proofs.Bools.{dec, both_true, every_true}
@@ -10,6 +10,7 @@ use Rattle.evaluation.specs.Heaps.{count, SaidClass, is_under, is_order, heap_of
 use Rattle.evaluation.proofs.Passable.{Passable}
 use Rattle.evaluation.proofs.HeapSaid.{sizes_in, said_by, as_said}
 use Rattle.mentions.specs.Mentions.{bit_at}
+use Rattle.facts.specs.declared.StoredFact.{StoredFact}
 use Rattle.facts.specs.Keys.{value_of, key_of, has_key, value_at, Fits, FactsHeld}
 use Rattle.facts.proofs.KeyLaws.{has_said, value_given}
 use Rattle.regions.specs.declared.HeapTables.{HeapTables}
@@ -63,21 +64,21 @@ module _ {facts : Facts} (p : Passable facts) (ordered : is_order facts ≡ true
       S : AsSaid facts (heap_of facts ordered) (values_of facts ordered)
       S = as_said p ordered
 
-module _ {facts : Facts} (ks vs : List ℕ) (n : ℕ) (F : FactsHeld facts ks vs n) where
-  -- WHAT THE KEYS SAY
-  pub held_said : (w : FactWord) (a b c : ℕ) → Fits (subject_of w (four a b c 0)) → has_key (take n ks) (key_of w (four a b c 0)) ≡ said facts w (four a b c 0)
-  held_said w a b c fits = ap (λ (k : List ℕ). has_key k (key_of w (four a b c 0))) F.keys ∙ has_said w (four a b c 0) fits facts F.fit
+module _ {facts : Facts} (held : List StoredFact) (F : FactsHeld facts held) where
+  -- WHAT THE STORED LINES SAY
+  pub held_said : (w : FactWord) (a b c : ℕ) → Fits (subject_of w (four a b c 0)) → has_key held (key_of w (four a b c 0)) ≡ said facts w (four a b c 0)
+  held_said w a b c fits = ap (λ (k : List StoredFact). has_key k (key_of w (four a b c 0))) F.is ∙ has_said w (four a b c 0) fits facts F.fit
 
   pub held_value : (w : FactWord) (a b c : ℕ) → Fits (subject_of w (four a b c 0))
-      → value_at (take n ks) (take n vs) (key_of w (four a b c 0)) ≡ value_of w (given facts w (four a b c 0))
-  held_value w a b c fits = (λ i. value_at (F.keys i) (F.values i) (key_of w (four a b c 0))) ∙ value_given w (four a b c 0) fits facts F.fit
+      → value_at held (key_of w (four a b c 0)) ≡ value_of w (given facts w (four a b c 0))
+  held_value w a b c fits = ap (λ (k : List StoredFact). value_at k (key_of w (four a b c 0))) F.is ∙ value_given w (four a b c 0) fits facts F.fit
 
-  module _ (A : HeapTables) (T : TablesRead (take n ks) (take n vs) A) where
+  module _ (A : HeapTables) (T : TablesRead held A) where
     -- the tables by what is said
     all_said : (x : ℕ) → x < 64 → bit_at A.all x ≡ said facts FactWord.Alc (four x 0 0 0)
     unfolding key_of subject_of fact_fields
     all_said x l =
-        T.all.bits x l ∙ ap (has_key (take n ks)) (key_14 (fact_index FactWord.Alc) x)
+        T.all.bits x l ∙ ap (has_key held) (key_14 (fact_index FactWord.Alc) x)
         ∙ held_said FactWord.Alc x 0 0 (record { b = omega arith; c = omega arith; d = refl })
 
     typ_given : (x : ℕ) → x < 64 → get_or A.typ x 0 ≡ (given facts FactWord.Typ (four x 0 0 0)).b

@@ -1,4 +1,4 @@
 pub mod ScanLaws
 pub mod TableLaws
-pub mod OrderLaws
 pub mod HeapLaws
+pub mod OrderLaws

@@ -1,6 +1,9 @@
 -- The test of an order by rows of bits.
-use Rattle.std.proofs.Common.{◌≡◌, ℕ, ◌+◌, ◌-◌, ◌*◌, ◌/◌, ◌%◌, ◌^◌, ◌<◌, ◌≤◌, Bool, true, false, not, ◌&&◌, eqb, ◌⊎◌, List, get_or, sym, refl, ap, ◌∙◌, inl, inr, mod-lt, eq-or-lt_of_le, arith, pow_pos, shl_exact, eq-eqb, eqb-true}
+use Rattle.std.proofs.Common.{◌≡◌, ℕ, length, subst, zero-add, ◌+◌, ◌-◌, ◌*◌, ◌/◌, ◌%◌, ◌^◌, ◌<◌, ◌≤◌, Bool, true, false, not, ◌&&◌, eqb, List, get_or, sym, refl, ap, ◌∙◌, inl, inr, mod-lt, arith, pow_pos, shl_exact, eq-eqb, eqb-true}
 use mathlib.Core.Bool.{beq}
+use Rattle.std.specs.Bool.{MatchBool}
+use Rattle.std.specs.List.{AllWithin, HoldsAt, range_with_len}
+use Rattle.std.proofs.lemmas.List.FromFn.{length-range_with_len, get_or-range_with_len}
 use lib.Bits.{bit_and, bit_xor, and_mask}
 use lib.Pow.{field, mod-mod-pow}
 use Rattle.tableau.specs.Meaning.{◌and◌, Below, and_left}
@@ -80,33 +83,31 @@ module _ (under : List ℕ) (n b c : ℕ) where
       ∙ sym (ap (λ (p : Bool). implies p rest) (sym e ∙ s)
       ∙ ap (λ (p : Bool). implies p (eqb b c) and each n (λ x. implies (is_below under n c x.0) (is_below under n b x.0))) (sym f ∙ r))
 
--- LOOPS over the classes: a test that holds below i
-pub record HoldsBelow (test : ℕ → Bool) (i : ℕ) : Type 0 where
-  pub below : (k : ℕ) → k < i → test k ≡ true
+-- TESTS OF ALL CLASSES
+abbrev pub AllPass : ℕ → (ℕ → Bool) → Bool → Type 0
+AllPass n test r = MatchBool r ((k : ℕ) → k < n → test k ≡ true) ((k : ℕ) × (k < n) × (test k ≡ false))
 
-pub holds_start : (test : ℕ → Bool) → HoldsBelow test 0
-holds_start test = record { below = λ k l. absurd (omega arith) }
-
-pub holds_more : (test : ℕ → Bool) (i : ℕ) (t : Bool) → HoldsBelow test i → t ≡ test i → t ≡ true → HoldsBelow test (i + 1)
-holds_more test i t H e s = record { below = λ k l. at k (eq-or-lt_of_le (let z : k ≤ i = omega arith in z)) }
+-- of the numbers of a range
+pub in_range : (n : ℕ) (test : ℕ → Bool) (r : Bool)
+    → MatchBool r (AllWithin (λ k. test k ≡ true) (range_with_len 0 n) 0 (length (range_with_len 0 n))) ((k : ℕ) × (k < length (range_with_len 0 n)) × HoldsAt (λ k. test k ≡ false) (range_with_len 0 n) k)
+    → AllPass n test r
+in_range n test true m = λ k l. subst (λ (x : ℕ). test x ≡ true) (place k l) (m k 0 (omega arith) (rw length-range_with_len l))
   where
-    at : (k : ℕ) → (k ≡ i) ⊎ (k < i) → test k ≡ true
-    at k (inl z) = ap test z ∙ sym e ∙ s
-    at k (inr m) = H.below k m
+    place : (k : ℕ) → k < n → get_or (range_with_len 0 n) k 0 ≡ k
+    place k l = get_or-range_with_len 0 n k 0 l ∙ zero-add k
+in_range n test false m =
+    let l : m.0 < n = rw length-range_with_len at m.1 in
+    (m.0, l, subst (λ (x : ℕ). test x ≡ false) (get_or-range_with_len 0 n m.0 0 l ∙ zero-add m.0) (m.2 0))
 
-module _ (under : List ℕ) (n b : ℕ) where
-  pub from_false : (c : ℕ) (t : Bool) → c < n → t ≡ keeps_order under n b c → t ≡ false → false ≡ keeps_order_from under n b
-  unfolding keeps_order_from
-  from_false c t l e s = sym (each_false n (λ d. keeps_order under n b d.0) (c, l) (sym e ∙ s))
+pub from_tests : (under : List ℕ) (n b : ℕ) (r : Bool) → AllPass n (keeps_order under n b) r → r ≡ keeps_order_from under n b
+unfolding keeps_order_from
+from_tests under n b true m = sym (each_in n _ (λ d. m d.0 d.1))
+from_tests under n b false m = sym (each_false n (λ d. keeps_order under n b d.0) (m.0, m.1) m.2)
 
-  pub from_true : (c : ℕ) → HoldsBelow (keeps_order under n b) c → n ≤ c → true ≡ keeps_order_from under n b
-  unfolding keeps_order_from
-  from_true c H l = sym (each_in n _ (λ d. H.below d.0 (omega (arith, d.1))))
-
-module _ (under : List ℕ) (n b : ℕ) where
-  pub order_true : HoldsBelow (keeps_order_from under n) b → n ≤ b → true ≡ is_order_below under n
+module _ (under : List ℕ) (n : ℕ) where
+  order_true : ((b : ℕ) → b < n → keeps_order_from under n b ≡ true) → true ≡ is_order_below under n
   unfolding keeps_order keeps_order_from is_order_below is_transitive is_antisymmetric
-  order_true H past = sym (and_i
+  order_true H = sym (and_i
       (each_in n _ λ b. each_in n _ λ c. each_in n _ λ d. implies_in (relation under n b c) _ λ p. implies_in (relation under n c d) _ λ q.
       implied (relation under n c d) (relation under n b d) (each_out n _ (and_right (implies (relation under n c b) (eqb b.0 c.0)) _ (at b c p)) d) q)
       (each_in n _ λ b. each_in n _ λ c. implies_in (relation under n b c) _ λ p. implies_in (relation under n c b) _ λ q.
@@ -114,11 +115,11 @@ module _ (under : List ℕ) (n b : ℕ) where
     where
       at : (b c : Below n) → relation under n b c ≡ true
           → implies (relation under n c b) (eqb b.0 c.0) and each n (λ d. implies (relation under n c d) (relation under n b d)) ≡ true
-      at b c p = implied (relation under n b c) _ (each_out n (λ d. keeps_order under n b.0 d.0) (H.below b.0 (omega (arith, b.1))) c) p
+      at b c p = implied (relation under n b c) _ (each_out n (λ d. keeps_order under n b.0 d.0) (H b.0 b.1) c) p
 
-  pub order_false : (t : Bool) → b < n → t ≡ keeps_order_from under n b → t ≡ false → false ≡ is_order_below under n
+  order_false : (b : ℕ) → b < n → keeps_order_from under n b ≡ false → false ≡ is_order_below under n
   unfolding keeps_order keeps_order_from is_order_below is_transitive is_antisymmetric
-  order_false u l e s = elim (dec (is_order_below under n)) [ inl t ↦ clash (holds t) (sym e ∙ s) | inr t ↦ sym t ]
+  order_false b l e = elim (dec (is_order_below under n)) [ inl t ↦ clash (holds t) e | inr t ↦ sym t ]
     where
       x : Below n
       x = (b, l)
@@ -131,3 +132,7 @@ module _ (under : List ℕ) (n b : ℕ) where
           each_anti : is_transitive (relation under n) and is_antisymmetric (relation under n) ≡ true → (c : Below n) → relation under n x c ≡ true
               → implies (relation under n c x) (eqb b c.0) ≡ true
           each_anti t c p = implied (relation under n x c) _ (each_out n _ (each_out n _ (and_right (is_transitive (relation under n)) _ t) x) c) p
+
+  pub order_tests : (r : Bool) → AllPass n (keeps_order_from under n) r → r ≡ is_order_below under n
+  order_tests true m = order_true m
+  order_tests false m = order_false m.0 m.1 m.2

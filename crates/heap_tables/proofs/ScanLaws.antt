@@ -1,15 +1,20 @@
--- Scans over keys from the last to the first.
-use Rattle.std.proofs.Common.{◌≡◌, ℕ, ◌+◌, ◌-◌, ◌*◌, ◌/◌, ◌%◌, ◌^◌, ◌<◌, ◌≤◌, Bool, true, false, cond, ◌||◌, eqb, ◌⊎◌, List, ◌∷◌, length, get_or, take, drop, set, sym, refl, ap, ◌∙◌, subst, inl, inr, lt_of_lt_of_le, mod-eq_of_lt, eq-or-lt_of_le, arith, length-set, get_or-set_other, get_or-set_same, pow_mono, shl_lt, eq-eqb, ne_eqb, eqb-true}
+-- Scans over keys.
+use Rattle.std.proofs.Common.{◌≡◌, ℕ, ◌+◌, ◌-◌, ◌*◌, ◌/◌, ◌%◌, ◌^◌, ◌<◌, ◌≤◌, Bool, true, false, cond, ◌||◌, eqb, ◌==◌, ◌⊎◌, List, [], ◌∷◌, ◌++◌, append_assoc, replicate, take, length, get_or, set, sym, ap, ◌∙◌, subst, inl, inr, lt_of_lt_of_le, mod-eq_of_lt, arith, length-set, get_or-set_other, get_or-set_same, pow_mono, shl_lt, eq-eqb, ne_eqb, eqb-true}
+use Rattle.std.specs.Prelude.{Option, None, Some}
+use Rattle.std.specs.List.{push}
+use Rattle.std.proofs.lemmas.List.{append-nil, get_or-replicate, length-replicate, take_more, take_all}
+use mathlib.Core.Bool.{or-false}
 use lib.Bits.{bit_or, or_lt}
 use lib.Pow.{shl-shr}
 use borrow.Author.Tests.{eqb-false}
+use Rattle.std.proofs.lemmas.List.Folds.{list_any-append}
 use Rattle.tableau.proofs.Bools.{dec}
 use Rattle.mentions.specs.Mentions.{bit_at}
 use Rattle.mentions.proofs.BitLaws.{bit_or_lem, bit_zero}
-use Rattle.facts.specs.Keys.{has_key, value_at, facts_length}
-use Rattle.facts.proofs.Searches.{entry_first, no_entries}
+use Rattle.facts.specs.declared.StoredFact.{StoredFact}
+use Rattle.facts.specs.Keys.{has_key, value_at}
 use Rattle.regions.proofs.MaskLaws.{bool_iff, bit_one}
-use Rattle.heap_tables.specs.Scans.{key_at, Scannable, IsPlace, IsMembers, Cleared, IsScattered}
+use Rattle.heap_tables.specs.Scans.{key_at, Scannable, IsPlace, IsMembers, IsScattered}
 
 -- THE PLACE OF A KEY
 module _ (key base shift limit : ℕ) (S : Scannable base shift limit) where
@@ -20,27 +25,23 @@ module _ (key base shift limit : ℕ) (S : Scannable base shift limit) where
   no_wrap p l = mod-eq_of_lt (omega (arith, shifted_low p l))
 
   module _ (d : ℕ) (fits : d < 2 ^ 64) (e : (d + base) % 2 ^ 64 ≡ key) where
-    pub place_found : d / 2 ^ shift < limit → d / 2 ^ shift * 2 ^ shift % 2 ^ 64 ≡ d → IsPlace key base shift limit (d / 2 ^ shift)
+    pub place_found : d / 2 ^ shift < limit → d / 2 ^ shift * 2 ^ shift % 2 ^ 64 ≡ d → IsPlace key base shift limit (Some (d / 2 ^ shift))
     unfolding key_at
     place_found l whole =
         let p : ℕ = d / 2 ^ shift in
         let low = shifted_low p l in
         let exact : p * 2 ^ shift ≡ d = sym (no_wrap p l) ∙ whole in
-        let k : key ≡ base + p * 2 ^ shift = omega (arith, e, S.low_base, low, exact) in
-        record {
-          within = omega (arith, l);
-          here = λ q m. bool_iff (eqb (base + q * 2 ^ shift) key) (eqb q p)
+        let k : key ≡ base + p * 2 ^ shift = omega (arith, e, S.low_base, low, exact) in (
+          l,
+          λ q m. bool_iff (eqb (base + q * 2 ^ shift) key) (eqb q p)
               (λ t. eq-eqb q p (sym (shl-shr q shift)
               ∙ ap (λ (n : ℕ). n / 2 ^ shift) (let z : q * 2 ^ shift ≡ p * 2 ^ shift = omega (arith, k, eqb-true (base + q * 2 ^ shift) key t) in z) ∙ shl-shr p shift))
-              (λ t. eq-eqb (base + q * 2 ^ shift) key (ap (λ (n : ℕ). base + n * 2 ^ shift) (eqb-true q p t) ∙ sym k));
-        }
+              (λ t. eq-eqb (base + q * 2 ^ shift) key (ap (λ (n : ℕ). base + n * 2 ^ shift) (eqb-true q p t) ∙ sym k)),
+        )
 
-    pub place_none : (d / 2 ^ shift < limit → d / 2 ^ shift * 2 ^ shift % 2 ^ 64 ≡ d → ⊥) → IsPlace key base shift limit limit
+    pub place_none : (d / 2 ^ shift < limit → d / 2 ^ shift * 2 ^ shift % 2 ^ 64 ≡ d → ⊥) → IsPlace key base shift limit None
     unfolding key_at
-    place_none h = record {
-      within = omega arith;
-      here = λ q m. ne_eqb (base + q * 2 ^ shift) key (apart q m) ∙ sym (ne_eqb q limit (λ z. omega arith));
-    }
+    place_none h q m = ne_eqb (base + q * 2 ^ shift) key (apart q m)
       where
         apart : (q : ℕ) → q < limit → base + q * 2 ^ shift ≡ key → ⊥
         apart q m z =
@@ -49,13 +50,9 @@ module _ (key base shift limit : ℕ) (S : Scannable base shift limit) where
             let g : d / 2 ^ shift ≡ q = ap (λ (n : ℕ). n / 2 ^ shift) f ∙ shl-shr q shift in
             h (omega (arith, g, m)) (ap (λ (n : ℕ). n * 2 ^ shift % 2 ^ 64) g ∙ no_wrap q m ∙ sym f)
 
-    pub place_past : limit ≤ d / 2 ^ shift → IsPlace key base shift limit limit
-    place_past h = place_none (λ l w. omega arith)
-
--- ONE LINE MORE
-entry_before : (n i : ℕ) (l : List ℕ) → 0 < i → i ≤ n → n ≤ length l → drop (i - 1) (take n l) ≡ get_or l (i - 1) 0 ∷ drop i (take n l)
-entry_before n i l a b c =
-    entry_first n (i - 1) l (omega arith) c ∙ ap (λ (j : ℕ). get_or l (i - 1) 0 ∷ drop j (take n l)) (let e : i - 1 + 1 ≡ i = omega arith in e)
+-- the difference of the key and the base, as it is computed
+pub difference_lem : (key base : ℕ) → key < 2 ^ 64 → base < 2 ^ 40 → ((key + (2 ^ 64 - base)) % 2 ^ 64 + base) % 2 ^ 64 ≡ key
+difference_lem key base k b = omega arith
 
 eqb_sym : (m n : ℕ) → eqb m n ≡ eqb n m
 eqb_sym m n = bool_iff (eqb m n) (eqb n m) (λ e. eq-eqb n m (sym (eqb-true m n e))) (λ e. eq-eqb m n (sym (eqb-true n m e)))
@@ -63,92 +60,85 @@ eqb_sym m n = bool_iff (eqb m n) (eqb n m) (λ e. eq-eqb n m (sym (eqb-true m n 
 pub bit_set : (r x : ℕ) → r < 64 → x < 64 → bit_at (1 * 2 ^ r % 2 ^ 64) x ≡ eqb r x
 bit_set r x h l = let e : r % 64 ≡ r = omega arith in ap (λ (k : ℕ). bit_at (1 * 2 ^ k % 2 ^ 64) x) (sym e) ∙ bit_one r x l ∙ ap (λ (k : ℕ). eqb k x) e
 
--- the bits so far
-module _ (n : ℕ) (ks : List ℕ) (base shift : ℕ) (room : n ≤ facts_length) (size : length ks ≡ facts_length) where
-  few : n ≤ length ks
-  few = omega (arith, size)
+-- a number with the bit of a place, if there is one
+abbrev pub with_bit : Option ℕ → ℕ → ℕ
+with_bit None out = out
+with_bit (Some r) out = bit_or out (1 * 2 ^ r % 2 ^ 64)
 
-  pub members_start : IsMembers (drop n (take n ks)) base shift 0
-  unfolding has_key
-  members_start = record { small = omega arith; bits = λ x l. bit_zero x ∙ sym (ap (λ (k : List ℕ). has_key k (key_at base shift x)) (no_entries n n ks (omega arith) few)) }
+-- the bits so far: one line more
+pub members_start : (base shift : ℕ) → IsMembers [] base shift 0
+members_start base shift = record { small = omega arith; bits = λ x l. bit_zero x }
 
-  pub members_end : (i out : ℕ) → IsMembers (drop i (take n ks)) base shift out → i ≤ 0 → IsMembers (take n ks) base shift out
-  members_end i out M z = subst (λ (j : ℕ). IsMembers (drop j (take n ks)) base shift out) (let e : i ≡ 0 = omega arith in e) M
+module _ (facts : List StoredFact) (base shift : ℕ) where
+  module _ (out : ℕ) (M : IsMembers facts base shift out) (fact : StoredFact) where
+    more : (x : ℕ) → has_key (facts ++ (fact ∷ [])) (key_at base shift x) ≡ (has_key facts (key_at base shift x) || (key_at base shift x == fact.key))
+    more x = list_any-append (λ (f : StoredFact). key_at base shift x == f.key) facts (fact ∷ []) ∙ ap (λ (b : Bool). has_key facts (key_at base shift x) || b) (or-false _)
 
-  module _ (i out r : ℕ) (M : IsMembers (drop i (take n ks)) base shift out) (above : 0 < i) (inside : i ≤ n) (P : IsPlace (get_or ks (i - 1) 0) base shift 64 r) where
-    more : (x : ℕ) → x < 64 → has_key (drop (i - 1) (take n ks)) (key_at base shift x) ≡ (eqb x r || bit_at out x)
-    unfolding has_key
-    more x l =
-        ap (λ (k : List ℕ). has_key k (key_at base shift x)) (entry_before n i ks above inside few)
-        ∙ (λ j. P.here x l j || sym (M.bits x l) j)
+    pub members_more : (place : Option ℕ) → IsPlace fact.key base shift 64 place → IsMembers (facts ++ (fact ∷ [])) base shift (with_bit place out)
+    members_more None P = record { small = M.small; bits = λ x l. M.bits x l ∙ sym (more x ∙ ap (λ (b : Bool). has_key facts (key_at base shift x) || b) (P x l) ∙ or-false _) }
+    members_more (Some r) P = record {
+      small = or_lt 64 out (1 * 2 ^ r % 2 ^ 64) M.small (omega arith);
+      bits = λ x l. bit_or_lem out (1 * 2 ^ r % 2 ^ 64) x ∙ (λ j. M.bits x l j || (bit_set r x P.0 l ∙ eqb_sym r x ∙ sym (P.1 x l)) j) ∙ sym (more x);
+    }
 
-    pub members_more : r < 64 → IsMembers (drop (i - 1) (take n ks)) base shift (bit_or (1 * 2 ^ r % 2 ^ 64) out)
-    members_more h = record { small = or_lt 64 (1 * 2 ^ r % 2 ^ 64) out (omega arith) M.small; bits = λ x l. bit_or_lem (1 * 2 ^ r % 2 ^ 64) out x ∙ (λ j. (bit_set r x h l ∙ eqb_sym r x) j || bit_at out x) ∙ sym (more x l) }
+pub members_step : (facts : List StoredFact) (base shift i out next : ℕ) (d : StoredFact) → IsMembers (take i facts) base shift out → i < length facts
+    → (place : Option ℕ) → IsPlace (get_or facts i d).key base shift 64 place → next ≡ with_bit place out → IsMembers (take (i + 1) facts) base shift next
+members_step facts base shift i out next d M l place P e = rw (take_more facts i d l, e) (members_more (take i facts) base shift out M (get_or facts i d) place P)
 
-    pub members_same : 64 ≤ r → IsMembers (drop (i - 1) (take n ks)) base shift out
-    members_same h = record { small = M.small; bits = λ x l. sym (more x l ∙ ap (λ (b : Bool). b || bit_at out x) (ne_eqb x r (λ e. omega arith))) }
+pub members_end : (facts : List StoredFact) (base shift i out : ℕ) → IsMembers (take i facts) base shift out → length facts ≤ i → IsMembers facts base shift out
+members_end facts base shift i out M l = subst (λ (f : List StoredFact). IsMembers f base shift out) (take_all i facts l) M
 
--- the bytes so far
-module _ (n : ℕ) (ks vs : List ℕ) (base shift : ℕ) (old : List ℕ) (room : n ≤ facts_length) (size : length ks ≡ facts_length) (values_size : length vs ≡ facts_length) where
-  few_keys : n ≤ length ks
-  few_keys = omega (arith, size)
+-- the bytes so far: one line more before the others
+pub scatter_start : (base shift : ℕ) (old out : List ℕ) → length out ≡ length old → ((p : ℕ) → p < length out → get_or out p 0 ≡ 0) → IsScattered [] base shift old out
+unfolding value_at
+scatter_start base shift old out e z = record { size = e; entries = z }
 
-  few_values : n ≤ length vs
-  few_values = omega (arith, values_size)
-
-  pub scatter_start : (older : List ℕ) → Cleared older old → IsScattered (drop n (take n ks)) (drop n (take n vs)) base shift old old
-  unfolding value_at
-  scatter_start older C = record {
-    size = refl;
-    entries = λ p l. C.zero p l ∙ sym (ap (λ (k : List ℕ). value_at k (drop n (take n vs)) (key_at base shift p)) (no_entries n n ks (omega arith) few_keys));
-  }
-
-  pub scatter_end : (older : List ℕ) → Cleared older old → (i : ℕ) (out : List ℕ) → IsScattered (drop i (take n ks)) (drop i (take n vs)) base shift old out → i ≤ 0
-      → IsScattered (take n ks) (take n vs) base shift older out
-  scatter_end older C i out S z =
-      let T = subst (λ (j : ℕ). IsScattered (drop j (take n ks)) (drop j (take n vs)) base shift old out) (let e : i ≡ 0 = omega arith in e) S in
-      record { size = S.size ∙ C.size; entries = T.entries }
-
-  module _ (i r limit : ℕ) (out : List ℕ) (S : IsScattered (drop i (take n ks)) (drop i (take n vs)) base shift old out) (above : 0 < i) (inside : i ≤ n)
-      (P : IsPlace (get_or ks (i - 1) 0) base shift limit r) (all : limit ≡ length out) where
-    more_value : (p : ℕ) → p < length out
-        → value_at (drop (i - 1) (take n ks)) (drop (i - 1) (take n vs)) (key_at base shift p) ≡ cond (eqb p r) (get_or vs (i - 1) 0) (get_or out p 0)
+module _ (facts : List StoredFact) (base shift : ℕ) (old out : List ℕ) where
+  module _ (S : IsScattered facts base shift old out) (fact : StoredFact) where
+    pub scatter_none : IsPlace fact.key base shift (length out) None → IsScattered (fact ∷ facts) base shift old out
     unfolding value_at
-    more_value p l =
-        (λ j. value_at (entry_before n i ks above inside few_keys j) (entry_before n i vs above inside few_values j) (key_at base shift p))
-        ∙ (λ j. cond (P.here p (omega arith) j) (get_or vs (i - 1) 0) (sym (S.entries p l) j))
+    scatter_none P = record { size = S.size; entries = λ p l. S.entries p l ∙ sym (ap (λ (b : Bool). cond b fact.value (value_at facts (key_at base shift p))) (P p l)) }
 
-    pub scatter_more : r < limit → IsScattered (drop (i - 1) (take n ks)) (drop (i - 1) (take n vs)) base shift old (set out r (get_or vs (i - 1) 0))
-    scatter_more h = record {
-      size = length-set out r v ∙ S.size;
-      entries = λ p l. let m : p < length out = omega (arith, l, length-set out r v) in at p m (dec (eqb p r)) ∙ sym (more_value p m);
+    pub scatter_some : (r : ℕ) → IsPlace fact.key base shift (length out) (Some r) → IsScattered (fact ∷ facts) base shift old (set out r fact.value)
+    unfolding value_at
+    scatter_some r P = record {
+      size = length-set out r fact.value ∙ S.size;
+      entries = λ p l. let m : p < length out = omega (arith, l, length-set out r fact.value) in at p m (dec (eqb p r)) ∙ (λ j. cond (sym (P.1 p m) j) fact.value (S.entries p m j));
     }
       where
-        v : ℕ
-        v = get_or vs (i - 1) 0
-
-        at : (p : ℕ) → p < length out → (eqb p r ≡ true) ⊎ (eqb p r ≡ false) → get_or (set out r v) p 0 ≡ cond (eqb p r) v (get_or out p 0)
+        at : (p : ℕ) → p < length out → (eqb p r ≡ true) ⊎ (eqb p r ≡ false) → get_or (set out r fact.value) p 0 ≡ cond (eqb p r) fact.value (get_or out p 0)
         at p l (inl e) =
-            ap (λ (q : ℕ). get_or (set out r v) q 0) (eqb-true p r e) ∙ get_or-set_same out r v 0 (omega arith) ∙ sym (ap (λ (b : Bool). cond b v (get_or out p 0)) e)
-        at p l (inr e) = get_or-set_other out r p v 0 (eqb-false p r e) ∙ sym (ap (λ (b : Bool). cond b v (get_or out p 0)) e)
+            ap (λ (q : ℕ). get_or (set out r fact.value) q 0) (eqb-true p r e) ∙ get_or-set_same out r fact.value 0 (omega arith) ∙ sym (ap (λ (b : Bool). cond b fact.value (get_or out p 0)) e)
+        at p l (inr e) = get_or-set_other out r p fact.value 0 (eqb-false p r e) ∙ sym (ap (λ (b : Bool). cond b fact.value (get_or out p 0)) e)
 
-    pub scatter_same : limit ≤ r → IsScattered (drop (i - 1) (take n ks)) (drop (i - 1) (take n vs)) base shift old out
-    scatter_same h = record { size = S.size; entries = λ p l. sym (more_value p l ∙ ap (λ (b : Bool). cond b (get_or vs (i - 1) 0) (get_or out p 0)) (ne_eqb p r (λ e. omega arith))) }
+-- THE LOOP from the last line to the first: those behind are done
+pub record Scattered (facts left : List StoredFact) (base shift : ℕ) (old out : List ℕ) : Type 0 where
+  pub behind : List StoredFact
+  pub parts : facts ≡ left ++ behind
+  pub done : IsScattered behind base shift old out
 
--- ZEROS below i
-pub record ClearedTo (old out : List ℕ) (i : ℕ) : Type 0 where
-  pub size : length out ≡ length old
-  pub zero : (p : ℕ) → p < i → get_or out p 0 ≡ 0
+module _ (facts left : List StoredFact) (base shift : ℕ) (old out : List ℕ) where
+  pub scattered_start : left ≡ facts → out ≡ replicate (length old) 0 → Scattered facts left base shift old out
+  scattered_start e z = record {
+    behind = [];
+    parts = sym (append-nil left ∙ e);
+    done = scatter_start base shift old out (ap length z ∙ length-replicate (length old) 0) (λ p l. ap (λ (o : List ℕ). get_or o p 0) z ∙ get_or-replicate (length old) p 0 0 (omega (arith, l, ap length z, length-replicate {A = ℕ} (length old) 0)));
+  }
 
-pub clear_start : (old : List ℕ) → ClearedTo old old 0
-clear_start old = record { size = refl; zero = λ p l. absurd (omega arith) }
+  module _ (S : Scattered facts left base shift old out) where
+    module _ (rest : List StoredFact) (fact : StoredFact) (e : left ≡ push rest fact) where
+      parts_more : facts ≡ rest ++ (fact ∷ S.behind)
+      parts_more = S.parts ∙ ap (λ (l : List StoredFact). l ++ S.behind) e ∙ append_assoc rest (fact ∷ []) S.behind
 
-pub clear_more : (old out : List ℕ) (i : ℕ) → ClearedTo old out i → i < length out → ClearedTo old (set out i 0) (i + 1)
-clear_more old out i C l = record { size = length-set out i 0 ∙ C.size; zero = λ p m. at p (eq-or-lt_of_le (let z : p ≤ i = omega arith in z)) }
-  where
-    at : (p : ℕ) → (p ≡ i) ⊎ (p < i) → get_or (set out i 0) p 0 ≡ 0
-    at p (inl e) = ap (λ (q : ℕ). get_or (set out i 0) q 0) e ∙ get_or-set_same out i 0 0 l
-    at p (inr m) = get_or-set_other out i p 0 0 (λ e. omega arith) ∙ C.zero p m
+      pub scattered_some : (r : ℕ) → IsPlace fact.key base shift (length out) (Some r) → Scattered facts rest base shift old (set out r fact.value)
+      scattered_some r P = record { behind = fact ∷ S.behind; parts = parts_more; done = scatter_some S.behind base shift old out S.done fact r P }
 
-pub clear_end : (old out : List ℕ) (i : ℕ) → ClearedTo old out i → length out ≤ i → Cleared old out
-clear_end old out i C l = record { size = C.size; zero = λ p m. C.zero p (omega arith) }
+      pub scattered_none : IsPlace fact.key base shift (length out) None → Scattered facts rest base shift old out
+      scattered_none P = record { behind = fact ∷ S.behind; parts = parts_more; done = scatter_none S.behind base shift old out S.done fact P }
+
+    pub scattered_end : length left ≡ 0 → IsScattered facts base shift old out
+    scattered_end z = go left S.parts z
+      where
+        go : (l : List StoredFact) → facts ≡ l ++ S.behind → length l ≡ 0 → IsScattered facts base shift old out
+        go [] e z = subst (λ (f : List StoredFact). IsScattered f base shift old out) (sym e) S.done
+        go (x ∷ l) e z = absurd (omega arith)

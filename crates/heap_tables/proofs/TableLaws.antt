@@ -1,10 +1,15 @@
 -- Tables filled row by row and bit by bit.
-use Rattle.std.proofs.Common.{◌≡◌, ℕ, ◌+◌, ◌-◌, ◌*◌, ◌%◌, ◌^◌, ◌<◌, ◌≤◌, Bool, true, false, ◌||◌, eqb, ◌⊎◌, List, length, get_or, set, sym, ap, ◌∙◌, subst, inl, inr, eq-or-lt_of_le, arith, length-set, get_or-set_other, get_or-set_same, eq-eqb, ne_eqb}
+use Rattle.std.proofs.Common.{◌≡◌, refl, ℕ, zero, suc, ◌+◌, ◌*◌, ◌%◌, ◌^◌, ◌<◌, ◌≤◌, Bool, true, false, ◌||◌, eqb, ◌⊎◌, List, length, get_or, sym, ap, ◌∙◌, subst, inl, inr, eq-or-lt_of_le, arith, eq-eqb, ne_eqb}
 use lib.Bits.{bit_or}
 use Rattle.evaluation.specs.declared.FactWord.{FactWord}
 use Rattle.evaluation.specs.Facts.{fact_index}
 use Rattle.mentions.specs.Mentions.{bit_at}
 use Rattle.mentions.proofs.BitLaws.{bit_or_lem, bit_zero}
+use denote.Param.Members.{Mut}
+use Rattle.std.specs.Fn.{Called}
+use Rattle.std.specs.Array.{IsFromFnResult, IsFromFnResultFrom}
+use mathlib.Core.Bool.{or-true, or-false}
+use Rattle.facts.specs.declared.StoredFact.{StoredFact}
 use Rattle.facts.specs.Keys.{pack_key, has_key, value_at}
 use Rattle.evaluation.proofs.Finding.{index_small}
 use Rattle.heap_tables.specs.Scans.{key_at, Scannable, IsMembers, IsScattered}
@@ -28,65 +33,66 @@ pub scannable : (w : FactWord) (a base shift limit : ℕ) → a < 131072 → bas
 unfolding pack_key
 scannable w a base shift limit l e h k = record { low_base = omega (arith, index_small w, e); low_shift = h; low_limit = k }
 
--- ROWS of a table: those below i are as they should be
-module _ (Row : ℕ → ℕ → Type 0) where
-  pub record RowsBelow (rows : List ℕ) (i : ℕ) : Type 0 where
-    pub size : length rows ≡ 16
-    pub below : (b : ℕ) → b < i → Row b (get_or rows b 0)
+-- ROWS of a table that a closure makes, each for its index: calls leave the closure as it is
+module _ {F : Type 0} {g : Mut F (ℕ × Unit {0}) ℕ} (Row : ℕ → ℕ → Type 0) (f : F) (made : (k y : ℕ) (q : F) → Called g f (k, tt) y q → (q ≡ f) × Row k y) where
+  rows_from : (rows : List ℕ) (i n : ℕ) (p : F) → p ≡ f → IsFromFnResultFrom g p rows i n → (k : ℕ) → i ≤ k → k < i + n → Row k (get_or rows k 0)
+  rows_from rows i zero p e h k l m = absurd (omega arith)
+  rows_from rows i (suc n) p e (q, y, at, call, rest) k l m =
+      let d = made i y q (subst (λ (x : F). Called g x (i, tt) y q) e call) in
+      elim (eq-or-lt_of_le l) [
+        | inl z ↦ subst (λ (j : ℕ). Row j (get_or rows j 0)) z (subst (Row i) (sym (at.1 0)) d.1)
+        | inr z ↦ rows_from rows (i + 1) n q d.0 rest k (omega arith) (omega arith)
+      ]
 
-  pub rows_start : (rows : List ℕ) → length rows ≡ 16 → RowsBelow rows 0
-  rows_start rows e = record { size = e; below = λ b l. absurd (omega arith) }
+  pub rows_made : (rows : List ℕ) (n : ℕ) → IsFromFnResult g f rows n → (k : ℕ) → k < n → Row k (get_or rows k 0)
+  rows_made rows n h k l = rows_from rows 0 n f refl h.each k (omega arith) (omega arith)
 
-  pub rows_more : (rows : List ℕ) (i r : ℕ) → RowsBelow rows i → i < 16 → Row i r → RowsBelow (set rows i r) (i + 1)
-  rows_more rows i r R l row = record { size = length-set rows i r ∙ R.size; below = λ b m. at b (eq-or-lt_of_le (let z : b ≤ i = omega arith in z)) }
-    where
-      at : (b : ℕ) → (b ≡ i) ⊎ (b < i) → Row b (get_or (set rows i r) b 0)
-      at b (inl e) = subst (λ (n : ℕ). Row n (get_or (set rows i r) n 0)) (sym e) (subst (Row i) (sym (get_or-set_same rows i r 0 (omega (arith, R.size)))) row)
-      at b (inr m) = subst (Row b) (sym (get_or-set_other rows i b r 0 (λ e. omega arith))) (R.below b m)
-
-pub above_row : (keys : List ℕ) (b base r : ℕ) → b < 16 → base ≡ pack_key (fact_index FactWord.Sub) b 0 0 → IsMembers keys base 8 r → Above keys b (bit_or r (1 * 2 ^ b % 2 ^ 64))
-above_row keys b base r l e M = record {
+pub above_row : (facts : List StoredFact) (b base r : ℕ) → b < 16 → base ≡ pack_key (fact_index FactWord.Sub) b 0 0 → IsMembers facts base 8 r → Above facts b (bit_or r (1 * 2 ^ b % 2 ^ 64))
+above_row facts b base r l e M = record {
   bits = λ c m. bit_or_lem r (1 * 2 ^ b % 2 ^ 64) c
-      ∙ (λ i. (M.bits c m ∙ ap (has_key keys) (ap (λ (k : ℕ). key_at k 8 c) e ∙ key_8 (fact_index FactWord.Sub) b c)) i || bit_set b c (omega arith) m i);
+      ∙ (λ i. (M.bits c m ∙ ap (has_key facts) (ap (λ (k : ℕ). key_at k 8 c) e ∙ key_8 (fact_index FactWord.Sub) b c)) i || bit_set b c (omega arith) m i);
 }
 
-pub members_at : (keys : List ℕ) (base key shift r : ℕ) → base ≡ key → IsMembers keys base shift r → IsMembers keys key shift r
-members_at keys base key shift r e M = subst (λ (k : ℕ). IsMembers keys k shift r) e M
+pub members_at : (facts : List StoredFact) (base key shift r : ℕ) → base ≡ key → IsMembers facts base shift r → IsMembers facts key shift r
+members_at facts base key shift r e M = subst (λ (k : ℕ). IsMembers facts k shift r) e M
 
-pub classes_read : (keys values : List ℕ) (w : FactWord) (base n : ℕ) (old new : List ℕ) → base ≡ pack_key (fact_index w) 0 0 0 → length old ≡ n → IsScattered keys values base 14 old new
-    → (x : ℕ) → x < n → get_or new x 0 ≡ value_at keys values (pack_key (fact_index w) x 0 0)
-classes_read keys values w base n old new e l S x m =
-    S.entries x (omega (arith, S.size)) ∙ ap (value_at keys values) (ap (λ (k : ℕ). key_at k 14 x) e ∙ key_14 (fact_index w) x)
+pub classes_read : (facts : List StoredFact) (w : FactWord) (base n : ℕ) (old new : List ℕ) → base ≡ pack_key (fact_index w) 0 0 0 → length old ≡ n → IsScattered facts base 14 old new
+    → (x : ℕ) → x < n → get_or new x 0 ≡ value_at facts (pack_key (fact_index w) x 0 0)
+classes_read facts w base n old new e l S x m =
+    S.entries x (omega (arith, S.size)) ∙ ap (value_at facts) (ap (λ (k : ℕ). key_at k 14 x) e ∙ key_14 (fact_index w) x)
 
--- BITS of a row: those from x on are as they should be, and no other is set
+-- BITS of a row: those below x are as they should be, and no other is set
 module _ (typ under : List ℕ) (class : ℕ) where
   abbrev test : ℕ → Bool
   test x = bit_at (get_or under (get_or typ x 0 % 16) 0) (class % 64)
 
-  pub record HavingFrom (x out : ℕ) : Type 0 where
-    pub from : (q : ℕ) → x ≤ q → q < 64 → bit_at out q ≡ test q
-    pub none : (q : ℕ) → q < x → bit_at out q ≡ false
+  pub record HavingBelow (x out : ℕ) : Type 0 where
+    pub below : (q : ℕ) → q < x → q < 64 → bit_at out q ≡ test q
+    pub none : (q : ℕ) → x ≤ q → q < 64 → bit_at out q ≡ false
 
-  pub having_start : HavingFrom 64 0
-  having_start = record { from = λ q l m. absurd (omega arith); none = λ q l. bit_zero q }
+  pub having_start : HavingBelow 0 0
+  having_start = record { below = λ q l m. absurd (omega arith); none = λ q l m. bit_zero q }
 
-  module _ (x out : ℕ) (H : HavingFrom x out) (positive : 0 < x) (inside : x ≤ 64) (t : Bool) (e : t ≡ bit_at (get_or under (get_or typ (x - 1) 0 % 16) 0) (class % 64)) where
-    pub having_set : t ≡ true → HavingFrom (x - 1) (bit_or (1 * 2 ^ (x - 1) % 2 ^ 64) out)
-    having_set s = record { from = λ q l m. bit q m ∙ at q m (eq-or-lt_of_le l); none = λ q l. bit q (omega arith) ∙ (λ i. ne_eqb (x - 1) q (λ z. omega arith) i || H.none q (omega arith) i) }
+  module _ (x out : ℕ) (H : HavingBelow x out) (inside : x < 64) (t : Bool) (e : t ≡ test x) where
+    pub having_set : t ≡ true → HavingBelow (x + 1) (bit_or out (1 * 2 ^ x % 2 ^ 64))
+    having_set s = record {
+      below = λ q l m. bit q m ∙ at q m (eq-or-lt_of_le (let z : q ≤ x = omega arith in z));
+      none = λ q l m. bit q m ∙ (λ i. H.none q (omega arith) m i || ne_eqb x q (λ z. omega arith) i);
+    }
       where
-        bit : (q : ℕ) → q < 64 → bit_at (bit_or (1 * 2 ^ (x - 1) % 2 ^ 64) out) q ≡ (eqb (x - 1) q || bit_at out q)
-        bit q m = bit_or_lem (1 * 2 ^ (x - 1) % 2 ^ 64) out q ∙ ap (λ (b : Bool). b || bit_at out q) (bit_set (x - 1) q (omega arith) m)
+        bit : (q : ℕ) → q < 64 → bit_at (bit_or out (1 * 2 ^ x % 2 ^ 64)) q ≡ (bit_at out q || eqb x q)
+        bit q m = bit_or_lem out (1 * 2 ^ x % 2 ^ 64) q ∙ ap (λ (b : Bool). bit_at out q || b) (bit_set x q inside m)
 
-        at : (q : ℕ) → q < 64 → (x - 1 ≡ q) ⊎ (x - 1 < q) → (eqb (x - 1) q || bit_at out q) ≡ test q
-        at q m (inl z) = ap (λ (b : Bool). b || bit_at out q) (eq-eqb (x - 1) q z) ∙ sym (sym (ap test z) ∙ sym e ∙ s)
-        at q m (inr z) = ap (λ (b : Bool). b || bit_at out q) (ne_eqb (x - 1) q (λ y. omega arith)) ∙ H.from q (omega arith) m
+        at : (q : ℕ) → q < 64 → (q ≡ x) ⊎ (q < x) → (bit_at out q || eqb x q) ≡ test q
+        at q m (inl z) = ap (λ (b : Bool). bit_at out q || b) (eq-eqb x q (sym z)) ∙ or-true (bit_at out q) ∙ sym (ap test z ∙ sym e ∙ s)
+        at q m (inr z) = ap (λ (b : Bool). bit_at out q || b) (ne_eqb x q (λ y. omega arith)) ∙ or-false (bit_at out q) ∙ H.below q z m
 
-    pub having_skip : t ≡ false → HavingFrom (x - 1) out
-    having_skip s = record { from = λ q l m. at q m (eq-or-lt_of_le l); none = λ q l. H.none q (omega arith) }
+    pub having_skip : t ≡ false → HavingBelow (x + 1) out
+    having_skip s = record { below = λ q l m. at q m (eq-or-lt_of_le (let z : q ≤ x = omega arith in z)); none = λ q l m. H.none q (omega arith) m }
       where
-        at : (q : ℕ) → q < 64 → (x - 1 ≡ q) ⊎ (x - 1 < q) → bit_at out q ≡ test q
-        at q m (inl z) = H.none q (omega arith) ∙ sym (sym (ap test z) ∙ sym e ∙ s)
-        at q m (inr z) = H.from q (omega arith) m
+        at : (q : ℕ) → q < 64 → (q ≡ x) ⊎ (q < x) → bit_at out q ≡ test q
+        at q m (inl z) = H.none q (omega arith) m ∙ sym (ap test z ∙ sym e ∙ s)
+        at q m (inr z) = H.below q z m
 
-  pub having_end : (x out : ℕ) → HavingFrom x out → x ≤ 0 → Having typ under class out
-  having_end x out H l = record { bits = λ q m. H.from q (omega arith) m }
+  pub having_end : (x out : ℕ) → HavingBelow x out → 64 ≤ x → Having typ under class out
+  having_end x out H l = record { bits = λ q m. H.below q (omega arith) m }

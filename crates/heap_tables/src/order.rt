@@ -24,28 +24,13 @@ fn keeps_order_from(under: &[u64; 16], classes: usize, b: usize) -> bool
     requires { (classes ≤ 16) × (b < 16) }
     ensures { result ≡ keeps_order_from under.now classes b }
 {
-    let mut c = 0;
-    while c < classes {
-        if !keeps_order(under, classes, b, c) {
-            return false;
-        }
-        c += 1;
-    }
-    true
+    (0..classes).all(|c| keeps_order(under, classes, b, c))
 }
 
 // Check 20: is it transitive and antisymmetric on the classes?
-pub fn is_order(tables: HeapTables, classes: usize) -> bool
+pub fn is_order(tables: &HeapTables, classes: usize) -> bool
     requires { classes ≤ 16 }
-    ensures { result ≡ is_order_below tables.under classes }
+    ensures { result ≡ is_order_below tables.now.under classes }
 {
-    let under = tables.under;
-    let mut b = 0;
-    while b < classes {
-        if !keeps_order_from(&under, classes, b) {
-            return false;
-        }
-        b += 1;
-    }
-    true
+    (0..classes).all(|b| keeps_order_from(&tables.under, classes, b))
 }

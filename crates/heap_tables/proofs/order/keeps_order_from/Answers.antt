@@ -1,15 +1,13 @@
-use Rattle.std.proofs.Common.{rules}
-use Rattle.heap_tables.proofs.OrderLaws.{holds_start, holds_more, from_false, from_true}
+use Rattle.std.proofs.Common.{rules, ◌≡◌, ℕ, true, false, refl, arith}
+use Rattle.std.proofs.lemmas.Iterator.{cases_from_all, YieldsList-from_range}
+use Rattle.heap_tables.specs.Order.{keeps_order}
+use Rattle.heap_tables.proofs.OrderLaws.{in_range, from_tests}
 use Rattle.heap_tables.proofs.order.keeps_order_from.Goals as goal
 
-pub returns-then-not-keeps_order : goal.returns-then-not-keeps_order
-returns-then-not-keeps_order c = search (rules, from_false)
-
-pub loop-c-preserved : goal.loop-c-preserved
-loop-c-preserved c = (search rules, search (rules, holds_more))
-
 pub returns : goal.returns
-returns c = search (rules, from_true)
-
-pub loop-c-init : goal.loop-c-init
-loop-c-init c = (search rules, search (rules, holds_start))
+returns c =
+    let a = c.args in
+    from_tests a.under.now a.classes a.b _ (in_range a.classes (keeps_order a.under.now a.classes a.b) _
+    (cases_from_all _ _ c.all.result
+    (λ (k : ℕ). keeps_order a.under.now a.classes a.b k ≡ true) (λ (k : ℕ). keeps_order a.under.now a.classes a.b k ≡ false)
+    c.all.ensures.ran (YieldsList-from_range 0 a.classes a.classes refl (omega arith)) (λ x q k. (search rules, search rules)) (λ x q k. search rules)))

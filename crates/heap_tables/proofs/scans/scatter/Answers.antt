@@ -1,19 +1,19 @@
-use Rattle.std.proofs.Common.{sym, subst, rules}
-use Rattle.heap_tables.specs.Scans.{Scannable}
-use Rattle.heap_tables.proofs.ScanLaws.{scatter_start, scatter_more, scatter_same, scatter_end}
+use Rattle.std.proofs.Common.{◌∙◌, ap, Iter}
+use Rattle.facts.specs.declared.StoredFact.{StoredFact}
+use Rattle.std.specs.declared.iter.Rev.{Rev}
+use Rattle.heap_tables.proofs.ScanLaws.{scattered_start, scattered_some, scattered_none, scattered_end}
 use Rattle.heap_tables.proofs.scans.scatter.Goals as goal
 
-pub loop-i-init : goal.loop-i-init
-loop-i-init c = (search rules, search rules, search (rules, scatter_start))
+pub loop-fact-init : goal.loop-fact-init
+loop-fact-init c =
+    let source = ap (λ (r : Rev (Iter StoredFact)). r.iter.rest.now) c.into_iter-fact-iterator.ensures.into_iter_gives in
+    scattered_start _ _ _ _ _ _ (source ∙ ap (λ (i : Iter StoredFact). i.rest.now) c.rev-fact-items.ensures.source ∙ c.iter.ensures.rest) (c.fill.ensures.after (λ y e. e))
 
-pub place_of-p-requires : goal.place_of-p-requires
-place_of-p-requires c = subst (Scannable _ _) (sym c.clear.ensures.size) c.requires.1
+pub loop-fact-preserved-in-Some-place_of : goal.loop-fact-preserved-in-Some-place_of
+loop-fact-preserved-in-Some-place_of c = scattered_some _ _ _ _ _ _ c.loop-fact.invariant _ _ c.in-Some.ensures.steps _ c.in-Some-place_of.ensures
 
-pub loop-i-preserved-then-p-limit : goal.loop-i-preserved-then-p-limit
-loop-i-preserved-then-p-limit c = (search rules, search rules, search (rules, scatter_more))
-
-pub loop-i-preserved : goal.loop-i-preserved
-loop-i-preserved c = (search rules, search rules, search (rules, scatter_same))
+pub loop-fact-preserved : goal.loop-fact-preserved
+loop-fact-preserved c = scattered_none _ _ _ _ _ _ c.loop-fact.invariant _ _ c.in-Some.ensures.steps c.in_default.ensures
 
 pub returns : goal.returns
-returns c = search (rules, scatter_end)
+returns c = scattered_end _ _ _ _ _ _ c.loop-fact.invariant c.in-None.ensures.steps.0

@@ -1,12 +1,9 @@
-use Rattle.std.proofs.Common.{arith, rules}
-use Rattle.heap_tables.proofs.TableLaws.{rows_start, rows_more}
+use Rattle.std.proofs.Common.{rules, get_or, ℕ}
+use Rattle.heap_tables.specs.Tables.{Having}
+use Rattle.heap_tables.proofs.TableLaws.{rows_made}
 use Rattle.heap_tables.proofs.tables.read_having.Goals as goal
 
 pub returns : goal.returns
-returns c = record { rows = λ g l. c.loop-f.invariant.1.below g (omega arith) }
-
-pub loop-f-init : goal.loop-f-init
-loop-f-init c = (search rules, search (rules, rows_start))
-
-pub loop-f-preserved : goal.loop-f-preserved
-loop-f-preserved c = (search rules, search (rules, rows_more))
+returns c =
+    let a = c.args in
+    record { rows = rows_made (λ (f : ℕ). Having a.typ.now a.under.now (get_or a.dty.now f 0)) _ (λ k y q h. (search rules, search rules)) _ 16 c.from_fn.ensures.items }
