@@ -15,13 +15,13 @@ use Rattle.evaluation.specs.Facts.{heap_letters, fact_words, Facts, is_nil, run_
 use Rattle.tableau.proofs.Bools.{some_inj}
 use Rattle.evaluation.proofs.Decision.{beq_eq}
 use Rattle.lines.specs.declared.LineFields.{LineFields}
-use Rattle.lines.specs.Lines.{pack_word, capital}
+use Rattle.lines.specs.Lines.{pack_word, capital, line_fields}
 use Rattle.lines.specs.ByteSteps.{all_capitals, OnePass, OnePassIn}
 use Rattle.lines.proofs.Letters.{relettered, lettered_line, shape_lettered, one_pass}
 use Rattle.lines.proofs.PackedWord.{word_small, packed_apart}
 use Rattle.words.specs.Words.{lookup_packed}
 use Rattle.words.proofs.PackedWords.{texts_are_words, lookup_packed_lem}
-use Rattle.running.specs.Running.{line_fields, ByFields}
+use Rattle.running.specs.Running.{ByFields}
 use Rattle.running.proofs.Lines.{shaped}
 use Rattle.facts.specs.Reading.{siz_word, run_word, run_fact_fields}
 
