@@ -7,7 +7,7 @@ use Rattle.std.specs.Prelude.{Option, None, Some}
 use Prim.Native.Nat.{ℕ, suc, ◌+◌, ◌*◌, ◌/◌, ◌%◌, ◌<◌, ◌≤◌}
 use native.Mathlib.Omega.{arith}
 use lib.Dec.{eqb}
-use lib.ListN.{length, get_or, take}
+use lib.ListN.{length, get_or}
 use lib.Seq.{get_or-set_same, get_or-set_other}
 use borrow.Author.Tests.{eqb-true, ltb-true}
 use Rattle.tableau.specs.declared.Sort.{Sort}
@@ -22,6 +22,7 @@ use Rattle.evaluation.specs.Facts.{fact_index, fact_fields, Facts, sizes, subjec
 use Rattle.evaluation.specs.Heaps.{is_order, heap_of, values_of, AsSaid}
 use Rattle.evaluation.proofs.Passable.{Passable}
 use Rattle.evaluation.proofs.HeapSaid.{found, said_by, as_said}
+use Rattle.facts.specs.declared.StoredFact.{StoredFact}
 use Rattle.facts.specs.Keys.{pack_key, key_of, has_key, value_at, FactsHeld}
 use Rattle.facts.specs.Keys.{value_of as line_value}
 use Rattle.regions.specs.Masks.{IsMask, IsRow, row_length}
@@ -62,7 +63,7 @@ module _ {facts : Facts} (p : Passable facts) where
           let j = eqb-true f k.c s.2 in
           absurd (elim o [ inl l ↦ omega (arith, l, a, i) | inr l ↦ omega (arith, l, b, j) ])
 
-module _ {facts : Facts} (ks vs : List ℕ) (m : ℕ) (F : FactsHeld facts ks vs m) (p : Passable facts) (ordered : is_order facts ≡ true) where
+module _ {facts : Facts} (held : List StoredFact) (F : FactsHeld facts held) (p : Passable facts) (ordered : is_order facts ≡ true) where
   abbrev H : FiniteHeap
   H = heap_of facts ordered
 
@@ -72,20 +73,20 @@ module _ {facts : Facts} (ks vs : List ℕ) (m : ℕ) (F : FactsHeld facts ks vs
   S : AsSaid facts (heap_of facts ordered) (values_of facts ordered)
   S = as_said p ordered
 
-  region_shown : (n : Name) (r : ℕ) → IsMembers (take m ks) (pack_key (fact_index FactWord.Rgv) n 0 0) 8 r → IsMask H (ρ.rgv n) r
+  region_shown : (n : Name) (r : ℕ) → IsMembers held (pack_key (fact_index FactWord.Rgv) n 0 0) 8 r → IsMask H (ρ.rgv n) r
   unfolding key_of subject_of fact_fields
   region_shown n r M = said_mask p ordered (ρ.rgv n) r (λ x. said facts FactWord.Rgv (four n x 0 0)) M.small
-      (λ x l. M.bits x l ∙ ap (has_key (take m ks)) (key_8 (fact_index FactWord.Rgv) n x)
-      ∙ held_said ks vs m F FactWord.Rgv n x 0 (record { b = l; c = omega arith; d = refl }))
+      (λ x l. M.bits x l ∙ ap (has_key held) (key_8 (fact_index FactWord.Rgv) n x)
+      ∙ held_said held F FactWord.Rgv n x 0 (record { b = l; c = omega arith; d = refl }))
       (member_low p n) (S.rgv n)
 
-  module _ (n : Name) (old new : List ℕ) (t : TermNo) (few : t ≤ max_terms) (size : length new ≡ rows_length) (R : IsHeapRow (take m ks) (take m vs) n old new t) where
+  module _ (n : Name) (old new : List ℕ) (t : TermNo) (few : t ≤ max_terms) (size : length new ≡ rows_length) (R : IsHeapRow held n old new t) where
     cell : (x f : ℕ) → x < 64 → f < 16 → get_or (row_of new t) (x * 16 + f) 0 ≡ (given facts FactWord.Arv (four n x f 0)).d
     unfolding key_of subject_of fact_fields line_value
     cell x f l k =
         row_entry new t (x * 16 + f) (omega arith) ∙ R.entries (x * 16 + f) (omega arith)
-        ∙ ap (value_at (take m ks) (take m vs)) (key_4 (fact_index FactWord.Arv) n x f)
-        ∙ held_value ks vs m F FactWord.Arv n x f (record { b = l; c = k; d = refl }) ∙ omega arith
+        ∙ ap (value_at held) (key_4 (fact_index FactWord.Arv) n x f)
+        ∙ held_value held F FactWord.Arv n x f (record { b = l; c = k; d = refl }) ∙ omega arith
 
     row_shown : IsRow H (ρ.arv n) (row_of new t)
     row_shown = record {
@@ -101,19 +102,19 @@ module _ {facts : Facts} (ks vs : List ℕ) (m : ℕ) (F : FactsHeld facts ks vs
         past i (inr l) = inr (omega (arith, S.fields))
 
   -- THE VALUE of a variable
-  value_shown : (s : Sort) (n : Name) (k : ℕ) (old new : List ℕ) (t : TermNo) → t ≤ max_terms → length new ≡ rows_length → NumberRead (take m ks) (take m vs) s n k
-      → RowRead (take m ks) (take m vs) s n old new t → Shows H (value_of ρ s n) k (row_of new t)
+  value_shown : (s : Sort) (n : Name) (k : ℕ) (old new : List ℕ) (t : TermNo) → t ≤ max_terms → length new ≡ rows_length → NumberRead held s n k
+      → RowRead held s n old new t → Shows H (value_of ρ s n) k (row_of new t)
   unfolding value_of key_of subject_of fact_fields line_value
   value_shown Sort.Reference n k old new t few size N R =
-      N ∙ held_value ks vs m F FactWord.Rfv n 0 0 (record { b = omega arith; c = omega arith; d = refl }) ∙ (omega arith) ∙ sym (S.rfv n)
+      N ∙ held_value held F FactWord.Rfv n 0 0 (record { b = omega arith; c = omega arith; d = refl }) ∙ (omega arith) ∙ sym (S.rfv n)
   value_shown Sort.Region n k old new t few size N R = region_shown n k N
   value_shown Sort.Heap n k old new t few size N R = row_shown n old new t few size R
   value_shown Sort.Field n k old new t few size N R =
-      N ∙ held_value ks vs m F FactWord.Fnv n 0 0 (record { b = omega arith; c = omega arith; d = refl }) ∙ (omega arith) ∙ sym (S.fnv n)
+      N ∙ held_value held F FactWord.Fnv n 0 0 (record { b = omega arith; c = omega arith; d = refl }) ∙ (omega arith) ∙ sym (S.fnv n)
   value_shown Sort.Class n k old new t few size N R =
-      N ∙ held_value ks vs m F FactWord.Clv n 0 0 (record { b = omega arith; c = omega arith; d = refl }) ∙ (omega arith) ∙ sym (S.clv n)
+      N ∙ held_value held F FactWord.Clv n 0 0 (record { b = omega arith; c = omega arith; d = refl }) ∙ (omega arith) ∙ sym (S.clv n)
 
-  rows_before : (s : Sort) (n : Name) (old new : List ℕ) (t : TermNo) → RowRead (take m ks) (take m vs) s n old new t → (j : ℕ) → j < t * row_length → get_or new j 0 ≡ get_or old j 0
+  rows_before : (s : Sort) (n : Name) (old new : List ℕ) (t : TermNo) → RowRead held s n old new t → (j : ℕ) → j < t * row_length → get_or new j 0 ≡ get_or old j 0
   rows_before Sort.Reference n old new t R j l = ap (λ (r : List ℕ). get_or r j 0) R
   rows_before Sort.Region n old new t R j l = ap (λ (r : List ℕ). get_or r j 0) R
   rows_before Sort.Heap n old new t R j l = R.others j (inl l)
@@ -121,12 +122,12 @@ module _ {facts : Facts} (ks vs : List ℕ) (m : ℕ) (F : FactsHeld facts ks vs
   rows_before Sort.Class n old new t R j l = ap (λ (r : List ℕ). get_or r j 0) R
 
   module _ (s : Sort) (n : Name) (numbers rows numbers' rows' : List ℕ) (t : TermNo) (few : t ≤ max_terms) (wide : length numbers ≡ 1024) (size : length rows ≡ rows_length)
-      (D : VariableRead (take m ks) (take m vs) s n numbers rows numbers' rows' t) where
+      (D : VariableRead held s n numbers rows numbers' rows' t) where
     pub variable_shown : Shows (heap_of facts ordered) (value_of (values_of facts ordered) s n) (number_at numbers' t) (row_of rows' t)
     variable_shown =
         subst (λ (k : ℕ). Shows (heap_of facts ordered) (value_of (values_of facts ordered) s n) k (row_of rows' t))
         (sym (ap (λ (l : List ℕ). get_or l t 0) D.number ∙ get_or-set_same numbers t D.value 0 (omega (arith, wide))))
-        (value_shown s n D.value rows rows' t few (row_size (take m ks) (take m vs) s n rows rows' t D.row ∙ size) D.read D.row)
+        (value_shown s n D.value rows rows' t few (row_size held s n rows rows' t D.row ∙ size) D.read D.row)
 
     -- a further term of the table
     pub variable_more : (table : Table) → WellFormed (at table) → at table t ≡ variable s n → ShownBelow (heap_of facts ordered) (values_of facts ordered) table numbers rows t
@@ -134,5 +135,5 @@ module _ {facts : Facts} (ks vs : List ℕ) (m : ℕ) (F : FactsHeld facts ks vs
     variable_more table wf e before =
         shown_more table wf H ρ numbers rows numbers' rows' t before
         (λ i l. ap (λ (k : List ℕ). get_or k i 0) D.number ∙ get_or-set_other numbers t i D.value 0 (λ z. omega arith))
-        (rows_before s n rows rows' t D.row) size (row_size (take m ks) (take m vs) s n rows rows' t D.row ∙ size) few
+        (rows_before s n rows rows' t D.row) size (row_size held s n rows rows' t D.row ∙ size) few
         (subst (λ (v : Value H). Shows H v (number_at numbers' t) (row_of rows' t)) (sym (value_variable (at table) wf H ρ t s n e)) variable_shown)

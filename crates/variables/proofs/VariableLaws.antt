@@ -11,6 +11,7 @@ use Rattle.tableau.specs.declared.Sort.{Sort}
 use Rattle.tableau.specs.Terms.{Name, TermNo, max_terms}
 use Rattle.evaluation.specs.declared.FactWord.{FactWord}
 use Rattle.evaluation.specs.Facts.{fact_index}
+use Rattle.facts.specs.declared.StoredFact.{StoredFact}
 use Rattle.facts.specs.Keys.{pack_key, value_at}
 use Rattle.regions.specs.Masks.{row_length}
 use Rattle.heap_tables.specs.Scans.{key_at, IsScattered}
@@ -18,13 +19,13 @@ use Rattle.term_values.specs.Values.{rows_length}
 use Rattle.variables.specs.Variables.{IsHeapRow, RowRead}
 
 -- a variable of another sort has no row
-pub row_kept : (keys values : List ℕ) (n : Name) (rows : List ℕ) (t : TermNo) (s : Sort) → (s ≡ Sort.Heap → ⊥)
-    → RowRead keys values s n rows rows t
-row_kept keys values n rows t Sort.Reference o = refl
-row_kept keys values n rows t Sort.Region o = refl
-row_kept keys values n rows t Sort.Heap o = absurd (o refl)
-row_kept keys values n rows t Sort.Field o = refl
-row_kept keys values n rows t Sort.Class o = refl
+pub row_kept : (facts : List StoredFact) (n : Name) (rows : List ℕ) (t : TermNo) (s : Sort) → (s ≡ Sort.Heap → ⊥)
+    → RowRead facts s n rows rows t
+row_kept facts n rows t Sort.Reference o = refl
+row_kept facts n rows t Sort.Region o = refl
+row_kept facts n rows t Sort.Heap o = absurd (o refl)
+row_kept facts n rows t Sort.Field o = refl
+row_kept facts n rows t Sort.Class o = refl
 
 -- the part of the rows that is lent for the row t
 part_length : (rows : List ℕ) (t : TermNo) → t ≤ max_terms → length rows ≡ rows_length → length (mid_of (t * row_length) (t * row_length + row_length - t * row_length) rows) ≡ row_length
@@ -34,7 +35,7 @@ part_length rows t l e =
 pub part_low : (rows : List ℕ) (t : TermNo) → t ≤ max_terms → length rows ≡ rows_length → length (mid_of (t * row_length) (t * row_length + row_length - t * row_length) rows) ≤ 1024
 part_low rows t l e = omega (arith, part_length rows t l e)
 
-module _ (keys values : List ℕ) (n : Name) (base : ℕ) (rows out : List ℕ) (t : TermNo) (few : t ≤ max_terms) (size : length rows ≡ rows_length)
+module _ (facts : List StoredFact) (n : Name) (base : ℕ) (rows out : List ℕ) (t : TermNo) (few : t ≤ max_terms) (size : length rows ≡ rows_length)
     (e : base ≡ pack_key (fact_index FactWord.Arv) n 0 0) where
   abbrev from : ℕ
   from = t * row_length
@@ -42,11 +43,11 @@ module _ (keys values : List ℕ) (n : Name) (base : ℕ) (rows out : List ℕ) 
   abbrev part : ℕ
   part = t * row_length + row_length - t * row_length
 
-  pub row_put : IsScattered keys values base 4 (mid_of (t * row_length) (t * row_length + row_length - t * row_length) rows) out
-      → IsHeapRow keys values n rows (put_mid (t * row_length) (t * row_length + row_length - t * row_length) rows out) t
+  pub row_put : IsScattered facts base 4 (mid_of (t * row_length) (t * row_length + row_length - t * row_length) rows) out
+      → IsHeapRow facts n rows (put_mid (t * row_length) (t * row_length + row_length - t * row_length) rows out) t
   row_put S = record {
     size = same_len_mid from part rows out S.size;
-    entries = λ p l. at_part p l ∙ S.entries p (omega (arith, long)) ∙ ap (λ (k : ℕ). value_at keys values (key_at k 4 p)) e;
+    entries = λ p l. at_part p l ∙ S.entries p (omega (arith, long)) ∙ ap (λ (k : ℕ). value_at facts (key_at k 4 p)) e;
     others = λ j o. outside j o;
   }
     where
@@ -72,9 +73,9 @@ module _ (keys values : List ℕ) (n : Name) (base : ℕ) (rows out : List ℕ) 
           ∙ get_or-drop (from + row_length) rows (j - (from + row_length)) 0 ∙ ap (λ (k : ℕ). get_or rows k 0) i
 
 -- the rows keep their length
-pub row_size : (keys values : List ℕ) (s : Sort) (n : Name) (old new : List ℕ) (t : TermNo) → RowRead keys values s n old new t → length new ≡ length old
-row_size keys values Sort.Reference n old new t R = ap length R
-row_size keys values Sort.Region n old new t R = ap length R
-row_size keys values Sort.Heap n old new t R = R.size
-row_size keys values Sort.Field n old new t R = ap length R
-row_size keys values Sort.Class n old new t R = ap length R
+pub row_size : (facts : List StoredFact) (s : Sort) (n : Name) (old new : List ℕ) (t : TermNo) → RowRead facts s n old new t → length new ≡ length old
+row_size facts Sort.Reference n old new t R = ap length R
+row_size facts Sort.Region n old new t R = ap length R
+row_size facts Sort.Heap n old new t R = R.size
+row_size facts Sort.Field n old new t R = ap length R
+row_size facts Sort.Class n old new t R = ap length R
