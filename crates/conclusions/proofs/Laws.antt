@@ -1,13 +1,15 @@
 -- What a step infers is what the function of its rule concludes.
-use mathlib.Core.Path.{◌≡◌, refl, sym, ◌∙◌, ap, ap₂, subst}
+use mathlib.Core.Path.{◌≡◌, refl, sym, ◌∙◌, ap₂, subst}
+use mathlib.Core.Logic.{◌⊎◌, inl, inr}
 use mathlib.Core.Bool.{Bool, true, false, not, ◌||◌, or-false}
 use mathlib.Core.List.{List, []}
-use Rattle.std.specs.Prelude.{Option}
+use Rattle.std.specs.Prelude.{Option, Result, IfOk}
 use Prim.Native.Nat.{ℕ}
 use native.Mathlib.Omega.{arith}
 use lib.Dec.{eqb}
 use borrow.Author.Tests.{eq-eqb}
 use Rattle.tableau.specs.declared.Freshness.{Freshness}
+use Rattle.tableau.specs.declared.Reason.{Reason}
 use Rattle.tableau.specs.declared.Rule.{Rule}
 use Rattle.tableau.specs.Words.{rule_names}
 use Rattle.tableau.specs.Fields.{ThirdField, TermField, unused, side, clause, term, of, rule_fields}
@@ -23,6 +25,7 @@ use Rattle.table.specs.Held.{Searchable}
 use Rattle.rules.specs.declared.outcome.Outcome.{Outcome}
 use Rattle.rules.specs.Answer.{Room, answer_of, Concludes, ConcludesFresh}
 use Rattle.equality_rules.specs.Closing.{closes_if}
+use Rattle.conclusions.specs.declared.Told.{Told}
 use Rattle.conclusions.specs.Infers.{at_place, ThirdGiven, TermGiven, Given, background_kind, is_background, Infers}
 
 -- THE NUMBERS that a rule's function speaks of: 0 for a field that the rule does not use
@@ -64,9 +67,9 @@ module _ (table : Table) (P Q : Option Literal) (D : List Literal) (E F : Bool) 
   same_conclusion disjunction h = refl
   same_conclusion background h = clash refl h
 
-  pub same_whatever : (fresh : Freshness) (x : Rule) → is_background x ≡ false → answer table fresh P Q D E t w x ≡ answer table fresh P Q D F t w x
+  pub same_whatever : (f : Freshness) (x : Rule) → is_background x ≡ false → answer table f P Q D E t w x ≡ answer table f P Q D F t w x
   unfolding answer
-  same_whatever fresh x b = rw (same_conclusion (rule x) b)
+  same_whatever f x b = rw (same_conclusion (rule x) b)
 
 -- WHAT A STEP INFERS is what the function of its rule concludes
 same_answer : (table : Table) (fresh : Freshness) (P Q : Option Literal) (E : Bool) (t w : ℕ) (x : Rule) → is_background x ≡ false → Given x t w
@@ -74,41 +77,45 @@ same_answer : (table : Table) (fresh : Freshness) (P Q : Option Literal) (E : Bo
 same_answer table fresh P Q E t w x b g = same_whatever table P Q [] E false t w fresh x b
     ∙ (ap₂ (λ (k l : ℕ). answer table fresh P Q [] false k l x) (third_of_lem (rule_fields x).t t g.third) (fourth_of_lem (rule_fields x).w w g.fourth))
 
-module _ {x y : Rule} {P Q : LiteralView} {t w : ℕ} {fresh : Freshness} {E : Bool} {terms chains : List ℕ} {r : Outcome} {A : Table → Type 0} (e : x ≡ y)
+module _ {x y : Rule} {P Q : LiteralView} {t w : ℕ} {o : Told} {terms chains : List ℕ} {r : Result Outcome Reason} {A : Table → Type 0} (e : x ≡ y)
     (b : is_background y ≡ false) (g : Given x t w) (f : (table : Table) → Searchable table terms chains → A table) where
-  as_rule : Infers y P Q t w fresh E terms chains r → Infers x P Q t w fresh E terms chains r
-  as_rule i = subst (λ (z : Rule). Infers z P Q t w fresh E terms chains r) (sym e) i
+  as_rule : Infers y P Q t w o terms chains r → Infers x P Q t w o terms chains r
+  as_rule i = subst (λ (z : Rule). Infers z P Q t w o terms chains r) (sym e) i
 
   pub infers : Concludes A y (at_place (rule_fields y).p P) (at_place (rule_fields y).q Q) (third_of (rule_fields y).t t) (fourth_of (rule_fields y).w w) r
-      → Infers x P Q t w fresh E terms chains r
+      → Infers x P Q t w o terms chains r
   infers C = as_rule record {
     room = C.room;
-    answers = λ table S. same_answer table fresh (at_place (rule_fields y).p P) (at_place (rule_fields y).q Q) E t w y b (given_as e g) ∙ C.answers table (f table S) fresh;
+    answers = λ table S.
+        same_answer table o.fresh (at_place (rule_fields y).p P) (at_place (rule_fields y).q Q) o.contradicted t w y b (given_as e g)
+        ∙ C.answers table (f table S) o.fresh;
   }
 
   -- the same for a rule that asks for a fresh w
-  pub infers_fresh : ConcludesFresh A fresh y (at_place (rule_fields y).p P) (at_place (rule_fields y).q Q) (third_of (rule_fields y).t t) (fourth_of (rule_fields y).w w) r
-      → Infers x P Q t w fresh E terms chains r
+  pub infers_fresh : ConcludesFresh A o.fresh y (at_place (rule_fields y).p P) (at_place (rule_fields y).q Q) (third_of (rule_fields y).t t)
+      (fourth_of (rule_fields y).w w) r → Infers x P Q t w o terms chains r
   infers_fresh C = as_rule record {
     room = C.room;
-    answers = λ table S. same_answer table fresh (at_place (rule_fields y).p P) (at_place (rule_fields y).q Q) E t w y b (given_as e g) ∙ C.answers table (f table S);
+    answers = λ table S.
+        same_answer table o.fresh (at_place (rule_fields y).p P) (at_place (rule_fields y).q Q) o.contradicted t w y b (given_as e g)
+        ∙ C.answers table (f table S);
   }
 
 -- `bck` closes where the branch contradicts itself
-background_answer : (table : Table) (fresh : Freshness) (P Q : Option Literal) (E : Bool) (t w : ℕ) → answer table fresh P Q [] E t w Rule.Bck ≡ answer_of (closes_if E)
+background_answer : (table : Table) (f : Freshness) (P Q : Option Literal) (E : Bool) (t w : ℕ) → answer table f P Q [] E t w Rule.Bck ≡ answer_of (closes_if E)
 unfolding answer conclude rule
-background_answer table fresh P Q true t w = refl
-background_answer table fresh P Q false t w = refl
+background_answer table f P Q true t w = refl
+background_answer table f P Q false t w = refl
 
-closes_room : (E : Bool) → Room (closes_if E)
+closes_room : (E : Bool) → IfOk (closes_if E) Room
 closes_room true = tt
 closes_room false = tt
 
-pub infers_background : {x : Rule} {P Q : LiteralView} {t w : ℕ} {fresh : Freshness} {terms chains : List ℕ} {r : Outcome} → x ≡ Rule.Bck → (E : Bool) → r ≡ closes_if E
-    → Infers x P Q t w fresh E terms chains r
-infers_background {P = P} {Q = Q} {t = t} {w = w} {fresh = fresh} {terms = terms} {chains = chains} {r = r} e E q = subst (λ (z : Rule). Infers z P Q t w fresh E terms chains r) (sym e) record {
-  room = subst Room (sym q) (closes_room E);
-  answers = λ table S. background_answer table fresh _ _ E t w ∙ ap answer_of (sym q);
+pub infers_background : {x : Rule} {P Q : LiteralView} {t w : ℕ} {o : Told} {terms chains : List ℕ} {r : Result Outcome Reason} → x ≡ Rule.Bck
+    → r ≡ closes_if o.contradicted → Infers x P Q t w o terms chains r
+infers_background {P = P} {Q} {t} {w} {o} e q = rw (e, q) record {
+  room = closes_room o.contradicted;
+  answers = λ table S. background_answer table o.fresh _ _ o.contradicted t w;
 }
 
 -- FIELD t: only that of `rep` is a side, and only that of `cla` a clause number
@@ -129,11 +136,8 @@ pub is_cla : (x : Rule) → kind_of (rule_fields x).t ≡ 2 → x ≡ Rule.Cla
 unfolding rules rule_names rule_fields
 is_cla = only 2 Rule.Cla refl
 
--- a field t that is a term is not that of `rep`, nor of `cla`
-pub not_rep : {x : Rule} → kind_of (rule_fields x).t ≡ 0 → x ≡ Rule.Rep → ⊥
+-- a field t that is a term is neither
+pub neither : {x : Rule} → kind_of (rule_fields x).t ≡ 0 → (x ≡ Rule.Rep) ⊎ (x ≡ Rule.Cla) → ⊥
 unfolding rule_fields
-not_rep h e = let z : ◌≡◌ {A = ℕ} 1 0 = rw e at h in omega arith
-
-pub not_cla : {x : Rule} → kind_of (rule_fields x).t ≡ 0 → x ≡ Rule.Cla → ⊥
-unfolding rule_fields
-not_cla h e = let z : ◌≡◌ {A = ℕ} 2 0 = rw e at h in omega arith
+neither h (inl e) = let z : ◌≡◌ {A = ℕ} 1 0 = rw e at h in omega arith
+neither h (inr e) = let z : ◌≡◌ {A = ℕ} 2 0 = rw e at h in omega arith

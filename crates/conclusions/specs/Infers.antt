@@ -1,7 +1,7 @@
 -- What a rule is given, and what it answers: checks 12 to 14.
 use Rattle.std.specs.Prelude.{◌≡◌, Bool, true, false, List, [], ℕ}
-use Rattle.std.specs.Prelude.{Option, None, Some}
-use Rattle.tableau.specs.declared.Freshness.{Freshness}
+use Rattle.std.specs.Prelude.{Option, None, Some, Result, IfOk}
+use Rattle.tableau.specs.declared.Reason.{Reason}
 use Rattle.tableau.specs.declared.Rule.{Rule}
 use Rattle.tableau.specs.Fields.{PlaceField, ThirdField, TermField, unused, place, side, clause, term, of, rule_fields}
 use Rattle.tableau.specs.Terms.{Table, Literal}
@@ -11,6 +11,7 @@ use Rattle.packing.specs.declared.LiteralView.{LiteralView}
 use Rattle.packing.specs.Packing.{literal_of, Small}
 use Rattle.table.specs.Held.{Searchable}
 use Rattle.rules.specs.declared.outcome.Outcome.{Outcome}
+use Rattle.conclusions.specs.declared.Told.{Told}
 use Rattle.rules.specs.Answer.{Room, answer_of}
 
 -- the literal that a place gives the rule
@@ -46,8 +47,8 @@ background_kind background = true
 abbrev pub is_background : Rule → Bool
 is_background x = background_kind (rule x)
 
--- the outcome is the answer of rule x, which looks at no clause, where E says whether the branch contradicts itself
-pub record Infers (x : Rule) (P Q : LiteralView) (t w : ℕ) (fresh : Freshness) (E : Bool) (terms chains : List ℕ) (r : Outcome) : Type 0 where
-  pub room : Room r
+-- the outcome is the answer of rule x, which looks at no clause, where o is what it was told of the branch
+pub record Infers (x : Rule) (P Q : LiteralView) (t w : ℕ) (o : Told) (terms chains : List ℕ) (r : Result Outcome Reason) : Type 0 where
+  pub room : IfOk r Room
   pub answers : (table : Table) → Searchable table terms chains
-      → answer table fresh (at_place (rule_fields x).p P) (at_place (rule_fields x).q Q) [] E t w x ≡ answer_of r
+      → answer table o.fresh (at_place (rule_fields x).p P) (at_place (rule_fields x).q Q) [] o.contradicted t w x ≡ answer_of r

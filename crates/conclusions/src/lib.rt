@@ -13,29 +13,37 @@ use equality_rules::{closing, equality, order};
 use heap_rules::{images, reads};
 use packing::LiteralView;
 use rules::outcome::Outcome;
-use syntax::ThirdField;
+use syntax::{Step, ThirdField};
 use tableau::{Freshness, Reason, Rule, TermNumber};
 
-// The rules whose t is a term; `rep` and `cla` do not come here, and are refused.
+// What a rule asks of the whole branch: is w fresh, does the branch contradict itself? No rule looks
+// at an answer that it did not ask for.
+#[derive(Clone, Copy)]
+pub struct Told {
+    pub fresh: Freshness,
+    pub contradicted: bool,
+}
+
+// The rules whose t is a term; `rep` and `cla` do not come here, and are refused. One match tells
+// the rule: closures would only say it twice.
 fn by_rule(
     rule: Rule,
     p: LiteralView,
     q: LiteralView,
     t: TermNumber,
     w: TermNumber,
-    fresh: Freshness,
-    contradicted: bool,
+    told: Told,
     terms: &[u64; table::NUMBERS],
     chains: &[u16; table::LINKS],
-) -> Outcome
+) -> Result<Outcome, Reason>
     requires searchable { (table : Table) × Searchable table terms.now chains.now }
     requires small_literal { SmallLiteral p × SmallLiteral q × Given rule t.0 w.0 × ThirdFits (rule_fields rule).t (Third.Term t) }
-    ensures { Infers rule p q t.0 w.0 fresh contradicted terms.now chains.now result }
+    ensures { Infers rule p q t.0 w.0 told terms.now chains.now result }
 {
     match rule {
         Rule::Eqr => set_rules::eqr(p, q, terms),
         Rule::Eql => set_rules::eql(p, q, terms),
-        Rule::Ext => set_rules::ext(p, w, fresh, terms),
+        Rule::Ext => set_rules::ext(p, w, told.fresh, terms),
         Rule::Cpe => set_rules::cpe(p, terms),
         Rule::Cpi => set_rules::cpi(p, q, t, terms),
         Rule::Cue => set_rules::cue(p, terms),
@@ -49,12 +57,11 @@ fn by_rule(
         Rule::Nul => member_rules::nul(p, terms, chains),
         Rule::Sep => set_rules::sep(p, q),
         Rule::Img => images::img(p, t, terms, chains),
-        Rule::Wit => images::wit(p, w, fresh, terms, chains),
+        Rule::Wit => images::wit(p, w, told.fresh, terms, chains),
         Rule::Ref => equality::reflexive(t),
         Rule::Sym => equality::sym(p),
         Rule::Trn => equality::trn(p, q),
         Rule::Sub => equality::sub(p, t, w, terms),
-        Rule::Rep => Outcome::Refused(Reason::NeedNotMet),
         Rule::Ler => order::ler(t),
         Rule::Let => order::transitive(p, q),
         Rule::Lea => order::lea(p, q),
@@ -62,32 +69,29 @@ fn by_rule(
         Rule::Rdm => reads::rdm(t, terms, chains),
         Rule::Cls => closing::cls(p, q),
         Rule::Emp => closing::emp(p, terms),
-        Rule::Cla => Outcome::Refused(Reason::NeedNotMet),
         Rule::Fin => images::fin(p, terms, chains),
-        Rule::Bck => closing::bck(contradicted),
+        Rule::Bck => closing::bck(told.contradicted),
+        Rule::Rep | Rule::Cla => Err(Reason::NeedNotMet),
     }
 }
 
-// Every rule but `cla`, which does not come here either. `contradicted` says whether the branch contradicts itself, if the rule asks for that.
+// Every rule but `cla`, which does not come here either: its alternatives are the clause's.
 pub fn conclude(
-    rule: Rule,
+    step: Step,
     p: LiteralView,
     q: LiteralView,
-    third: ThirdField,
-    w: TermNumber,
-    fresh: Freshness,
-    contradicted: bool,
+    told: Told,
     terms: &[u64; table::NUMBERS],
     chains: &[u16; table::LINKS],
-) -> Outcome
+) -> Result<Outcome, Reason>
     requires searchable { (table : Table) × Searchable table terms.now chains.now }
-    requires small_literal { SmallLiteral p × SmallLiteral q × Given rule (third_in third) w.0 × ThirdFits (rule_fields rule).t third × NoClause third }
-    ensures { Infers rule p q (third_in third) w.0 fresh contradicted terms.now chains.now result }
+    requires small_literal { SmallLiteral p × SmallLiteral q × Given step.rule (third_in step.t) step.w.0
+        × ThirdFits (rule_fields step.rule).t step.t × NoClause step.t }
+    ensures { Infers step.rule p q (third_in step.t) step.w.0 told terms.now chains.now result }
 {
-    match third {
+    match step.t {
         ThirdField::Side(side) => equality::rep(p, q, side),
-        ThirdField::Term(t) => by_rule(rule, p, q, t, w, fresh, contradicted, terms, chains),
-        // `cla` is no rule of these: its alternatives are the clause's.
-        ThirdField::Clause(_) => Outcome::Refused(Reason::NeedNotMet),
+        ThirdField::Term(t) => by_rule(step.rule, p, q, t, step.w, told, terms, chains),
+        ThirdField::Clause(_) => Err(Reason::NeedNotMet),
     }
 }
