@@ -1,5 +1,6 @@
 -- The numbers of a reply line, one after the other.
 use mathlib.Core.List.{List, [], ◌∷◌, ◌++◌}
+use Rattle.std.specs.Prelude.{None, Some}
 use mathlib.Core.Path.{◌≡◌, refl, ◌∙◌}
 use Prim.Native.Nat.{ℕ, zero, suc, ◌+◌, ◌-◌, ◌≤◌, ◌<◌}
 use native.Mathlib.Omega.{arith}
@@ -7,13 +8,10 @@ use lib.ListN.{length, take, drop, set}
 use lib.Seq.{take_all}
 use Rattle.tableau.specs.File.{comma}
 use Rattle.statistics.specs.ReplyLines.{reply_digits}
-use Rattle.lines.specs.declared.ValueRead.{ValueRead}
 use Rattle.lines.specs.Lines.{LFAhead}
 use Rattle.lines.specs.ByteSteps.{FieldsRead, Reading, before_number, whole, end_of, number_ends, steps_at, NumberSteps}
 use Rattle.lines.proofs.FileSteps.{steps_whole}
-use Rattle.lines.proofs.Bytes.{value_read, value_bad}
 use Rattle.reply.proofs.Stores.{stored_behind}
-use Rattle.reply_lines.specs.declared.NumbersRead.{NumbersRead}
 use Rattle.reply_lines.specs.Reading.{number_count, reply_form, NumbersHere}
 
 -- a number that another follows
@@ -43,7 +41,7 @@ unfolding NumbersSoFar
 numbers_start file at values w = refl
 
 pub numbers_end : (file : List ℕ) (at i next : ℕ) (values : List ℕ) → NumbersSoFar file at i next values → number_count ≤ i → length values ≡ number_count
-    → NumbersHere file at values (NumbersRead.Read next)
+    → NumbersHere file at (Some (values, next))
 unfolding NumbersSoFar NumbersHere steps_at
 numbers_end file at i next values so_far h k = (k, (λ w. so_far w ∙ rw (none_left, all) (steps_whole reply_form (fields w values) (drop next file) next)))
   where
@@ -54,30 +52,29 @@ numbers_end file at i next values so_far h k = (k, (λ w. so_far w ∙ rw (none_
     all = take_all i values (omega (arith, h, k))
 
 -- one more number
-module _ (file : List ℕ) (at i next : ℕ) (values : List ℕ) (so_far : NumbersSoFar file at i next values) (more : i < number_count)
-    (r : ValueRead) (s : NumberSteps reply_digits (end_of (number_count - 1 - i)) file next r) where
+module _ (file : List ℕ) (at i next : ℕ) (values : List ℕ) (so_far : NumbersSoFar file at i next values) (more : i < number_count) where
   one_left : number_count - i ≡ suc (number_count - 1 - i)
   one_left = omega (arith, more)
 
-  pub number_bad : r ≡ ValueRead.Bad → NumbersHere file at values NumbersRead.Bad
+  pub number_bad : NumberSteps reply_digits (end_of (number_count - 1 - i)) file next None → NumbersHere file at None
   unfolding NumbersSoFar NumbersHere NumberSteps
-  number_bad e w = so_far w ∙ rw one_left (value_bad reply_form _ _ _ file next r (s reply_form (number_count - 1 - i) (fields w (take i values)) refl refl) e)
+  number_bad s w = so_far w ∙ rw one_left (s reply_form (number_count - 1 - i) (fields w (take i values)) refl refl)
 
-  pub number_more : (v k : ℕ) → length values ≡ number_count → r ≡ ValueRead.Read v k → NumbersSoFar file at (i + 1) k (set values i v)
-  unfolding NumbersSoFar NumberSteps
-  number_more v k l e w =
-      so_far w
-      ∙ rw (one_left, stored_behind values i v (omega (arith, more, l)), fewer)
-      ((value_read reply_form _ _ _ file next r (s reply_form (number_count - 1 - i) (fields w (take i values)) refl refl) v k e).0 ∙ behind (number_count - 1 - i))
-    where
-      fewer : number_count - (i + 1) ≡ number_count - 1 - i
-      fewer = omega arith
+  module _ (v : ℕ × ℕ) (s : NumberSteps reply_digits (end_of (number_count - 1 - i)) file next (Some v)) where
+    pub number_more : length values ≡ number_count → NumbersSoFar file at (i + 1) v.1 (set values i v.0)
+    unfolding NumbersSoFar NumberSteps
+    number_more l w =
+        so_far w
+        ∙ rw (one_left, stored_behind values i v.0 (omega (arith, more, l)), fewer)
+        ((s reply_form (number_count - 1 - i) (fields w (take i values)) refl refl).0 ∙ behind (number_count - 1 - i))
+      where
+        fewer : number_count - (i + 1) ≡ number_count - 1 - i
+        fewer = omega arith
 
-      behind : (n : ℕ) → steps_at reply_form (number_ends n (fields w (take i values)) v) file k ≡ steps_at reply_form (left n w (take i values ++ (v ∷ []))) file k
-      behind zero = refl
-      behind (suc n) = refl
+        behind : (n : ℕ) → steps_at reply_form (number_ends n (fields w (take i values)) v.0) file v.1 ≡ steps_at reply_form (left n w (take i values ++ (v.0 ∷ []))) file v.1
+        behind zero = refl
+        behind (suc n) = refl
 
-  pub number_ahead : (v k : ℕ) → r ≡ ValueRead.Read v k → i + 1 < number_count → LFAhead file k
-  unfolding NumberSteps
-  number_ahead v k e h =
-      (value_read reply_form _ _ _ file next r (s reply_form (number_count - 1 - i) (fields 0 []) refl refl) v k e).1 (not_last (number_count - 1 - i) (omega (arith, h)))
+    pub number_ahead : i + 1 < number_count → LFAhead file v.1
+    unfolding NumberSteps
+    number_ahead h = (s reply_form (number_count - 1 - i) (fields 0 []) refl refl).1 (not_last (number_count - 1 - i) (omega (arith, h)))

@@ -2,7 +2,7 @@
 use mathlib.Core.Bool.{Bool, true, false, true≢false}
 use mathlib.Core.List.{List, [], ◌∷◌, ◌++◌, append_assoc}
 use Rattle.std.specs.Prelude.{Option, None, Some}
-use mathlib.Core.Path.{◌≡◌, refl, sym, ap, subst, ◌∙◌}
+use mathlib.Core.Path.{◌≡◌, refl, sym, ap, ◌∙◌}
 use Prim.Native.Nat.{ℕ, zero, suc, ◌+◌}
 use native.Mathlib.Omega.{arith}
 use lib.Dec.{eqb, eqb-suc-zero, eqb-zero-suc, eqb-suc-suc}
@@ -12,17 +12,14 @@ use Rattle.tableau.specs.File.{LF, comma, split, all_small, is_word, number}
 use Rattle.tableau.specs.Reply.{Reply}
 use Rattle.tableau.proofs.Bools.{both_true}
 use Rattle.tableau.proofs.Checks.{same_bytes_lem}
-use Rattle.lines.specs.declared.ValueRead.{ValueRead}
-use Rattle.lines.specs.Lines.{pack_word, first_line, LFAhead}
+use Rattle.lines.specs.Lines.{pack_word, first_line}
 use Rattle.lines.specs.ByteSteps.{FieldsRead, Reading, in_word, whole, bad, with_number, word_ends, ends, FieldsAt, line_end, steps_at, WordSteps}
 use Rattle.lines.proofs.OnePass.{or_bad, many_numbers, word_left, word_whole, all_steps}
 use Rattle.lines.proofs.FileSteps.{line_from, first_steps}
-use Rattle.lines.proofs.Bytes.{value_read, value_bad}
 use Rattle.words.specs.Words.{lookup_packed}
 use Rattle.words.proofs.PackedWords.{texts_are_words, lookup_packed_lem}
 use Rattle.statistics.specs.ReplyLines.{answers, reply_digits, numbers, seven_numbers, reply_fields, reply_shape}
-use Rattle.reply_lines.specs.declared.NumbersRead.{NumbersRead}
-use Rattle.reply_lines.specs.Reading.{number_count, reply_form, NumbersHere, ReplyAt, shaped_at, reply_at}
+use Rattle.reply_lines.specs.Reading.{reply_form, NumbersHere, ReplyAt, shaped_at, reply_at}
 
 -- THE NUMBERS behind fields that are read
 abbrev with_numbers : FieldsRead → List ℕ → FieldsRead
@@ -120,35 +117,27 @@ reply_steps night at = ap (λ m. then m reply_from) (first_steps reply_form (in_
         ap (λ r. then (line_end (at + length l + 1) (ends r)) reply_from) (all_steps reply_form (omega arith) (in_word 0 0 0) l) ∙ fields_say (at + length l + 1) (split comma l)
 
 -- the word, the numbers and the answer, as they are read
-module _ (night : List ℕ) (at : ℕ) (r : ValueRead) (s : WordSteps night at r) where
-  pub no_word : r ≡ ValueRead.Bad → None ≡ reply_at night at
+module _ (night : List ℕ) (at : ℕ) where
+  pub no_word : WordSteps night at None → None ≡ reply_at night at
   unfolding WordSteps
-  no_word e = ap (λ m. then m reply_from) (sym (value_bad reply_form _ _ _ night at r (s reply_form 0) e)) ∙ reply_steps night at
+  no_word s = ap (λ m. then m reply_from) (sym (s reply_form 0)) ∙ reply_steps night at
 
-  pub word_ahead : (w i : ℕ) → r ≡ ValueRead.Read w i → LFAhead night i
-  unfolding WordSteps
-  word_ahead w i e = (value_read reply_form _ _ _ night at r (s reply_form 0) w i e).1 refl
-
-  module _ (w i : ℕ) (e : r ≡ ValueRead.Read w i) (ns : List ℕ) (q : NumbersRead) (h : NumbersHere night i ns q) where
-    behind_word : steps_at reply_form (in_word 0 0 0) night at ≡ steps_at reply_form (word_ends reply_form 0 w) night i
+  module _ (w : ℕ × ℕ) (s : WordSteps night at (Some w)) where
+    behind_word : steps_at reply_form (in_word 0 0 0) night at ≡ steps_at reply_form (word_ends reply_form 0 w.0) night w.1
     unfolding WordSteps
-    behind_word = (value_read reply_form _ _ _ night at r (s reply_form 0) w i e).0
+    behind_word = (s reply_form 0).0
 
-    pub no_numbers : q ≡ NumbersRead.Bad → None ≡ reply_at night at
+    pub no_numbers : NumbersHere night w.1 None → None ≡ reply_at night at
     unfolding NumbersHere
-    no_numbers b = ap (λ m. then m reply_from) (sym (behind_word ∙ subst (NumbersHere night i ns) b h w)) ∙ reply_steps night at
+    no_numbers h = ap (λ m. then m reply_from) (sym (behind_word ∙ h w.0)) ∙ reply_steps night at
 
-    module _ (next : ℕ) (k : q ≡ NumbersRead.Read next) where
-      pub seven : length ns ≡ number_count
+    module _ (n : List ℕ × ℕ) (h : NumbersHere night w.1 (Some n)) where
+      says : reply_from (record { fields = record { letter = 0; word = w.0; numbers = n.0 }; next = n.1 }) ≡ reply_at night at
       unfolding NumbersHere
-      seven = (subst (NumbersHere night i ns) k h).0
+      says = ap (λ m. then m reply_from) (sym (behind_word ∙ h.1 w.0)) ∙ reply_steps night at
 
-      says : reply_from (record { fields = record { letter = 0; word = w; numbers = ns }; next = next }) ≡ reply_at night at
-      unfolding NumbersHere
-      says = ap (λ m. then m reply_from) (sym (behind_word ∙ (subst (NumbersHere night i ns) k h).1 w)) ∙ reply_steps night at
+      pub no_answer : None ≡ lookup_packed answers w.0 → None ≡ reply_at night at
+      no_answer a = rw (← says, ← a)
 
-      pub no_answer : lookup_packed answers w ≡ None → None ≡ reply_at night at
-      no_answer a = rw (← says) (rw a)
-
-      pub answered : (y : Bool) (x : Reply) → lookup_packed answers w ≡ Some y → seven_numbers y ns ≡ Some x → Some (record { reply = x; next = next }) ≡ reply_at night at
-      answered y x a v = rw (← says) (rw (a, v))
+      pub answered : (y : Bool) (x : Reply) → Some y ≡ lookup_packed answers w.0 → seven_numbers y n.0 ≡ Some x → Some (record { reply = x; next = n.1 }) ≡ reply_at night at
+      answered y x a v = rw (← says, ← a, v)

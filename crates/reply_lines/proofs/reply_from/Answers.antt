@@ -1,5 +1,0 @@
--- There are seven numbers.
-use Rattle.reply_lines.proofs.reply_from.Goals as goal
-
-pub returns : goal.returns
-returns c = rw c.requires
