@@ -2,7 +2,6 @@
 use mathlib.Core.Path.{◌≡◌, refl, sym, ◌∙◌, subst}
 use mathlib.Core.Bool.{true}
 use mathlib.Core.List.{List}
-use Prim.Native.Nat.{ℕ}
 use Rattle.tableau.specs.declared.Sort.{Sort}
 use Rattle.tableau.specs.declared.Relation.{Relation}
 use Rattle.tableau.specs.Basics.{four}
@@ -10,13 +9,15 @@ use Rattle.tableau.specs.Terms.{TermNo, Table, Literal, literal, at, sort_of}
 use Rattle.tableau.specs.Background as background
 use Rattle.tableau.specs.Background.{On, Follows}
 use Rattle.packing.specs.Packing.{Small}
-use Rattle.partition.specs.Blocks.{block_of, IsPartition, Sound}
+use Rattle.partition.specs.declared.Partition.{Partition}
+use Rattle.partition.specs.Blocks.{block_of, Sound}
+use Rattle.class_order.specs.declared.Rows.{Rows}
 use Rattle.class_order.specs.Rows as order
 use Rattle.class_order.specs.Rows.{Path, is_under}
 use Rattle.background.specs.Closure.{Saturated}
 
 -- SOUND: numbers in one block follow to be equal, and a path follows to be an order
-module _ (table : Table) (B : List Literal) (blocks : List ℕ) (C : Sound table B blocks) where
+module _ (table : Table) (B : List Literal) (blocks : Partition) (C : Sound table B blocks) where
   pub equal_follows : (a b : TermNo) → Small a → Small b → block_of blocks a ≡ block_of blocks b → Follows table B Relation.Eq a b
   equal_follows a b la lb e = background.trn (C a la) (background.sym (subst (λ x. Follows table B Relation.Eq b x) (sym e) (C b lb)))
 
@@ -33,13 +34,13 @@ module _ (table : Table) (B : List Literal) (blocks : List ℕ) (C : Sound table
     under_follows a b la lb h = background.left (background.sym (C a la)) (background.right (background.sym (C b lb)) (path_follows h))
 
 -- COMPLETE: what follows is there
-module _ (table : Table) (B : List Literal) (blocks rows : List ℕ) (S : IsPartition blocks) (K : Saturated table B blocks rows) where
+module _ (table : Table) (B : List Literal) (blocks : Partition) (rows : Rows) (K : Saturated table B blocks rows) where
   abbrev U : TermNo → TermNo → Type 0
   U x y = is_under rows x y ≡ true
 
   path_small : {x y : TermNo} → Path table B blocks x y → Small x × Small y
-  path_small (order.edge a b o p q) = (subst Small p (S.small a), subst Small q (S.small b))
-  path_small (order.loop t s p) = (subst Small p (S.small t), subst Small p (S.small t))
+  path_small (order.edge a b o p q) = (subst Small p (blocks.valid.small a), subst Small q (blocks.valid.small b))
+  path_small (order.loop t s p) = (subst Small p (blocks.valid.small t), subst Small p (blocks.valid.small t))
   path_small (order.compose p q) = ((path_small p).0, (path_small q).1)
 
   -- what is above the end of a path is above its start
@@ -66,7 +67,7 @@ module _ (table : Table) (B : List Literal) (blocks rows : List ℕ) (S : IsPart
   There Relation.Nl a b = Unit {0}
 
   path_of : (a b : TermNo) → U (block_of blocks a) (block_of blocks b) → Path table B blocks (block_of blocks a) (block_of blocks b)
-  path_of a b = K.filled.only (block_of blocks a) (block_of blocks b) (S.small a) (S.small b)
+  path_of a b = K.filled.only (block_of blocks a) (block_of blocks b) (blocks.valid.small a) (blocks.valid.small b)
 
   pub follows_there : {R : Relation} {a b : TermNo} → Follows table B R a b → There R a b
   follows_there (background.eq_literal {a = a} {b = b} o) = K.equal a b o
@@ -77,7 +78,7 @@ module _ (table : Table) (B : List Literal) (blocks rows : List ℕ) (S : IsPart
   follows_there (background.sub {t = t} {w = w} {o = o} {k = k} {l = l} p q takes a b c d) =
       K.congruent t w o k l p q takes (λ i. four (follows_there a i) (follows_there b i) (follows_there c i) (follows_there d i))
   follows_there (background.ler {t = t} s) = K.filled.classes t s
-  follows_there (background.let' {a = a} {b = b} {c = c} h g) = along (path_of a b (follows_there h)) (block_of blocks c) (S.small c) (follows_there g)
+  follows_there (background.let' {a = a} {b = b} {c = c} h g) = along (path_of a b (follows_there h)) (block_of blocks c) (blocks.valid.small c) (follows_there g)
   follows_there (background.lea {a = a} {b = b} h g) = back (path_of a b (follows_there h)) (follows_there g)
   follows_there (background.left {c = c} e h) = subst (λ x. U x (block_of blocks c)) (follows_there e) (follows_there h)
   follows_there (background.right {a = a} e h) = subst (λ x. U (block_of blocks a) x) (follows_there e) (follows_there h)

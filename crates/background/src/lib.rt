@@ -1,77 +1,65 @@
-// `bck`: does a branch contradict its own equalities and its order of classes? Terms are put into one block where it follows that they are equal, and blocks into an order, until nothing changes.
+// `bck`: does a branch contradict its own equalities and its order of classes? Terms are put into one
+// block where it follows that they are equal, and blocks into an order, until nothing changes.
 #![tactic(auto)]
 
 mod literals;
 mod order;
 
-ghost use Rattle.std.specs.Prelude.{◌≡◌, length};
+ghost use Rattle.std.specs.Prelude.{◌≡◌, length, map};
 ghost use Rattle.tableau.specs.Saturation as specification;
 ghost use Rattle.tableau.specs.Terms.{Table};
+ghost use Rattle.packing.specs.Packing.{unpack_literal};
 ghost use Rattle.table.specs.Held.{Entries};
-ghost use Rattle.tree.specs.State.{IsBranch, branch_of};
-ghost use Rattle.partition.specs.Blocks.{IsPartition};
 ghost use Rattle.background.specs.Closure.{Rounded};
 
-use class_order::{WORDS, fill_rows};
+use class_order::Rows;
 use congruence::join_congruent;
 use literals::join_literals;
 use order::{antisymmetry, contradicts};
-use partition::singletons;
+use partition::Partition;
 use table::NUMBERS;
-use tree::Tree;
 
-// What a round comes to: it joined blocks, or there are none left to join, and it says whether the branch contradicts itself.
-#[derive(Clone, Copy)]
-enum RoundResult {
-    Joined,
-    Saturated(bool),
-}
-
-// One round. The eq literals are joined in each, though only the first finds sides apart, so that a round's promise asks nothing of those before. `again` is set from the second one on: most branches
-// need no second, and the search for congruent terms would cost them more than it saves. It is called at two places, so that the compiler leaves it, with its rows, out of the loop over the lines.
+// One round: None where it joined blocks; else there are none left to join, and it says whether the
+// branch contradicts itself. The eq literals are joined in each round, though only the first finds sides
+// apart, so that a round's promise asks nothing of those before. `again` is set from the second one on:
+// most branches need no second, and the search for congruent terms would cost them more than it saves.
+// Its rows are large, and stay out of the loop over the lines.
+#[inline(never)]
 fn round(
-    blocks: &mut [u16; NUMBERS],
+    blocks: &mut Partition,
     terms: &[u64; NUMBERS],
     n: usize,
-    branch: &[u32; Tree::PLACES],
-    len: usize,
+    branch: &[u32],
     again: bool,
-) -> RoundResult
-    requires entries { (table : Table) × Entries table terms.now × (length table ≡ n) }
-    requires partition { IsPartition blocks.old × IsBranch branch.now len }
-    ensures { Rounded blocks.old blocks.new terms.now n (branch_of branch.now len) result }
+) -> Option<bool>
+    requires { (table : Table) × Entries table terms.now × (length table ≡ n) }
+    ensures { Rounded blocks.old blocks.new terms.now n (map unpack_literal branch.now) result }
 {
-    join_literals(blocks, branch, len);
+    join_literals(blocks, branch);
     if join_congruent(blocks, terms, n, again) {
-        return RoundResult::Joined;
+        return None;
     }
-    let mut rows = [0; WORDS];
-    fill_rows(&*blocks, &mut rows, terms, n, branch, len);
-    if antisymmetry(blocks, &rows, branch, len) {
-        RoundResult::Joined
+    let mut rows = Rows::empty();
+    rows.fill(blocks, terms, n, branch);
+    if antisymmetry(blocks, &rows, branch) {
+        None
     } else {
-        RoundResult::Saturated(contradicts(&*blocks, &rows, branch, len))
+        Some(contradicts(blocks, &rows, branch))
     }
 }
 
-// Does the branch of the first len literals contradict itself, over the table of the n packed terms?
-pub fn contradicted(
-    terms: &[u64; NUMBERS],
-    n: usize,
-    branch: &[u32; Tree::PLACES],
-    len: usize,
-) -> bool
-    requires entries { (table : Table) × Entries table terms.now × (length table ≡ n) }
-    requires branch { IsBranch branch.now len }
+// Does the branch contradict itself, over the table of the n packed terms?
+pub fn contradicted(terms: &[u64; NUMBERS], n: usize, branch: &[u32]) -> bool
+    requires { (table : Table) × Entries table terms.now × (length table ≡ n) }
     ensures { (table : Table) → Entries table terms.now → length table ≡ n
-        → result ≡ specification.contradicted table (branch_of branch.now len) }
+        → result ≡ specification.contradicted table (map unpack_literal branch.now) }
 {
-    let mut blocks = singletons();
-    let mut last = round(&mut blocks, terms, n, branch, len, false);
+    let mut blocks = Partition::singletons();
+    let mut again = false;
     loop {
-        if let RoundResult::Saturated(answer) = last {
+        if let Some(answer) = round(&mut blocks, terms, n, branch, again) {
             return answer;
         }
-        last = round(&mut blocks, terms, n, branch, len, true);
+        again = true;
     }
 }

@@ -1,13 +1,12 @@
--- The invariant: what is in one block follows to be equal, and where the last round joined nothing, all that follows is there.
-use Prim.Native.Nat.{◌+◌}
-use Rattle.tree.specs.State.{branch_of}
-use Rattle.partition.specs.Blocks.{one_if, roots}
-use Rattle.background.specs.Closure.{joined}
-use Rattle.background.proofs.RoundLaws.{Running}
+-- What is in one block follows to be equal; each round that joins blocks leaves fewer.
+use Rattle.std.proofs.Common.{map}
+use Rattle.packing.specs.Packing.{unpack_literal}
+use Rattle.partition.specs.Blocks.{roots}
+use Rattle.background.proofs.RoundLaws.{SoundOver}
 use Rattle.background.proofs.contradicted.Given as goal
 
-abbrev pub invariant-loop-last : goal.invariant-loop-last
-invariant-loop-last l = Running l.blocks l.terms l.n (branch_of l.branch l.len) l.last
+abbrev pub invariant-loop-answer : goal.invariant-loop-answer
+invariant-loop-answer l = SoundOver l.terms l.n (map unpack_literal l.branch) l.blocks
 
-abbrev pub decreases-loop-last : goal.decreases-loop-last
-decreases-loop-last l = roots 1024 l.blocks + one_if (joined l.last)
+abbrev pub decreases-loop-answer : goal.decreases-loop-answer
+decreases-loop-answer l = roots 1024 l.blocks

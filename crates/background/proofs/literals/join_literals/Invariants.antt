@@ -1,10 +1,6 @@
--- The invariant: the sides of the eq literals before i are in one block.
-use Prim.Native.Nat.{◌-◌}
+-- The sides of the eq literals so far are in one block.
 use Rattle.background.proofs.LiteralLaws.{Part}
 use Rattle.background.proofs.literals.join_literals.Given as goal
 
-abbrev pub invariant-loop-i : goal.invariant-loop-i
-invariant-loop-i l = Part l.initial.blocks l.blocks l.branch l.len l.i l.changed
-
-abbrev pub decreases-loop-i : goal.decreases-loop-i
-decreases-loop-i l = l.len - l.i
+abbrev pub invariant-loop-code : goal.invariant-loop-code
+invariant-loop-code l = Part l.initial.blocks l.blocks l.branch l.code-index l.changed

@@ -1,35 +1,28 @@
-use mathlib.Core.Path.{◌≡◌, sym, ◌∙◌, ap, subst}
+use Rattle.std.proofs.Common.{sym, ◌∙◌}
 use Rattle.tableau.specs.declared.Relation.{Relation}
-use Rattle.tableau.specs.Terms.{literal, relation_index}
-use Rattle.packing.specs.Packing.{literal_of, unpack_literal, Small, SmallLiteral}
+use Rattle.tableau.specs.Terms.{relation_index}
 use Rattle.packing.proofs.PackingLaws.{literal_read_lem, literal_view_small}
 use Rattle.packing.proofs.ViewLaws.{is_not}
 use Rattle.background.proofs.OrderLaws.{mutual_skipped, not_mutual, mutual_joined}
 use Rattle.background.proofs.order.join_mutual.Goals as goal
-use Rattle.background.proofs.order.join_mutual.Goals.{In-Le}
 
 -- the literal is no le
 pub returns-in_default : goal.returns-in_default
 unfolding relation_index
 returns-in_default c =
     let p = c.view.result in
-    mutual_skipped _ _ p _ c.requires (literal_read_lem _ p c.view.ensures) (is_not Relation.Le p c.in_default.not-Le)
-
--- it is, of small numbers
-small : (c : goal.In-Le) → Small c.in-Le.a.0 × Small c.in-Le.b.0
-small c = subst SmallLiteral c.in-Le.is (literal_view_small _ _ c.view.ensures)
-
-is_le : (c : goal.In-Le) → unpack_literal c.args.code ≡ literal Relation.Le c.in-Le.a.0 c.in-Le.b.0
-is_le c = literal_read_lem _ _ c.view.ensures ∙ ap literal_of c.in-Le.is
+    mutual_skipped _ _ p _ (literal_read_lem _ p c.view.ensures) (is_not Relation.Le p c.in_default.not-Le)
 
 pub terms_under-requires : goal.terms_under-requires
-terms_under-requires c = (c.requires, (small (goal.at.terms_under-requires c).In-Le).1, (small (goal.at.terms_under-requires c).In-Le).0)
+terms_under-requires c = let s = literal_view_small c.args.code _ c.in-Le.ensures in (s.1, s.0)
 
 pub join-requires : goal.join-requires
-join-requires c = (c.requires, (small (goal.at.join-requires c).In-Le).0, (small (goal.at.join-requires c).In-Le).1)
+join-requires c = literal_view_small c.args.code _ c.in-Le.ensures
 
 pub returns-then-terms_under : goal.returns-then-terms_under
-returns-then-terms_under c = mutual_joined _ _ _ _ _ c.requires (is_le (goal.at.returns-then-terms_under c).In-Le) _ _ (small (goal.at.returns-then-terms_under c).In-Le).0 (small (goal.at.returns-then-terms_under c).In-Le).1 (sym c.terms_under.ensures ∙ c.if-terms_under.true) c.join.ensures
+returns-then-terms_under c =
+    let s = literal_view_small c.args.code _ c.in-Le.ensures in
+    mutual_joined c.args.rows.now _ _ _ _ (literal_read_lem _ _ c.in-Le.ensures) _ _ s.0 s.1 (sym c.terms_under.ensures ∙ c.if-terms_under.true) c.join.ensures
 
-pub returns : goal.returns
-returns c = not_mutual _ _ _ _ _ c.requires (is_le (goal.at.returns c).In-Le) (sym c.terms_under.ensures ∙ c.if-terms_under.false)
+pub returns-else-terms_under : goal.returns-else-terms_under
+returns-else-terms_under c = rw c.if-terms_under.false (not_mutual c.args.rows.now c.args.blocks.now _ _ _ (literal_read_lem _ _ c.in-Le.ensures) (sym c.terms_under.ensures ∙ c.if-terms_under.false))
