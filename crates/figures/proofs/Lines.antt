@@ -23,8 +23,8 @@ use Rattle.statistics.specs.Figures.{run_reply, replies_of}
 use Rattle.reply_lines.specs.Reading.{least_reply, ReplyAt, shaped_at, reply_at}
 use Rattle.reply_lines.proofs.Sizes.{sizes}
 use Rattle.figures.specs.declared.totals.Totals.{Totals}
-use Rattle.figures.specs.Totals.{most_replies, TotalsOf, Small, Totalled}
-use Rattle.figures.specs.Night.{AllRead}
+use Rattle.figures.specs.Totals.{most_replies}
+use Rattle.figures.specs.Night.{TotalsIn, AllRead}
 
 -- what a reply comes to, behind others
 abbrev pub run_shaped : List Reply → Reply → Checked (List Reply)
@@ -82,15 +82,17 @@ module _ (night : List ℕ) (next i : ℕ) (rs : List Reply) (r : Reply) where
 
 -- THE REPLIES SO FAR: those of the lines before a position, by their totals. The run goes on behind them.
 pub record SoFar (night : List ℕ) (t : Totals) (at : ℕ) : Type 0 where
-  pub totalled : Totalled t
+  pub replies : List Reply
+  pub totals : TotalsIn replies t
   pub room : t.files * least_reply ≤ at
   pub inside : at ≤ length night
-  pub reads : replies_of night ≡ run_from run_reply night at t.files (passed totalled.replies)
+  pub reads : replies_of night ≡ run_from run_reply night at t.files (passed replies)
 
-pub none_so_far : (night : List ℕ) (t : Totals) → length night ≤ max_bytes → TotalsOf [] t → Small t → SoFar night t 0
+pub none_so_far : (night : List ℕ) (t : Totals) → length night ≤ max_bytes → TotalsIn [] t → SoFar night t 0
 unfolding replies_of
-none_so_far night t h k s = record {
-  totalled = record { replies = []; totals = k; small = s };
+none_so_far night t h k = record {
+  replies = [];
+  totals = k;
   room = omega (arith, k.files);
   inside = omega arith;
   reads = rw (le-leb (length night) max_bytes h, k.files);
@@ -98,22 +100,23 @@ none_so_far night t h k s = record {
 
 module _ (night : List ℕ) (t : Totals) (at : ℕ) (S : SoFar night t at) where
   pub bad_so_far : at < length night → None ≡ reply_at night at → replies_of night ≡ stopped Reason.BadShape (t.files + 1)
-  bad_so_far h e = S.reads ∙ rw add-one (no_reply_here night at h e t.files S.totalled.replies)
+  bad_so_far h e = S.reads ∙ rw add-one (no_reply_here night at h e t.files S.replies)
 
   pub all_so_far : length night ≤ at → AllRead night t
-  all_so_far h = record { totalled = S.totalled; count = t.files; read = S.reads ∙ at_end_lem run_reply night at h t.files S.totalled.replies }
+  all_so_far h = record { replies = S.replies; totals = S.totals; count = t.files; read = S.reads ∙ at_end_lem run_reply night at h t.files S.replies }
 
   module _ (r : Reply) (next : ℕ) (here : ReplyHere night at r next) (b : Bool) (is : b ≡ contradictory r) where
     pub refused_so_far : b ≡ true → replies_of night ≡ stopped Reason.BadShape (t.files + 1)
-    refused_so_far e = S.reads ∙ here.runs t.files S.totalled.replies ∙ rw add-one (contradicted night next t.files S.totalled.replies r (sym is ∙ e))
+    refused_so_far e = S.reads ∙ here.runs t.files S.replies ∙ rw add-one (contradicted night next t.files S.replies r (sym is ∙ e))
 
     pub room_for_one : length night ≤ max_bytes → t.files < most_replies
     room_for_one h = omega (arith, S.room, here.longer, here.inside, h)
 
-    pub one_more : b ≡ false → (t' : Totals) → TotalsOf (S.totalled.replies ++ (r ∷ [])) t' → Small t' → SoFar night t' next
-    one_more e t' k s = let f : t'.files ≡ t.files + 1 = omega (arith, k.files, length-append S.totalled.replies (r ∷ []), S.totalled.totals.files) in record {
-      totalled = record { replies = S.totalled.replies ++ (r ∷ []); totals = k; small = s };
+    pub one_more : b ≡ false → (t' : Totals) → TotalsIn (S.replies ++ (r ∷ [])) t' → SoFar night t' next
+    one_more e t' k = let f : t'.files ≡ t.files + 1 = omega (arith, k.files, length-append S.replies (r ∷ []), S.totals.files) in record {
+      replies = S.replies ++ (r ∷ []);
+      totals = k;
       room = omega (arith, f, S.room, here.longer);
       inside = here.inside;
-      reads = S.reads ∙ here.runs t.files S.totalled.replies ∙ taken night next t.files S.totalled.replies r (sym is ∙ e) ∙ rw (f, add-one);
+      reads = S.reads ∙ here.runs t.files S.replies ∙ taken night next t.files S.replies r (sym is ∙ e) ∙ rw (f, add-one);
     }

@@ -10,7 +10,6 @@ use Rattle.tableau.specs.Reply.{Reply, decimal, comma_numbers}
 use Rattle.statistics.specs.Fractions.{Fraction, ◌over◌, lowest}
 use Rattle.statistics.specs.Figures.{step_counts, square, sum, mean, variance, printed, figures, figure_numbers}
 use Rattle.statistics.proofs.Variance.{printed_lowest, squares_below, variance_lowest}
-use Rattle.figures.specs.declared.totals.Totals.{Totals}
 use Rattle.figures.specs.Totals.{most_replies, most_steps, TotalsOf, Small}
 
 -- ONE REPLY MORE, at the end of the list
@@ -33,9 +32,8 @@ steps_more (q ∷ rs) r = which q.is_yes (steps_more rs r)
     which true e = ap (λ xs. q.steps ∷ xs) e
     which false e = e
 
-module _ (rs : List Reply) (t : Totals) (r : Reply) (h : TotalsOf rs t) where
-  pub totals_yes : r.is_yes ≡ true
-      → TotalsOf (rs ++ (r ∷ [])) (record { files = t.files + 1; accepted = t.accepted + 1; sum = t.sum + r.steps; squares = t.squares + square r.steps })
+module _ (rs : List Reply) (f a s q : ℕ) (r : Reply) (h : TotalsOf rs f a s q) where
+  pub totals_yes : r.is_yes ≡ true → TotalsOf (rs ++ (r ∷ [])) (f + 1) (a + 1) (s + r.steps) (q + square r.steps)
   totals_yes e =
       let k : step_counts (rs ++ (r ∷ [])) ≡ step_counts rs ++ (r.steps ∷ []) = steps_more rs r ∙ rw e in
       record {
@@ -45,7 +43,7 @@ module _ (rs : List Reply) (t : Totals) (r : Reply) (h : TotalsOf rs t) where
         squares = rw (k, h.squares, map-append square (step_counts rs) (r.steps ∷ [])) (sym (sum_more (map square (step_counts rs)) (square r.steps)));
       }
 
-  pub totals_no : r.is_yes ≡ false → TotalsOf (rs ++ (r ∷ [])) (record { files = t.files + 1; accepted = t.accepted; sum = t.sum; squares = t.squares })
+  pub totals_no : r.is_yes ≡ false → TotalsOf (rs ++ (r ∷ [])) (f + 1) a s q
   totals_no e =
       let k : step_counts (rs ++ (r ∷ [])) ≡ step_counts rs = steps_more rs r ∙ rw (e, append-nil) in
       record { files = rw h.files (sym (length-append rs (r ∷ []))); accepted = rw k h.accepted; sum = rw k h.sum; squares = rw k h.squares }
@@ -54,53 +52,53 @@ module _ (rs : List Reply) (t : Totals) (r : Reply) (h : TotalsOf rs t) where
 pub square_small : (x : ℕ) → x < most_steps + 1 → square x ≤ square most_steps
 square_small x h = let k : x ≤ most_steps = omega arith in mul-le-mul k k
 
-module _ (t : Totals) (s : Small t) where
-  pub small_yes : t.files < most_replies → (x : ℕ) → x < most_steps + 1 → Small (record { files = t.files + 1; accepted = t.accepted + 1; sum = t.sum + x; squares = t.squares + square x })
-  small_yes h x l = record {
-    files = omega (arith, h);
-    accepted = omega (arith, s.accepted);
-    sum = omega (arith, s.sum, l);
-    squares = omega (arith, s.squares, square_small x l);
+module _ (f a s q : ℕ) (h : Small f a s q) where
+  pub small_yes : f < most_replies → (x : ℕ) → x < most_steps + 1 → Small (f + 1) (a + 1) (s + x) (q + square x)
+  small_yes l x k = record {
+    files = omega (arith, l);
+    accepted = omega (arith, h.accepted);
+    sum = omega (arith, h.sum, k);
+    squares = omega (arith, h.squares, square_small x k);
   }
 
-  pub small_no : t.files < most_replies → Small (record { files = t.files + 1; accepted = t.accepted; sum = t.sum; squares = t.squares })
-  small_no h = record { files = omega (arith, h); accepted = omega (arith, s.accepted); sum = s.sum; squares = s.squares }
+  pub small_no : f < most_replies → Small (f + 1) a s q
+  small_no l = record { files = omega (arith, l); accepted = omega (arith, h.accepted); sum = h.sum; squares = h.squares }
 
-  few : t.accepted ≤ most_replies
-  few = le_trans s.accepted s.files
+  few : a ≤ most_replies
+  few = le_trans h.accepted h.files
 
   -- 64 bits hold the products
-  pub squares_fit : t.accepted * t.squares < 2 ^ 64
-  squares_fit = let k : t.squares ≤ square most_steps * most_replies = omega (arith, s.squares, few) in let p = mul-le-mul few k in omega (arith, p)
+  pub squares_fit : a * q < 2 ^ 64
+  squares_fit = let k : q ≤ square most_steps * most_replies = omega (arith, h.squares, few) in let p = mul-le-mul few k in omega (arith, p)
 
-  pub sum_fits : t.sum * t.sum < 2 ^ 64
-  sum_fits = let k : t.sum ≤ most_steps * most_replies = omega (arith, s.sum, few) in let p = mul-le-mul k k in omega (arith, p)
+  pub sum_fits : s * s < 2 ^ 64
+  sum_fits = let k : s ≤ most_steps * most_replies = omega (arith, h.sum, few) in let p = mul-le-mul k k in omega (arith, p)
 
-  pub count_fits : t.accepted * t.accepted < 2 ^ 64
+  pub count_fits : a * a < 2 ^ 64
   count_fits = let p = mul-le-mul few few in omega (arith, p)
 
 -- THE FRACTIONS of the replies that are totalled
-module _ (rs : List Reply) (t : Totals) (h : TotalsOf rs t) where
-  pub none_accepted : t.accepted ≡ 0 → (f : Fraction) → 0 over 0 ≡ printed (length (step_counts rs)) f
-  none_accepted e f = let z : length (step_counts rs) ≡ 0 = sym h.accepted ∙ e in rw z
+module _ (rs : List Reply) (f a s q : ℕ) (h : TotalsOf rs f a s q) where
+  pub none_accepted : a ≡ 0 → (x : Fraction) → 0 over 0 ≡ printed (length (step_counts rs)) x
+  none_accepted e x = let z : length (step_counts rs) ≡ 0 = sym h.accepted ∙ e in rw z
 
-  some_accepted : (t.accepted ≡ 0 → ⊥) → 0 < length (step_counts rs)
+  some_accepted : (a ≡ 0 → ⊥) → 0 < length (step_counts rs)
   some_accepted z = omega (arith, h.accepted, z)
 
-  pub mean_lowest : (t.accepted ≡ 0 → ⊥) → lowest (t.sum over t.accepted) ≡ printed (length (step_counts rs)) (mean (step_counts rs))
+  pub mean_lowest : (a ≡ 0 → ⊥) → lowest (s over a) ≡ printed (length (step_counts rs)) (mean (step_counts rs))
   unfolding mean
   mean_lowest z = rw (printed_lowest (length (step_counts rs)) (mean (step_counts rs)) (some_accepted z), h.sum, h.accepted)
 
-  pub sum_squared : (t.accepted ≡ 0 → ⊥) → t.sum * t.sum ≤ t.accepted * t.squares
+  pub sum_squared : (a ≡ 0 → ⊥) → s * s ≤ a * q
   sum_squared z = rw (h.sum, h.accepted, h.squares) (squares_below (step_counts rs) (some_accepted z))
 
-  pub variance_from : (t.accepted ≡ 0 → ⊥)
-      → lowest (t.accepted * t.squares - t.sum * t.sum over t.accepted * t.accepted) ≡ printed (length (step_counts rs)) (variance (step_counts rs))
+  pub variance_from : (a ≡ 0 → ⊥)
+      → lowest (a * q - s * s over a * a) ≡ printed (length (step_counts rs)) (variance (step_counts rs))
   variance_from z =
       rw (printed_lowest (length (step_counts rs)) (variance (step_counts rs)) (some_accepted z), h.sum, h.accepted, h.squares) (variance_lowest (step_counts rs) (some_accepted z))
 
   pub figure_numbers_lem : (m v : Fraction) → m ≡ printed (length (step_counts rs)) (mean (step_counts rs)) → v ≡ printed (length (step_counts rs)) (variance (step_counts rs))
-      → decimal t.files ++ comma_numbers (t.accepted ∷ m.numerator ∷ m.denominator ∷ v.numerator ∷ v.denominator ∷ [])
+      → decimal f ++ comma_numbers (a ∷ m.numerator ∷ m.denominator ∷ v.numerator ∷ v.denominator ∷ [])
       ≡ decimal (figures rs).files ++ comma_numbers (figure_numbers (figures rs))
   unfolding figures
-  figure_numbers_lem m v e f = rw (h.files, h.accepted, e, f)
+  figure_numbers_lem m v e k = rw (h.files, h.accepted, e, k)

@@ -2,13 +2,12 @@
 use Rattle.std.specs.Prelude.{List, map, ◌≡◌, ℕ, ◌*◌, ◌≤◌, length}
 use Rattle.tableau.specs.Reply.{Reply}
 use Rattle.statistics.specs.Figures.{step_counts, square, sum as sum_of}
-use Rattle.figures.specs.declared.totals.Totals.{Totals}
 
-pub record TotalsOf (rs : List Reply) (t : Totals) : Type 0 where
-  pub files : t.files ≡ length rs
-  pub accepted : t.accepted ≡ length (step_counts rs)
-  pub sum : t.sum ≡ sum_of (step_counts rs)
-  pub squares : t.squares ≡ sum_of (map square (step_counts rs))
+pub record TotalsOf (rs : List Reply) (f a s q : ℕ) : Type 0 where
+  pub files : f ≡ length rs
+  pub accepted : a ≡ length (step_counts rs)
+  pub sum : s ≡ sum_of (step_counts rs)
+  pub squares : q ≡ sum_of (map square (step_counts rs))
 
 -- A reply line has 17 bytes at least: so many are there at most in 60,000 bytes.
 abbrev pub most_replies : ℕ
@@ -19,14 +18,13 @@ abbrev pub most_steps : ℕ
 most_steps = 99999
 
 -- then sums and products fit 64 bits
-pub record Small (t : Totals) : Type 0 where
-  pub files : t.files ≤ most_replies
-  pub accepted : t.accepted ≤ t.files
-  pub sum : t.sum ≤ most_steps * t.accepted
-  pub squares : t.squares ≤ square most_steps * t.accepted
+pub record Small (f a s q : ℕ) : Type 0 where
+  pub files : f ≤ most_replies
+  pub accepted : a ≤ f
+  pub sum : s ≤ most_steps * a
+  pub squares : q ≤ square most_steps * a
 
 -- the totals of some replies
-pub record Totalled (t : Totals) : Type 0 where
+pub record Totalled (f a s q : ℕ) : Type 0 where
   pub replies : List Reply
-  pub totals : TotalsOf replies t
-  pub small : Small t
+  pub totals : TotalsOf replies f a s q

@@ -1,54 +1,81 @@
 // The replies of a night, in one loop.
-ghost use Rattle.std.specs.Prelude.{◌≡◌, ◌+◌};
+ghost use Rattle.std.specs.Prelude.{List, [], ◌∷◌, ◌++◌, ◌≡◌, ◌+◌, ◌<◌, ◌^◌};
 ghost use Rattle.tableau.specs.declared.Reason.{Reason};
-ghost use Rattle.figures.specs.declared.night.NightRead.{NightRead};
-ghost use Rattle.figures.specs.Totals.{Small};
-ghost use Rattle.figures.specs.Night.{ReadTo};
+ghost use Rattle.tableau.specs.Reply as specification;
+ghost use Rattle.reply.specs.Verdict.{reply_record};
+ghost use Rattle.statistics.specs.ReplyLines.{reply_digits};
+ghost use Rattle.figures.specs.Totals.{most_replies};
+ghost use Rattle.figures.specs.Night.{TotalsIn, ReadTo};
 
-use crate::totals::{Totals, none_read, with_reply};
+use crate::totals::Totals;
 use lines::lines_end;
-use reply_lines::{ReplyRead, contradicts_itself, read_reply};
-use tableau::Reason;
+use reply::Reply;
+use reply_lines::{contradicts_itself, read_reply};
+use tableau::{Reason, Refusal};
 
 // A night has at most so many bytes.
 const NIGHT_BYTES: usize = 60000;
 
+impl Totals {
+    fn none() -> Totals
+        ensures { TotalsIn [] result }
+    {
+        Totals {
+            files: 0,
+            accepted: 0,
+            sum: 0,
+            squares: 0,
+        }
+    }
+
+    fn add(&mut self, reply: Reply)
+        requires { (self.old.files < most_replies) × (reply.steps < 10 ^ reply_digits) }
+        ensures { (rs : List specification.Reply) → TotalsIn rs self.old → TotalsIn (rs ++ (reply_record reply ∷ [])) self.new }
+    {
+        self.files += 1;
+        if reply.is_yes {
+            self.accepted += 1;
+            self.sum += reply.steps;
+            self.squares += reply.steps * reply.steps;
+        }
+    }
+
+    // The line behind those that are read is bad.
+    fn bad_line(self) -> Refusal
+        ensures { result ≡ record { reason = Reason.BadShape; line = self.files + 1 } }
+    {
+        Refusal {
+            reason: Reason::BadShape,
+            line: self.files + 1,
+        }
+    }
+}
+
 // The totals over all replies, or the first line that is refused.
-#[derive(Clone, Copy)]
-pub enum NightRead {
-    Read(Totals),
-    Refused(Reason, usize),
-}
-
-// The line behind those that are read is bad.
-fn refused(totals: Totals) -> NightRead
-    requires { Small totals }
-    ensures { result ≡ NightRead.Refused Reason.BadShape (totals.files + 1) }
-{
-    NightRead::Refused(Reason::BadShape, totals.files as usize + 1)
-}
-
-pub fn read_night(replies: &[u8]) -> NightRead
+pub fn read_night(replies: &[u8]) -> Result<Totals, Refusal>
     ensures { ReadTo replies.now result }
 {
     if NIGHT_BYTES < replies.len() {
-        return NightRead::Refused(Reason::TooLong, 0);
+        return Err(Refusal {
+            reason: Reason::TooLong,
+            line: 0,
+        });
     }
     let end = lines_end(replies);
-    let mut totals = none_read();
+    let mut totals = Totals::none();
     let mut at = 0;
     while at < end {
-        let ReplyRead::Line(reply, next) = read_reply(replies, at) else {
-            return refused(totals);
+        let Some((reply, next)) = read_reply(replies, at) else {
+            return Err(totals.bad_line());
         };
         if contradicts_itself(reply) {
-            return refused(totals);
+            return Err(totals.bad_line());
         }
-        totals = with_reply(totals, reply);
+        totals.add(reply);
         at = next;
     }
     if at < replies.len() {
-        return refused(totals);
+        return Err(totals.bad_line());
     }
-    NightRead::Read(totals)
+    Ok(totals)
 }

@@ -7,13 +7,13 @@ ghost use Rattle.fractions.specs.Fraction.{fraction_record};
 
 #[derive(Clone, Copy)]
 pub struct Fraction {
-    pub numerator: u64,
-    pub denominator: u64,
+    pub numerator: usize,
+    pub denominator: usize,
 }
 
 // Euclid: the dividend and the divisor have the common divisors of `a` and `b`. The last divisor is
 // 0, which every number divides.
-fn greatest_common_divisor(a: u64, b: u64) -> u64
+fn greatest_common_divisor(a: usize, b: usize) -> usize
     requires { 0 < b }
     ensures { result ≡ specification.greatest_common_divisor a b }
 {

@@ -1,0 +1,45 @@
+// The mean and the variance of the S lines, from the totals.
+ghost use Rattle.std.specs.Prelude.{List, ◌≡◌, length};
+ghost use Rattle.tableau.specs.Reply as specification;
+ghost use Rattle.fractions.specs.Fraction.{fraction_record};
+ghost use Rattle.statistics.specs.Figures.{step_counts, mean as meanOf, variance as varianceOf, printed};
+ghost use Rattle.figures.specs.Night.{TotalsIn};
+
+use crate::totals::Totals;
+use fractions::Fraction;
+
+const NONE: Fraction = Fraction {
+    numerator: 0,
+    denominator: 0,
+};
+
+impl Totals {
+    pub fn mean(self) -> Fraction
+        ensures { (rs : List specification.Reply) → TotalsIn rs self → fraction_record result ≡ printed (length (step_counts rs)) (meanOf (step_counts rs)) }
+    {
+        if self.accepted == 0 {
+            return NONE;
+        }
+        let mean = Fraction {
+            numerator: self.sum,
+            denominator: self.accepted,
+        };
+        mean.lowest()
+    }
+
+    // The mean of the squares less the square of the mean, over one denominator: with n numbers, n
+    // times the sum of squares less the square of the sum, over n n.
+    pub fn variance(self) -> Fraction
+        ensures { (rs : List specification.Reply) → TotalsIn rs self → fraction_record result ≡ printed (length (step_counts rs)) (varianceOf (step_counts rs)) }
+    {
+        let n = self.accepted;
+        if n == 0 {
+            return NONE;
+        }
+        let variance = Fraction {
+            numerator: n * self.squares - self.sum * self.sum,
+            denominator: n * n,
+        };
+        variance.lowest()
+    }
+}
