@@ -21,7 +21,9 @@ all_set P (y ∷ l) (suc n) x h p zero = h zero
 all_set P (y ∷ l) (suc n) x h p (suc k) = all_set P l n x (λ j. h (suc j)) p k
 
 -- the codes that stand in an array are a slice of it
-pub codes_slice : (words : List ℕ) (i n : ℕ) → i + n ≤ length words → codes_at words i n ≡ take n (drop i words)
+pub codes_slice : (words : List ℕ) (i n : ℕ) → i + n ≤ length words → codes_at words i n
+    ≡ take n (drop i words)
 codes_slice words i zero h = refl
 codes_slice words i (suc n) h =
-    rw (drop-cons words i 0 (omega arith)) (ap (λ l. get_or words i 0 ∷ l) (codes_slice words (suc i) n (omega arith)))
+    rw (drop-cons words i 0 (omega arith))
+    (ap (λ l. get_or words i 0 ∷ l) (codes_slice words (suc i) n (omega arith)))

@@ -15,7 +15,8 @@ const LINES: usize = 400;
 
 const LITERALS: usize = 8;
 
-// A literal for each C line, and an end for each of the numbers 0 to 400; no line stands before clause 1.
+// A literal for each C line, and an end for each of the numbers 0 to 400; no line stands before
+// clause 1.
 pub const WORDS: usize = 801;
 
 // The literals of a clause: so many, from an index on.
@@ -65,10 +66,12 @@ pub fn takes(clauses: &[u32; WORDS], last: usize, k: ClauseNumber) -> bool
 // A literal more, which passed check 21.
 #[tactic(auto, using(crate::proofs::Laws::last_few))]
 pub fn join(clauses: &mut [u32; WORDS], last: usize, k: ClauseNumber, code: u32)
-    requires clauses_held { (C : Clauses) × ClausesHeld C clauses.old last × (takes_disjunct C k.0 ≡ true) }
+    requires clauses_held { (C : Clauses) × ClausesHeld C clauses.old last
+        × (takes_disjunct C k.0 ≡ true) }
     requires code_lt_code_limit { code < code_limit }
     ensures { (C : Clauses) → ClausesHeld C clauses.old last → takes_disjunct C k.0 ≡ true
-        → ClausesHeld (C ++ (record { clause = k.0; is = unpack_literal code } ∷ [])) clauses.new k.0 }
+        → ClausesHeld (C ++ (record { clause = k.0; is = unpack_literal code } ∷ []))
+        clauses.new k.0 }
 {
     let lines = end_of(clauses, last);
     clauses[lines] = code;
@@ -78,8 +81,10 @@ pub fn join(clauses: &mut [u32; WORDS], last: usize, k: ClauseNumber, code: u32)
 // Where the literals of a clause stand.
 #[tactic(auto, using(crate::proofs::Laws::last_few))]
 pub fn span_of(clauses: &[u32; WORDS], k: ClauseNumber) -> Span
-    requires { (C : Clauses) × (last : ℕ) × ClausesHeld C clauses.now last × (1 ≤ k.0) × (k.0 ≤ last) }
-    ensures { (C : Clauses) (last : ℕ) → ClausesHeld C clauses.now last → k.0 ≤ last → SpanOf C clauses.now k.0 result }
+    requires { (C : Clauses) × (last : ℕ) × ClausesHeld C clauses.now last × (1 ≤ k.0)
+        × (k.0 ≤ last) }
+    ensures { (C : Clauses) (last : ℕ) → ClausesHeld C clauses.now last → k.0 ≤ last
+        → SpanOf C clauses.now k.0 result }
 {
     let from = end_of(clauses, k.0 - 1);
     Span {

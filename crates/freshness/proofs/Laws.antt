@@ -3,7 +3,8 @@ use mathlib.Core.Path.{◌≡◌, refl, sym, ◌∙◌, ap}
 use mathlib.Core.Bool.{Bool, true, false, ◌||◌, true≢false, false≢true}
 use mathlib.Core.List.{List, [], ◌∷◌, ◌++◌, map, map-append}
 use Rattle.std.specs.Prelude.{Option, None, Some, option_map}
-use Rattle.std.specs.Option.{unwrap_or}
+use Rattle.std.specs.Option.{unwrap_or, MatchOption}
+use Rattle.std.specs.List.{AllWithin, HoldsAt}
 use Prim.Native.Nat.{ℕ, zero, suc, ◌+◌, ◌<◌, ◌≤◌}
 use native.Mathlib.Omega.{arith}
 use lib.ListN.{length, take, get_or}
@@ -16,7 +17,7 @@ use Rattle.tableau.specs.Fields.{arguments}
 use Rattle.tableau.specs.Terms.{Place, TermNo, Table, Term, Literal, literal, Disjunct, Clauses, disjuncts, at, layer, to_depth, fold, mentions, mentioned_in, place_from, first_place, mentioned}
 use Rattle.tableau.specs.Steps.{is_rfv, not_fresh, fresh_if, freshness}
 use Rattle.tableau.proofs.Bools.{clash}
-use Rattle.tableau.proofs.FirstPlace.{not_mentioned, mentioned_last}
+use Rattle.tableau.proofs.FirstPlace.{mentioned_last}
 use Rattle.tableau.proofs.TableGrowth.{at_zero, at_beyond}
 use Rattle.packing.specs.Packing.{left_in, right_in}
 use Rattle.mentions.proofs.MentionLaws.{mentions_zero}
@@ -52,22 +53,33 @@ mentioned_one_more f table w b i h =
 pub mentioned_after : (table : TermNo → Term) (w : TermNo) (C : Clauses) (d : Disjunct) → mentioned table w (disjuncts (C ++ (d ∷ []))) ≡ (mentioned table w (disjuncts C) || mentioned_in table w d.is)
 mentioned_after table w C d = ap (λ (ls : List Literal). mentioned table w ls) (map-append (λ x. x.is) C (d ∷ [])) ∙ mentioned_last table w (disjuncts C) d.is
 
--- THE FIRST PLACE, counted from k: that of literal i, which mentions w, where none of the i before it does
-pub first_at : (f : ℕ → Literal) (table : TermNo → Term) (w : TermNo) (b : List ℕ) (k : Place) (i : ℕ) → i < length b
-    → mentioned table w (map f (take i b)) ≡ false → mentioned_in table w (f (get_or b i 0)) ≡ true → place_from k table w (map f b) ≡ Some (k + i)
+-- THE FIRST PLACE, counted from k, where a search over the literals ends at index r
+pub first_found : (f : ℕ → Literal) (table : TermNo → Term) (w : TermNo) (b : List ℕ) (k : Place)
+    (r : Option ℕ)
+    → MatchOption r (AllWithin (λ l. mentioned_in table w (f l) ≡ false) b 0 (length b))
+    (λ i. (i < length b) × HoldsAt (λ l. mentioned_in table w (f l) ≡ true) b i
+    × AllWithin (λ l. mentioned_in table w (f l) ≡ false) b 0 i)
+    → place_from k table w (map f b) ≡ option_map (λ i. k + i) r
 unfolding place_from
-first_at f table w [] k i h e m = absurd (omega arith)
-first_at f table w (x ∷ b) k zero h e m = rw m (ap Some (let z : k ≡ k + 0 = omega arith in z))
-first_at f table w (x ∷ b) k (suc i) h e m =
-    let c = not_mentioned table w (f x) (map f (take i b)) e in
-    rw c.0 (first_at f table w b (suc k) i (omega arith) c.1 m ∙ ap Some (let z : suc k + i ≡ k + suc i = omega arith in z))
-
-pub no_place : (p : Option Place) → is_some p ≡ false → p ≡ None
-no_place None h = refl
-no_place (Some p) h = absurd (true≢false h)
+first_found f table w [] k None h = refl
+first_found f table w (x ∷ b) k None h =
+    rw (h 0 0 (omega arith) (omega arith))
+    (first_found f table w b (suc k) None (λ j d l m. h (suc j) d (omega arith) (omega arith)))
+first_found f table w [] k (Some i) h = absurd (omega (arith, h.0))
+first_found f table w (x ∷ b) k (Some zero) h =
+    rw (h.1 0) (ap Some (let z : k ≡ k + 0 = omega arith in z))
+first_found f table w (x ∷ b) k (Some (suc i)) h =
+    rw (h.2 0 0 (omega arith) (omega arith))
+    (first_found f table w b (suc k) (Some i) (
+      omega (arith, h.0),
+      h.1,
+      λ j d l m. h.2 (suc j) d (omega arith) (omega arith),
+    )
+    ∙ ap Some (let z : suc k + i ≡ k + suc i = omega arith in z))
 
 -- a place that is found, as a reply gives it
-pub told_place : (p : Option Place) (r : Option declared.Place) → option_map (λ x. x.0) r ≡ p → (unwrap_or r (record { 0 = 0 })).0 ≡ unwrap_or p 0
+pub told_place : (p : Option Place) (r : Option declared.Place) → option_map (λ x. x.0) r ≡ p
+    → (unwrap_or r (record { 0 = 0 })).0 ≡ unwrap_or p 0
 told_place p None e = rw (← e)
 told_place p (Some x) e = rw (← e)
 
@@ -87,11 +99,14 @@ module _ (table : Table) (C : Clauses) (B : List Literal) (w : TermNo) where
       go (Some p) false h = absurd (true≢false h)
       go (Some p) true h = absurd (true≢false h)
 
-  pub used_rfv : is_rfv (at table w) ≡ true → (mentioned (at table) w (disjuncts C) || mentioned (at table) w B) ≡ true → freshness table C B w ≡ not_fresh (unwrap_or (first_place (at table) w B) 0)
+  pub used_rfv : is_rfv (at table w) ≡ true
+      → (mentioned (at table) w (disjuncts C) || mentioned (at table) w B) ≡ true
+      → freshness table C B w ≡ not_fresh (unwrap_or (first_place (at table) w B) 0)
   unfolding freshness
   used_rfv i = rw i (go (first_place (at table) w B) (mentioned (at table) w (disjuncts C)))
     where
-      go : (p : Option Place) (c : Bool) → (c || is_some p) ≡ true → fresh_if true p c ≡ not_fresh (unwrap_or p 0)
+      go : (p : Option Place) (c : Bool) → (c || is_some p) ≡ true
+          → fresh_if true p c ≡ not_fresh (unwrap_or p 0)
       go None false h = absurd (false≢true h)
       go None true h = refl
       go (Some p) c h = refl

@@ -63,13 +63,16 @@ ahead_more old new i k x h = record { same = λ j l m. get_or-set_other new (i *
 
 -- A ROW MORE: a word of it, where the rows before it and its own words from there on are as they were
 pub next_bits_lem : (old new rows : List ℕ) (from i : ℕ) (left right : TermNo) (k : ℕ) → from ≤ i → k < row → Filled old new i (next_bits old rows from left right) k
-    → Ahead old new i k → (q : ℕ) → bit_at (bit_or (bit_or (get_or new (from * row + k) 0) (get_or rows (left * row + k) 0)) (get_or rows (right * row + k) 0)) q
+    → Ahead old new i k → (q : ℕ)
+    → bit_at (bit_or (bit_or (get_or new (from * row + k) 0) (get_or rows (left * row + k) 0))
+    (get_or rows (right * row + k) 0)) q
     ≡ next_bits old rows from left right k q
 next_bits_lem old new rows from i left right k h l F ahead q =
     let y : ℕ = get_or rows (left * row + k) 0 in
     let z : ℕ = get_or rows (right * row + k) 0 in
     let x : ℕ = get_or new (from * row + k) 0 in
-    bit_or_lem (bit_or x y) z q ∙ ap (λ (b : Bool). b || bit_at z q) (bit_or_lem x y q) ∙ or_assoc (bit_at x q) (bit_at y q) (bit_at z q)
+    bit_or_lem (bit_or x y) z q ∙ ap (λ (b : Bool). b || bit_at z q) (bit_or_lem x y q)
+    ∙ or_assoc (bit_at x q) (bit_at y q) (bit_at z q)
     ∙ (λ p. bit_at (same p) q || (bit_at y q || bit_at z q))
   where
     same : get_or new (from * row + k) 0 ≡ get_or old (from * row + k) 0

@@ -4,7 +4,8 @@
 // when they are asked for; the caller keeps the number of those that still hold.
 #![tactic(auto)]
 
-ghost use Rattle.std.specs.Prelude.{◌≡◌, true, List, [], ◌∷◌, ◌++◌, map, ℕ, ◌+◌, ◌%◌, ◌<◌, ◌≤◌, length, option_map};
+ghost use Rattle.std.specs.Prelude.{◌≡◌, true, List, [], ◌∷◌, ◌++◌, map, ℕ, ◌+◌, ◌%◌, ◌<◌, ◌≤◌};
+ghost use Rattle.std.specs.Prelude.{length, option_map};
 ghost use Rattle.tableau.specs.Terms.{Table, Clauses, at, mentioned_in, first_place, max_terms};
 ghost use Rattle.tableau.specs.Tree.{max_places};
 ghost use Rattle.tableau.specs.Steps.{is_rfv, freshness};
@@ -31,7 +32,8 @@ fn side_row(n: usize, side: TermNumber) -> usize
 
 // Those of both sides.
 fn side_rows(n: usize, literal: u32) -> (usize, usize)
-    ensures { SideRow n (left_in (unpack_literal literal)) result.0 × SideRow n (right_in (unpack_literal literal)) result.1 }
+    ensures { SideRow n (left_in (unpack_literal literal)) result.0
+        × SideRow n (right_in (unpack_literal literal)) result.1 }
 {
     (
         side_row(n, packed_left(literal)),
@@ -64,9 +66,10 @@ pub fn note_clause(
     literal: u32,
 )
     requires { n ≤ max_terms }
-    ensures { (table : Table) (C : Clauses) (codes : List ℕ) (k : ℕ) → MentionRows table rows.now → length table ≡ n
-        → PrefixRows table C codes prefix.old 0
-        → PrefixRows table (C ++ (record { clause = k; is = unpack_literal literal } ∷ [])) codes prefix.new 0 }
+    ensures { (table : Table) (C : Clauses) (codes : List ℕ) (k : ℕ) → MentionRows table rows.now
+        → length table ≡ n → PrefixRows table C codes prefix.old 0
+        → PrefixRows table (C ++ (record { clause = k; is = unpack_literal literal } ∷ [])) codes
+        prefix.new 0 }
 {
     let (left, right) = side_rows(n, literal);
     fill(prefix, rows, 0, 0, left, right);
@@ -97,7 +100,8 @@ fn is_rfv(terms: &[u64; table::NUMBERS], n: usize, w: TermNumber) -> bool
     requires entries { (table : Table) × Entries table terms.now }
     requires n_le_max_terms { n ≤ max_terms }
     ensures w_le_n { result ≡ true → w.0 ≤ n }
-    ensures value { (table : Table) → Entries table terms.now → length table ≡ n → result ≡ is_rfv (at table w.0) }
+    ensures value { (table : Table) → Entries table terms.now → length table ≡ n
+        → result ≡ is_rfv (at table w.0) }
 {
     w.0 <= n
         && matches!(table::view(terms, w), TermView::Variable(sort, _) if sort == Sort::Reference)
@@ -113,7 +117,8 @@ fn has_bit(word: u64, w: TermNumber) -> bool
 // Does the literal mention w, by the rows of its two sides?
 fn literal_mentions(rows: &[u64; mentions::WORDS], n: usize, literal: u32, w: TermNumber) -> bool
     requires { (n ≤ max_terms) × (w.0 ≤ n) }
-    ensures { (table : Table) → MentionRows table rows.now → length table ≡ n → 0 < w.0 → result ≡ mentioned_in (at table) w.0 (unpack_literal literal) }
+    ensures { (table : Table) → MentionRows table rows.now → length table ≡ n → 0 < w.0
+        → result ≡ mentioned_in (at table) w.0 (unpack_literal literal) }
 {
     let (left, right) = side_rows(n, literal);
     let k = w.0 / 64;
@@ -130,14 +135,13 @@ fn first_place(
     requires n_le_max_terms { (n ≤ max_terms) × (w.0 ≤ n) }
     requires len_le_max_places { length branch.now ≤ max_places }
     ensures { (table : Table) → MentionRows table rows.now → length table ≡ n → 0 < w.0
-        → option_map (λ p. p.0) result ≡ first_place (at table) w.0 (map unpack_literal branch.now) }
+        → option_map (λ p. p.0) result
+        ≡ first_place (at table) w.0 (map unpack_literal branch.now) }
 {
-    for (i, literal) in branch.iter().enumerate() {
-        if literal_mentions(rows, n, *literal, w) {
-            return Some(Place(i + 1));
-        }
-    }
-    None
+    branch
+        .iter()
+        .position(|literal| literal_mentions(rows, n, *literal, w))
+        .map(|i| Place(i + 1))
 }
 
 // Is the term w fresh: an `rfv` that no clause and no literal of the branch mentions? Their rows
@@ -154,8 +158,8 @@ pub fn test(
     requires entries { (table : Table) × Entries table terms.now }
     requires n_le_max_terms { n ≤ max_terms }
     requires len_le_max_places { length branch.now ≤ max_places }
-    ensures { (table : Table) (C : Clauses) → Entries table terms.now → MentionRows table rows.now → length table ≡ n
-        → PrefixRows table C branch.now prefix.now (length branch.now)
+    ensures { (table : Table) (C : Clauses) → Entries table terms.now → MentionRows table rows.now
+        → length table ≡ n → PrefixRows table C branch.now prefix.now (length branch.now)
         → result ≡ freshness table C (map unpack_literal branch.now) w.0 }
 {
     if !is_rfv(terms, n, w) {

@@ -5,7 +5,8 @@
 ghost use Rattle.std.specs.Prelude.{◌≡◌, Bool, false, List, ℕ, ◌+◌, ◌*◌, ◌<◌, ◌≤◌, get_or};
 ghost use Rattle.tableau.specs.Terms.{max_terms};
 ghost use Rattle.syntax.specs.Syntax.{arguments_in, term_in};
-ghost use Rattle.mentions.specs.Mentions.{row, bit_at, joined_bit, term_arguments, argument_bits, AllBelow, Filled, Noted};
+ghost use Rattle.mentions.specs.Mentions.{row, bit_at, joined_bit, term_arguments, argument_bits};
+ghost use Rattle.mentions.specs.Mentions.{AllBelow, Filled, Noted};
 
 use syntax::{Arguments, Term};
 use tableau::TermNumber;
@@ -53,7 +54,8 @@ fn join(rows: &mut [u64; WORDS], term: TermNumber, k: Arguments)
 // Sets the term's own bit in its row.
 fn set_own(rows: &mut [u64; WORDS], term: TermNumber)
     requires { term.0 ≤ max_terms }
-    ensures { (old : List ℕ) (f : ℕ → ℕ → Bool) → Filled old rows.old term.0 f row → Noted old rows.new term.0 f }
+    ensures { (old : List ℕ) (f : ℕ → ℕ → Bool) → Filled old rows.old term.0 f row
+        → Noted old rows.new term.0 f }
 {
     rows[term.0 * ROW + term.0 / 64] |= 1 << (term.0 % 64);
 }

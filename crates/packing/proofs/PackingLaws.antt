@@ -2,8 +2,7 @@
 use mathlib.Core.Path.{◌≡◌, refl, sym, ◌∙◌, ap, ap₂}
 use Prim.Native.Nat.{ℕ, ◌+◌, ◌*◌, ◌/◌, ◌%◌, ◌<◌, ◌≤◌}
 use native.Mathlib.Omega.{arith}
-use mathlib.Core.List.{List, [], ◌∷◌}
-use lib.ListN.{get_or, get_or-eq_default}
+use lib.ListN.{get_or-eq_default}
 use Rattle.tableau.specs.declared.Sort.{Sort}
 use Rattle.tableau.specs.declared.Operator.{Operator}
 use Rattle.tableau.specs.declared.Word.{Word}
@@ -20,10 +19,13 @@ pub view_coded_last : (p : ℕ) → 16 ≤ p / 8 % 32 → TermView.Variable Sort
 unfolding unpack_term word_at
 view_coded_last p h = ap (λ (w : Word). view_of (written w (unpack_fields p))) (sym (get_or-eq_default coded_words (Word.Variable Sort.Class) h))
 
-pub literal_coded_last : (p : ℕ) {m n : TermNumber} → m.0 ≡ left_in (unpack_literal p) → n.0 ≡ right_in (unpack_literal p) → 5 ≤ p / 1048576
+pub literal_coded_last : (p : ℕ) {m n : TermNumber} → m.0 ≡ left_in (unpack_literal p) → n.0
+    ≡ right_in (unpack_literal p) → 5 ≤ p / 1048576
     → LiteralView.Nl m n ≡ literal_view_of (unpack_literal p)
 unfolding unpack_literal relation_at literal_view_as
-literal_coded_last p em en h = λ i. literal_view_as (sym (get_or-eq_default coded_relations Relation.Nl h) i) (number (em i)) (number (en i))
+literal_coded_last p em en h =
+    λ i. literal_view_as (sym (get_or-eq_default coded_relations Relation.Nl h) i) (number (em i))
+    (number (en i))
 
 -- the codes are small, and give the words back
 pub sort_small : (s : Sort) → sort_index s < 5
@@ -153,25 +155,6 @@ literal_of_view (literal Relation.Eq m n) = refl
 literal_of_view (literal Relation.Ne m n) = refl
 literal_of_view (literal Relation.Le m n) = refl
 literal_of_view (literal Relation.Nl m n) = refl
-
--- THE SORT of a packed term, by its low bits
-unfoldable pub coded_sorts : List Sort
-coded_sorts = Sort.Reference ∷ Sort.Region ∷ Sort.Heap ∷ Sort.Field ∷ []
-
-unfoldable pub sort_at : ℕ → Sort
-unfolding coded_sorts
-sort_at k = get_or coded_sorts k Sort.Class
-
-sort_back : (s : Sort) → sort_at (sort_index s) ≡ s
-unfolding sort_at sort_index
-sort_back Sort.Reference = refl
-sort_back Sort.Region = refl
-sort_back Sort.Heap = refl
-sort_back Sort.Field = refl
-sort_back Sort.Class = refl
-
-pub sort_coded : (e : Term) (p k : ℕ) → p ≡ pack_term e → p % 8 ≡ k → sort_at k ≡ sort_of e
-sort_coded e p k q h = ap sort_at (sym h ∙ ap (λ (n : ℕ). n % 8) q ∙ pack_sort e) ∙ sort_back (sort_of e)
 
 -- WHAT IS SMALL: the arguments of a term that is packed, the sides of a packed literal
 pub packable_small : (e : Term) → Packable e → SmallView (view_of e)

@@ -1,5 +1,5 @@
-// A term and a literal as one number each, and taken apart again, so that a rule can unpack what it needs by `let .. else`. The layout
-// of the numbers is known here alone.
+// A term and a literal as one number each, and taken apart again, so that a rule can unpack what it
+// needs by `let .. else`. The layout of the numbers is known here alone.
 #![tactic(auto)]
 
 use tableau::{Name, Sort, TermNumber};

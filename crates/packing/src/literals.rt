@@ -1,7 +1,8 @@
 // Literals as numbers.
 ghost use Rattle.std.specs.Prelude.{◌≡◌, ◌<◌};
 ghost use Rattle.syntax.specs.Syntax.{literal_in};
-ghost use Rattle.packing.specs.Packing.{pack_literal, unpack_literal, code_limit, Small, PackableLiteral, literal_view_of};
+ghost use Rattle.packing.specs.Packing.{pack_literal, unpack_literal, code_limit, Small};
+ghost use Rattle.packing.specs.Packing.{PackableLiteral, literal_view_of};
 ghost use Rattle.packing.specs.Packing.{relation_of, left_of, right_of, left_in, right_in};
 
 use crate::LiteralView;
@@ -13,7 +14,6 @@ const SIDE: u32 = 1024;
 
 const RELATION: u32 = 1048576;
 
-#[tactic(auto, using(crate::proofs::Tags::relation_tag, crate::proofs::PackingLaws::relation_small), unfolding(crate::specs::Packing::pack_literal))]
 pub fn pack(literal: Literal) -> u32
     requires { PackableLiteral (literal_in literal) }
     ensures { (result ≡ pack_literal (literal_in literal)) × (result < code_limit) }

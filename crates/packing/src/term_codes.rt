@@ -43,7 +43,7 @@ fn result_sort(operator: Operator) -> Sort
     }
 }
 
-// The low bits: the code of the word and, below it, the sort. The codes of the operators come first.
+// The low bits: the code of the word and, below it, the sort. The operators have the first codes.
 fn low_bits(word: Word) -> u64
     ensures { (result ≡ word_bits word) × (result < 256) }
 {
@@ -105,7 +105,7 @@ pub fn view(packed: u64) -> TermView
 }
 
 // The sort of a packed term.
-#[tactic(auto, using(crate::proofs::PackingLaws::sort_coded), unfolding(crate::proofs::PackingLaws::sort_at))]
+#[tactic(auto, using(crate::proofs::Tags::sort_coded), unfolding(crate::proofs::Tags::sort_at))]
 pub fn sort(packed: u64) -> Sort
     ensures { (e : specification.Term) → packed ≡ pack_term e → result ≡ sort_of e }
 {
@@ -121,7 +121,8 @@ pub fn sort(packed: u64) -> Sort
 // Is the packed term of the given sort?
 #[tactic(auto, using(crate::proofs::Tags::sort_tag, crate::proofs::PackingLaws::pack_sort))]
 pub fn has_sort(packed: u64, sort: Sort) -> bool
-    ensures { (e : specification.Term) → packed ≡ pack_term e → result ≡ same_sort sort (sort_of e) }
+    ensures { (e : specification.Term) → packed ≡ pack_term e
+        → result ≡ same_sort sort (sort_of e) }
 {
     sort as u64 == packed % 8
 }
@@ -161,7 +162,8 @@ fn all_agree(a: TermNumber, b: TermNumber, k: Arguments, l: Arguments) -> bool
 // What `sub` asks of the packed terms x and y: one word, that has at least one argument, and terms
 // and not a name for them; at each argument they agree, or x has a and y has b.
 pub fn congruent(a: TermNumber, b: TermNumber, x: u64, y: u64) -> bool
-    ensures { (e f : specification.Term) → Packs e x → Packs f y → result ≡ rule.congruent a.0 b.0 e f }
+    ensures { (e f : specification.Term) → Packs e x → Packs f y
+        → result ≡ rule.congruent a.0 b.0 e f }
 {
     takes_terms(x) && x % LOW == y % LOW && all_agree(a, b, fields(x), fields(y))
 }

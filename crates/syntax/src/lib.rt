@@ -1,4 +1,5 @@
-// What a line says, taken apart by its word: from here on a field is a place, the number of a term or of a clause, a name or a side.
+// What a line says, taken apart by its word: from here on a field is a place, the number of a term
+// or of a clause, a name or a side.
 #![tactic(auto)]
 
 use tableau::{ClauseNumber, Name, Operator, Place, Relation, Rule, Side, Sort, TermNumber};
@@ -49,7 +50,8 @@ pub enum ThirdField {
     Clause(ClauseNumber),
 }
 
-// An S line: its rule with the fields that the rule uses, places p and q, terms t and w; a field that it does not use is 0.
+// An S line: its rule with the fields that the rule uses, places p and q, terms t and w; a field
+// that it does not use is 0.
 #[derive(Clone, Copy)]
 pub struct Step {
     pub rule: Rule,

@@ -128,7 +128,8 @@ pub fn search(terms: &[u64; NUMBERS], chains: &[u16; LINKS], packed: u64) -> Opt
 pub fn find(terms: &[u64; NUMBERS], chains: &[u16; LINKS], term: Term) -> Option<TermNumber>
     requires searchable { (table : Table) × Searchable table terms.now chains.now }
     requires packable { Packable (term_in term) }
-    ensures { (table : Table) → Searchable table terms.now chains.now → FoundAs table (term_in term) result }
+    ensures { (table : Table) → Searchable table terms.now chains.now
+        → FoundAs table (term_in term) result }
 {
     search(terms, chains, pack(term))
 }
@@ -162,7 +163,8 @@ pub fn sort_of(terms: &[u64; NUMBERS], term: TermNumber) -> Sort
 pub fn has_sort(terms: &[u64; NUMBERS], sort: Sort, term: TermNumber) -> bool
     requires entries { (table : Table) × Entries table terms.now }
     requires small { Small term.0 }
-    ensures { (table : Table) → Entries table terms.now → result ≡ same_sort sort (sort_of (at table term.0)) }
+    ensures { (table : Table) → Entries table terms.now
+        → result ≡ same_sort sort (sort_of (at table term.0)) }
 {
     packing::term_codes::has_sort(packed(terms, term), sort)
 }
@@ -172,7 +174,8 @@ pub fn add(terms: &mut [u64; NUMBERS], chains: &mut [u16; LINKS], term: TermNumb
     requires { term.0 ≤ max_terms }
     ensures terms_after { terms.new ≡ set terms.old term.0 packed }
     ensures chains_after { chains.new
-        ≡ set (set chains.old (hashes + term.0) (get_or chains.old (hash_of packed) 0)) (hash_of packed) term.0 }
+        ≡ set (set chains.old (hashes + term.0) (get_or chains.old (hash_of packed) 0))
+        (hash_of packed) term.0 }
 {
     let h = term_hash(packed);
     terms[term.0] = packed;

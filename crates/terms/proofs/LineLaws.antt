@@ -53,7 +53,8 @@ term_line_lem table term e₆ e₇ e₈ e₉ e₁₀ = λ i.
     term_checks (e₆ i) (e₇ i) (e₈ i) (e₉ i) ((ap (is_new table) (written_term term) ∙ e₁₀) i) (table ++ (written_term term i ∷ []))
 
 -- what a search for the term says of check 10
-pub found_old : (o : Option TermNo) {r : Option TermNumber} → r ≡ found_of o → IsSome r → not (is_some o) ≡ false
+pub found_old : (o : Option TermNo) {r : Option TermNumber} → r ≡ found_of o → IsSome r
+    → not (is_some o) ≡ false
 found_old None e h = absurd (false≢true (subst IsSome e h))
 found_old (Some t) e h = refl
 
@@ -117,19 +118,25 @@ module _ (table : Table) (l : Literal) where
   sorted R = sides_sorted table R (sides_in l)
 
   -- each has its own
-  both_sorted : (s s' : Sort) → (same_sort s left_sort && same_sort s' right_sort) ≡ (every (of_sort table) (four (of s) (of s') unused unused) (sides_in l) && true)
+  both_sorted : (s s' : Sort) → (same_sort s left_sort && same_sort s' right_sort)
+      ≡ (every (of_sort table) (four (of s) (of s') unused unused) (sides_in l) && true)
   both_sorted s s' = two_tests (same_sort s left_sort) (same_sort s' right_sort) ∙ sym (and-true _)
 
-  pub member_sorts : (l.relation ≡ Relation.In) ⊎ (l.relation ≡ Relation.Ni) → (same_sort Sort.Reference left_sort && same_sort Sort.Region right_sort) ≡ sorted l.relation
+  pub member_sorts : (l.relation ≡ Relation.In) ⊎ (l.relation ≡ Relation.Ni)
+      → (same_sort Sort.Reference left_sort && same_sort Sort.Region right_sort) ≡ sorted l.relation
   unfolding sides one_sort
-  member_sorts = ⊎_elim (λ e. both_sorted Sort.Reference Sort.Region ∙ sym (ap sorted e)) (λ e. both_sorted Sort.Reference Sort.Region ∙ sym (ap sorted e))
+  member_sorts = ⊎_elim (λ e. both_sorted Sort.Reference Sort.Region ∙ sym (ap sorted e))
+      (λ e. both_sorted Sort.Reference Sort.Region ∙ sym (ap sorted e))
 
-  pub class_sorts : (l.relation ≡ Relation.Le) ⊎ (l.relation ≡ Relation.Nl) → (same_sort Sort.Class left_sort && same_sort Sort.Class right_sort) ≡ sorted l.relation
+  pub class_sorts : (l.relation ≡ Relation.Le) ⊎ (l.relation ≡ Relation.Nl)
+      → (same_sort Sort.Class left_sort && same_sort Sort.Class right_sort) ≡ sorted l.relation
   unfolding sides one_sort
-  class_sorts = ⊎_elim (λ e. both_sorted Sort.Class Sort.Class ∙ sym (ap sorted e)) (λ e. both_sorted Sort.Class Sort.Class ∙ sym (ap sorted e))
+  class_sorts = ⊎_elim (λ e. both_sorted Sort.Class Sort.Class ∙ sym (ap sorted e))
+      (λ e. both_sorted Sort.Class Sort.Class ∙ sym (ap sorted e))
 
   -- both have one
-  pub one_sort_of_both : (l.relation ≡ Relation.Eq) ⊎ (l.relation ≡ Relation.Ne) → same_sort left_sort right_sort ≡ sorted l.relation
+  pub one_sort_of_both : (l.relation ≡ Relation.Eq) ⊎ (l.relation ≡ Relation.Ne)
+      → same_sort left_sort right_sort ≡ sorted l.relation
   unfolding sides one_sort
   one_sort_of_both = ⊎_elim (λ e. sym (ap sorted e)) (λ e. sym (ap sorted e))
 

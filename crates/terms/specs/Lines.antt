@@ -21,7 +21,8 @@ argument_in None = unused
 argument_in (Some s) = of s
 
 abbrev pub row_in : List (Option Sort) → Four Argument
-row_in r = four (argument_in (get_or r 0 None)) (argument_in (get_or r 1 None)) (argument_in (get_or r 2 None)) (argument_in (get_or r 3 None))
+row_in r = four (argument_in (get_or r 0 None)) (argument_in (get_or r 1 None))
+    (argument_in (get_or r 2 None)) (argument_in (get_or r 3 None))
 
 -- A T LINE: its reply, and what the arrays hold afterwards
 abbrev pub making_of : Checked Table → Result (Unit {0}) Reason
@@ -30,9 +31,11 @@ making_of (passed table) = Ok tt
 
 -- a term that is made is added to the table; after a refusal the arrays are as before
 abbrev pub After : Result (Unit {0}) Reason → Table → Term → Arrays → Arrays → ℕ → Type 0
-After r table term old new n = MatchResult r (λ _. Held (table ++ (term_in term ∷ [])) new (n + 1)) (λ _. new ≡ old)
+After r table term old new n = MatchResult r (λ _. Held (table ++ (term_in term ∷ [])) new (n + 1))
+    (λ _. new ≡ old)
 
-pub record MakesTerm (table : Table) (term : Term) (old new : Arrays) (n : ℕ) (r : Result (Unit {0}) Reason) : Type 0 where
+pub record MakesTerm (table : Table) (term : Term) (old new : Arrays) (n : ℕ)
+    (r : Result (Unit {0}) Reason) : Type 0 where
   pub reply : r ≡ making_of (term_line table (word_in term) (fields_in term))
   pub after : After r table term old new n
 

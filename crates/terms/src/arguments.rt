@@ -35,7 +35,8 @@ fn row_of(operator: Operator) -> [Option<Sort>; 4]
 
 // Check 8 of an argument.
 fn is_made(n: usize, sort: Option<Sort>, t: TermNumber) -> bool
-    ensures { (table : Table) → length table ≡ n → result ≡ term_or_name table (argument_use (argument_in sort)) t.0 }
+    ensures { (table : Table) → length table ≡ n
+        → result ≡ term_or_name table (argument_use (argument_in sort)) t.0 }
 {
     sort.is_none() || is_term(n, t)
 }
@@ -44,14 +45,16 @@ fn is_made(n: usize, sort: Option<Sort>, t: TermNumber) -> bool
 fn has_sort(terms: &[u64; table::NUMBERS], sort: Option<Sort>, t: TermNumber) -> bool
     requires entries { (table : Table) × Entries table terms.now }
     requires small { Small t.0 }
-    ensures { (table : Table) → Entries table terms.now → result ≡ of_sort table (argument_use (argument_in sort)) t.0 }
+    ensures { (table : Table) → Entries table terms.now
+        → result ≡ of_sort table (argument_use (argument_in sort)) t.0 }
 {
     sort.is_none_or(|s| table::has_sort(terms, s, t))
 }
 
 // Check 8, where n terms are made; a name is not 0.
 pub fn are_made(n: usize, term: Term) -> bool
-    ensures { (table : Table) → length table ≡ n → result ≡ every (term_or_name table) (word_fields (word_in term)) (fields_in term) }
+    ensures { (table : Table) → length table ≡ n
+        → result ≡ every (term_or_name table) (word_fields (word_in term)) (fields_in term) }
 {
     match term {
         Term::Variable(_, name) => 0 < name.0,

@@ -1,5 +1,5 @@
-// T lines make terms, A and C lines make literals of them: checks 7 to 10, in arrays that the caller lends. (Check 6, that unused fields are
-// 0, is the caller's.)
+// T lines make terms, A and C lines make literals of them: checks 7 to 10, in arrays that the
+// caller lends. (Check 6, that unused fields are 0, is the caller's.)
 #![tactic(auto)]
 
 ghost use Rattle.std.specs.Prelude.{◌≡◌, true, ◌<◌, length};
@@ -36,7 +36,8 @@ pub fn make_term(
     term: Term,
 ) -> Result<(), Reason>
     requires held { (table : Table) × Held table (arrays terms.old chains.old rows.old) n }
-    requires term_value { (every zero_if_unused (word_fields (word_in term)) (fields_in term) ≡ true) × ((fields_in term).a < name_limit) }
+    requires term_value { (every zero_if_unused (word_fields (word_in term)) (fields_in term) ≡ true)
+        × ((fields_in term).a < name_limit) }
     ensures { (table : Table) → Held table (arrays terms.old chains.old rows.old) n
         → MakesTerm table term (arrays terms.old chains.old rows.old)
         (arrays terms.new chains.new rows.new) n result }
@@ -68,7 +69,8 @@ pub fn assume_literal(
 ) -> Result<u32, Reason>
     requires { (table : Table) × Entries table terms.now × (length table ≡ n) }
     ensures value { (table : Table) → Entries table terms.now → length table ≡ n
-        → result ≡ assumption_of (literal_line table (sides literal.relation) literal.relation (sides_in literal)) }
+        → result ≡ assumption_of
+        (literal_line table (sides literal.relation) literal.relation (sides_in literal)) }
     ensures small_code { SmallCode result }
 {
     if !sides::are_made(n, literal) {

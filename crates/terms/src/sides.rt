@@ -16,7 +16,8 @@ use tableau::{Relation, Sort};
 
 // Check 8, where n terms are made.
 pub fn are_made(n: usize, literal: Literal) -> bool
-    ensures { (table : Table) → length table ≡ n → result ≡ every (term_or_name table) (sides literal.relation) (sides_in literal) }
+    ensures { (table : Table) → length table ≡ n
+        → result ≡ every (term_or_name table) (sides literal.relation) (sides_in literal) }
 {
     is_term(n, literal.left) && is_term(n, literal.right)
 }

@@ -14,7 +14,8 @@ loop-k-preserved c =
     let v = c.loop-k.invariant in
     record {
       filled = filled_more _ _ _ _ _ _ (omega (arith, c.requires)) l v.filled
-          (λ q m. next_bits_lem _ _ a.rows.now a.from _ a.left a.right _ c.requires.0 l v.filled v.ahead q);
+          (λ q m. next_bits_lem _ _ a.rows.now a.from _ a.left a.right _ c.requires.0 l v.filled
+          v.ahead q);
       ahead = ahead_more _ _ _ _ _ v.ahead;
     }
 

@@ -6,6 +6,7 @@ use Rattle.freshness.proofs.fill.Given as goal
 
 abbrev pub invariant-loop-k : goal.invariant-loop-k
 invariant-loop-k l = record {
-  filled : Filled l.initial.prefix l.prefix l.i (next_bits l.initial.prefix l.rows l.from l.left l.right) l.k;
+  filled : Filled l.initial.prefix l.prefix l.i
+      (next_bits l.initial.prefix l.rows l.from l.left l.right) l.k;
   ahead : Ahead l.initial.prefix l.prefix l.i l.k;
 }

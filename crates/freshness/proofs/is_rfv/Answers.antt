@@ -10,12 +10,15 @@ use Rattle.freshness.proofs.is_rfv.Goals as goal
 pub returns-in-Variable-clause-value : goal.returns-in-Variable-clause-value
 returns-in-Variable-clause-value c table E e =
     let y : c.eq.result ≡ true = cc in
-    sym (view_variable (at table c.args.w.0) _ _ (sym c.in-Variable.is ∙ sym (c.view.ensures table E).is) ∙ sym (sort_is _ c.eq.ensures refl) ∙ y)
+    sym (view_variable (at table c.args.w.0) _ _ (sym c.in-Variable.is
+    ∙ sym (c.view.ensures table E).is) ∙ sym (sort_is _ c.eq.ensures refl) ∙ y)
 
 pub returns-in_default-clause-value : goal.returns-in_default-clause-value
 returns-in_default-clause-value c table E e =
     let y : c.eq.result ≡ false = cc in
-    sym (view_variable (at table c.args.w.0) _ _ (sym c.in-Variable.is ∙ sym (c.view.ensures table E).is) ∙ sym (sort_is _ c.eq.ensures refl) ∙ y)
+    sym (view_variable (at table c.args.w.0) _ _ (sym c.in-Variable.is
+    ∙ sym (c.view.ensures table E).is) ∙ sym (sort_is _ c.eq.ensures refl) ∙ y)
 
 pub returns-else-w-n-clause-value : goal.returns-else-w-n-clause-value
-returns-else-w-n-clause-value c table E e = rw (at_beyond table c.args.w.0 (omega arith)) (lt-leb _ _ c.if-w-n.false)
+returns-else-w-n-clause-value c table E e = rw (at_beyond table c.args.w.0 (omega arith))
+    (lt-leb _ _ c.if-w-n.false)

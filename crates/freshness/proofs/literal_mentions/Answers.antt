@@ -9,7 +9,8 @@ pub returns : goal.returns
 returns c table R e first =
     let s = c.side_rows-left.ensures in
     c.has_bit.ensures
-    ∙ sides_bit table _ (unpack_literal c.args.literal) _ _ R (rw e s.0) (rw e s.1) c.args.w.0 first (omega (arith, c.requires)) (omega (arith, c.requires))
+    ∙ sides_bit table _ (unpack_literal c.args.literal) _ _ R (rw e s.0)
+    (rw e s.1) c.args.w.0 first (omega (arith, c.requires)) (omega (arith, c.requires))
 
 pub bounds-rows-left : goal.bounds-rows-left
 bounds-rows-left c = omega (arith, c.side_rows-left.ensures.0.made, c.requires)

@@ -11,7 +11,8 @@ pub loop-i-preserved : goal.loop-i-preserved
 loop-i-preserved c table C R e P =
     let Q = c.loop-i.invariant table C R e P in
     let s = c.side_rows-left.ensures in
-    prefix_more table C _ _ _ _ _ R (omega (arith, c.requires)) (rw e s.0) (rw e s.1) _ _ Q c.fill.ensures
+    prefix_more table C _ _ _ _ _ R (omega (arith, c.requires)) (rw e s.0)
+    (rw e s.1) _ _ Q c.fill.ensures
 
 pub returns : goal.returns
 returns c table C R e P = prefix_less (omega arith) (c.loop-i.invariant table C R e P)

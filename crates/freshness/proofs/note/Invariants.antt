@@ -8,4 +8,5 @@ use Rattle.freshness.proofs.note.Given as goal
 abbrev pub invariant-loop-i : goal.invariant-loop-i
 invariant-loop-i l =
     (table : Table) (C : Clauses) → MentionRows table l.rows → length table ≡ l.n
-    → PrefixRows table C l.branch l.initial.prefix l.noted → PrefixRows table C l.branch l.prefix l.i
+    → PrefixRows table C l.branch l.initial.prefix l.noted
+    → PrefixRows table C l.branch l.prefix l.i

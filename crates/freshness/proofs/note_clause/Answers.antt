@@ -5,8 +5,12 @@ use Rattle.freshness.proofs.note_clause.Goals as goal
 
 pub fill-requires : goal.fill-requires
 fill-requires c =
-    let s = c.side_rows-left.ensures in
-    (omega arith, omega arith, omega (arith, s.0.made, c.requires), omega (arith, s.1.made, c.requires))
+    let s = c.side_rows-left.ensures in (
+      omega arith,
+      omega arith,
+      omega (arith, s.0.made, c.requires),
+      omega (arith, s.1.made, c.requires),
+    )
 
 pub returns : goal.returns
 returns c table C codes k R e P =

@@ -26,18 +26,24 @@ rfv c table E e = sym (c.is_rfv.ensures.value table E e) ∙ c.if-not-is_rfv.fal
 -- the bit that was read says whether a clause or the branch mentions w
 told : (c : goal.After-has_bit) → c.is_rfv.result ≡ true → (table : Table) (C : Clauses) → Entries table c.args.terms.now → length table ≡ c.args.n
     → PrefixRows table C c.args.branch.now c.args.prefix.now (length c.args.branch.now)
-    → c.has_bit.result ≡ (mentioned (at table) c.args.w.0 (disjuncts C) || mentioned (at table) c.args.w.0 (map unpack_literal c.args.branch.now))
+    → c.has_bit.result ≡ (mentioned (at table) c.args.w.0 (disjuncts C)
+    || mentioned (at table) c.args.w.0 (map unpack_literal c.args.branch.now))
 told c y table C E e P =
     let m = c.is_rfv.ensures.w_le_n y in
     rw take-length at (c.has_bit.ensures
-    ∙ P.told (length c.args.branch.now) c.args.w.0 (omega arith) (rfv_first table c.args.w.0 (sym (c.is_rfv.ensures.value table E e) ∙ y)) (omega (arith, m))
+    ∙ P.told (length c.args.branch.now) c.args.w.0 (omega arith)
+    (rfv_first table c.args.w.0 (sym (c.is_rfv.ensures.value table E e) ∙ y)) (omega (arith, m))
     (omega (arith, m, c.requires.n_le_max_terms)))
 
 pub returns-then-not-is_rfv : goal.returns-then-not-is_rfv
 returns-then-not-is_rfv c table C E R e P = sym (no_rfv table C _ c.args.w.0 (sym (c.is_rfv.ensures.value table E e) ∙ c.if-not-is_rfv.true))
 
 pub bounds-prefix-branch : goal.bounds-prefix-branch
-bounds-prefix-branch c = omega (arith, made (goal.at.bounds-prefix-branch c).Else-not-is_rfv, c.requires.len_le_max_places)
+bounds-prefix-branch c = omega (
+  arith,
+  made (goal.at.bounds-prefix-branch c).Else-not-is_rfv,
+  c.requires.len_le_max_places,
+)
 
 pub returns-then-not-has_bit : goal.returns-then-not-has_bit
 returns-then-not-has_bit c table C E R e P =
@@ -55,5 +61,6 @@ pub returns : goal.returns
 returns c table C E R e P =
     let b = (goal.at.returns c).After-has_bit in
     let r = rfv (goal.at.returns c).Else-not-is_rfv table E e in
-    ap not_fresh (ap (λ (p : Place). p.0) c.unwrap_or.ensures ∙ told_place _ _ (c.first_place.ensures table R e (rfv_first table c.args.w.0 r)))
+    ap not_fresh (ap (λ (p : Place). p.0) c.unwrap_or.ensures
+    ∙ told_place _ _ (c.first_place.ensures table R e (rfv_first table c.args.w.0 r)))
     ∙ sym (used_rfv table C _ c.args.w.0 r (sym (told b c.if-not-is_rfv.false table C E e P) ∙ c.if-not-has_bit.false))

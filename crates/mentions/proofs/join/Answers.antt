@@ -6,7 +6,8 @@ pub loop-i-init : goal.loop-i-init
 loop-i-init c = filled_none _ _ _
 
 pub loop-i-preserved : goal.loop-i-preserved
-loop-i-preserved c = joined_more _ _ _ _ _ _ (omega arith) c.requires.1 c.loop-i-test.true c.loop-i.invariant (λ q. c.joined_word.ensures q)
+loop-i-preserved c = joined_more _ _ _ _ _ _ (omega arith) c.requires.1 c.loop-i-test.true
+    c.loop-i.invariant (λ q. c.joined_word.ensures q)
 
 pub returns : goal.returns
 returns c = filled_all _ _ _ _ _ c.loop-i-test.false c.loop-i.invariant

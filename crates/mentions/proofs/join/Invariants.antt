@@ -4,4 +4,5 @@ use Rattle.mentions.specs.Mentions.{joined_bit, Filled}
 use Rattle.mentions.proofs.join.Given as goal
 
 abbrev pub invariant-loop-i : goal.invariant-loop-i
-invariant-loop-i l = Filled l.initial.rows l.rows l.term.0 (joined_bit l.initial.rows (arguments_in l.k)) l.i
+invariant-loop-i l = Filled l.initial.rows l.rows l.term.0
+    (joined_bit l.initial.rows (arguments_in l.k)) l.i

@@ -18,7 +18,8 @@ returns-then-terms-t c n C = (omega arith, (c.loop.invariant.1 n C).within, c.if
 
 pub loop-preserved : goal.loop-preserved
 loop-preserved c =
-    seek_within c.requires (λ n C. seek_next _ _ _ _ C _ _ (omega arith) (c.loop.invariant.1 n C) c.if-terms-t.false
+    seek_within c.requires
+    (λ n C. seek_next _ _ _ _ C _ _ (omega arith) (c.loop.invariant.1 n C) c.if-terms-t.false
     c.from-t-in-loop.ensures)
 
 pub returns : goal.returns

@@ -97,7 +97,9 @@ returns-then-is_some c =
     λ table H.
     let at = (goal.at.returns-then-is_some c).After-search in
     record {
-      reply = sym (ap making_of (line at table H (found_old (number_of table (term_in c.args.term)) (found at table H) (sym c.is_some.ensures ∙ c.if-is_some.true))));
+      reply = sym (ap making_of
+          (line at table H (found_old (number_of table (term_in c.args.term)) (found at table H)
+          (sym c.is_some.ensures ∙ c.if-is_some.true))));
       after = refl;
     }
 
@@ -111,7 +113,9 @@ note-requires c =
 pub returns : goal.returns
 returns c =
     λ table H.
-    let new = found_new (number_of table (term_in (c.args.term))) (found (goal.at.returns c).After-search table H) (sym c.is_some.ensures ∙ c.if-is_some.false) in record {
+    let new = found_new (number_of table (term_in (c.args.term)))
+    (found (goal.at.returns c).After-search table H) (sym c.is_some.ensures
+    ∙ c.if-is_some.false) in record {
       reply = sym (ap making_of (line (goal.at.returns c).After-search table H (ap (λ (o : Option TermNo). not (is_some o)) new)));
       after = held_grown table (c.args.term) _ _ _ _ H
           (record {

@@ -1,4 +1,5 @@
--- What `sub` asks is asked of the packed terms: the first test that fails, or the arguments, decide.
+-- What `sub` asks is asked of the packed terms: the first test that fails, or the arguments,
+-- decide.
 use mathlib.Core.Path.{sym, ◌∙◌, ap₂}
 use Prim.Native.Nat.{ℕ}
 use Rattle.tableau.specs.Basics.{Four, every}
@@ -13,14 +14,17 @@ returns-then-x-y c e f h k =
     elim c.if-takes_terms.branch [
       | then-takes_terms w ↦ sym (congruent_packed _ _ e f h k
           ∙ rw (sym c.takes_terms.ensures ∙ w.if-takes_terms.true, sym w.value-is ∙ c.if-x-y.true)
-          (sym (c.all_agree.ensures ∙ ap₂ (λ (m n : Four ℕ). every (agree a.a.0 a.b.0) m n) c.fields.ensures c.fields-then-x-y.ensures)))
+          (sym (c.all_agree.ensures
+          ∙ ap₂ (λ (m n : Four ℕ). every (agree a.a.0 a.b.0) m n) c.fields.ensures
+          c.fields-then-x-y.ensures)))
       | else-takes_terms w ↦ cc
     ]
 
 pub returns-else-x-y : goal.returns-else-x-y
 returns-else-x-y c e f h k = elim c.if-takes_terms.branch [
   | then-takes_terms w ↦ sym (congruent_packed _ _ e f h k
-      ∙ rw (sym c.takes_terms.ensures ∙ w.if-takes_terms.true, sym w.value-is ∙ c.if-x-y.false) (sym c.if-x-y.false))
+      ∙ rw (sym c.takes_terms.ensures ∙ w.if-takes_terms.true, sym w.value-is ∙ c.if-x-y.false)
+      (sym c.if-x-y.false))
   | else-takes_terms w ↦ sym (congruent_packed _ _ e f h k
       ∙ rw (sym c.takes_terms.ensures ∙ w.if-takes_terms.false) (sym c.if-x-y.false))
 ]

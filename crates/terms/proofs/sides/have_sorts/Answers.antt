@@ -8,7 +8,8 @@ use Rattle.terms.proofs.sides.have_sorts.Goals as goal
 
 pub returns-then-eq : goal.returns-then-eq
 returns-then-eq c table E =
-    second_decides (sort_is Sort.Reference c.eq.ensures (c.sort_of-left.ensures table E)) c.if-eq.true
+    second_decides (sort_is Sort.Reference c.eq.ensures (c.sort_of-left.ensures table E))
+    c.if-eq.true
     (sort_is Sort.Region c.eq-then-eq.ensures (c.sort_of-right.ensures table E))
     ∙ member_sorts table c.args.literal c.in-In.is
 
@@ -20,12 +21,14 @@ returns-else-eq c table E =
 
 pub returns-in-Eq : goal.returns-in-Eq
 returns-in-Eq c table E =
-    c.eq-in-Eq.ensures ∙ same_sorts _ _ ∙ ap₂ same_sort (c.sort_of-left.ensures table E) (c.sort_of-right.ensures table E)
+    c.eq-in-Eq.ensures ∙ same_sorts _ _ ∙ ap₂ same_sort (c.sort_of-left.ensures table E)
+    (c.sort_of-right.ensures table E)
     ∙ one_sort_of_both table c.args.literal c.in-Eq.is
 
 pub returns-then-eq-2 : goal.returns-then-eq-2
 returns-then-eq-2 c table E =
-    second_decides (sort_is Sort.Class c.eq-in-Le.ensures (c.sort_of-left.ensures table E)) c.if-eq-2.true
+    second_decides (sort_is Sort.Class c.eq-in-Le.ensures (c.sort_of-left.ensures table E))
+    c.if-eq-2.true
     (sort_is Sort.Class c.eq-then-eq-2.ensures (c.sort_of-right.ensures table E))
     ∙ class_sorts table c.args.literal c.in-Le.is
 
