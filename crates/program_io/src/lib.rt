@@ -2,9 +2,9 @@
 // error.
 #![tactic(auto)]
 
-ghost use Rattle.std.specs.Prelude.{◌≡◌, ◌≤◌, ◌<◌, length};
+ghost use Rattle.std.specs.Prelude.{◌≡◌, ◌≤◌, ◌<◌, length, IfOk};
 ghost use Rattle.tableau.specs.File.{max_bytes};
-ghost use Rattle.program_io.specs.Input.{Brings, Fits};
+ghost use Rattle.program_io.specs.Input.{Brings};
 
 use reply::Text;
 use std::io;
@@ -13,34 +13,25 @@ use std::io::{Read, Stderr, Stdout};
 // One byte more than a file may have: when it is filled, the file is too long, whatever follows.
 pub const SPACE: usize = 60001;
 
-// What came in: so many bytes, or a part that a failed read cut off, and why it failed.
-#[derive(Clone, Copy)]
-pub enum Input {
-    Read(usize),
-    Failed(io::Error),
-}
-
-// Reads until the input ends or space is full, however few bytes each read brings. Nothing is said
+// Reads until the input ends or space is full, however few bytes each read brings, and returns how
+// many came; or why a read failed, which cuts off what came before it. Nothing is said
 // of what a failed read leaves in space or in the reader. What space holds behind the bytes that came
 // is free too: nobody looks at it.
-pub fn read_all<R: Read>(reader: &mut R, space: &mut [u8]) -> Input
+pub fn read_all<R: Read>(reader: &mut R, space: &mut [u8]) -> io::Result<usize>
     requires { max_bytes < length space.old }
     ensures same_room { length space.new ≡ length space.old }
-    ensures fits { Fits result (length space.new) }
-    ensures brings { Brings (R.remaining reader.old) (R.remaining reader.new) result space.new }
+    ensures fits { IfOk result (λ n. n ≤ length space.new) }
+    ensures brings { IfOk result (λ n. Brings (R.remaining reader.old) (R.remaining reader.new) n space.new) }
 {
     let mut done = 0;
     while done < space.len() {
-        let more = match reader.read(&mut space[done..]) {
-            Ok(more) => more,
-            Err(error) => return Input::Failed(error),
-        };
+        let more = reader.read(&mut space[done..])?;
         if more == 0 {
             break;
         }
         done += more;
     }
-    Input::Read(done)
+    Ok(done)
 }
 
 // A message begins with the program's name. Where it can't be written there is no one to tell.
@@ -57,26 +48,22 @@ pub fn read_standard_input<R: Read>(
     stderr: Stderr,
     program: &[u8],
     space: &mut [u8],
-) -> Input
+) -> io::Result<usize>
     requires { max_bytes < length space.old }
     ensures same_room { length space.new ≡ length space.old }
-    ensures fits { Fits result (length space.new) }
-    ensures brings { Brings (R.remaining stdin.old) (R.remaining stdin.new) result space.new }
+    ensures fits { IfOk result (λ n. n ≤ length space.new) }
+    ensures brings { IfOk result (λ n. Brings (R.remaining stdin.old) (R.remaining stdin.new) n space.new) }
 {
     let input = read_all(stdin, space);
-    if let Input::Failed(_) = input {
+    if input.is_err() {
         write_message(stderr, program, b": standard input can't be read\n");
     }
     input
 }
 
 // Standard output has the whole line, or standard error says that it may not.
-pub fn write_reply(stdout: Stdout, stderr: Stderr, program: &[u8], text: Text)
-    requires { text.len ≤ length text.bytes }
-{
-    let bytes = text.bytes;
-    let len = text.len;
-    if stdout.write_all(&bytes[..len]).is_err() {
+pub fn write_reply(stdout: Stdout, stderr: Stderr, program: &[u8], text: &Text) {
+    if stdout.write_all(text.as_bytes()).is_err() {
         write_message(
             stderr,
             program,

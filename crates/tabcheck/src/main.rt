@@ -2,23 +2,19 @@
 // standard output.
 #![tactic(auto)]
 
-use program_io::{Input, SPACE};
+use program_io::SPACE;
 
 fn main(rt: HostRuntime) {
     let mut space: [u8; SPACE] = [0; SPACE];
-    let input = program_io::read_standard_input(
+    let read = program_io::read_standard_input(
         &mut rt.stdin(),
         rt.stderr(),
         b"tabcheck",
         &mut space,
     );
-    let Input::Read(n) = input else {
+    let Ok(n) = read else {
         return;
     };
-    program_io::write_reply(
-        rt.stdout(),
-        rt.stderr(),
-        b"tabcheck",
-        checker::reply_line(&space[..n]),
-    );
+    let line = checker::reply_line(&space[..n]);
+    program_io::write_reply(rt.stdout(), rt.stderr(), b"tabcheck", &line);
 }

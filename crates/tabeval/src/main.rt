@@ -2,11 +2,10 @@
 // their reply line, and nothing else, to standard output.
 #![tactic(auto)]
 
-ghost use Rattle.std.specs.Prelude.{◌<◌, length};
+ghost use Rattle.std.specs.Prelude.{◌<◌, ◌≤◌, length, IfOk};
 ghost use Rattle.tableau.specs.File.{max_bytes};
-ghost use Rattle.program_io.specs.Input.{Fits};
 
-use program_io::{Input, SPACE};
+use program_io::SPACE;
 use std::env::FillError;
 use std::fs::File;
 use std::io::{Cursor, ErrorKind, Stderr, Write};
@@ -42,33 +41,42 @@ fn write_failure(stderr: Stderr, name: &[u8], error: io::Error) {
     program_io::write_message(stderr, words.as_bytes(), b"\n");
 }
 
-// Reads a file, or says why it can't be opened or read. A folder can be opened and not read.
-fn read_named<R: Files>(files: &R, stderr: Stderr, name: &[u8], space: &mut [u8]) -> Input
+fn read_file<R: Files>(files: &R, name: &[u8], space: &mut [u8]) -> io::Result<usize>
     requires { max_bytes < length space.old }
-    ensures { Fits result (length space.new) }
+    ensures { IfOk result (λ n. n ≤ length space.new) }
 {
-    let opened = match str::from_utf8(name) {
-        Ok(path) => File::open(files, path),
-        Err(_) => Err(io::Error::new(ErrorKind::InvalidFilename, "the name is not UTF-8")),
+    let Ok(path) = str::from_utf8(name) else {
+        return Err(io::Error::new(ErrorKind::InvalidFilename, "the name is not UTF-8"));
     };
-    let mut file = match opened {
-        Ok(file) => file,
-        Err(error) => {
-            write_failure(stderr, name, error);
-            return Input::Failed(error);
-        }
-    };
-    let input = program_io::read_all(&mut file, space);
-    if let Input::Failed(error) = input {
+    program_io::read_all(&mut File::open(files, path)?, space)
+}
+
+// Reads a file, or says why it can't be opened or read. A folder can be opened and not read.
+fn read_named<R: Files>(
+    files: &R,
+    stderr: Stderr,
+    name: &[u8],
+    space: &mut [u8],
+) -> io::Result<usize>
+    requires { max_bytes < length space.old }
+    ensures { IfOk result (λ n. n ≤ length space.new) }
+{
+    let read = read_file(files, name, space);
+    if let Err(error) = read {
         write_failure(stderr, name, error);
     }
-    input
+    read
 }
 
 // Reads the file that argument i names.
-fn read_argument<R: Env + Files>(rt: &R, stderr: Stderr, i: usize, space: &mut [u8]) -> Input
+fn read_argument<R: Env + Files>(
+    rt: &R,
+    stderr: Stderr,
+    i: usize,
+    space: &mut [u8],
+) -> io::Result<usize>
     requires { max_bytes < length space.old }
-    ensures { Fits result (length space.new) }
+    ensures { IfOk result (λ n. n ≤ length space.new) }
 {
     let mut name = [0u8; NAME_BYTES];
     let code = match rt.arg(i, &mut name) {
@@ -78,7 +86,7 @@ fn read_argument<R: Env + Files>(rt: &R, stderr: Stderr, i: usize, space: &mut [
     };
     let error = io::Error::from_raw_os_error(code);
     write_failure(stderr, b"a file's name", error);
-    Input::Failed(error)
+    Err(error)
 }
 
 // Whether there is an argument i. Argument 0 is the program's name.
@@ -102,19 +110,13 @@ fn main(rt: HostRuntime) {
     // Without both files there is no reply: the exit status stays 0, so an empty standard output
     // has to say it.
     let mut file: [u8; SPACE] = [0; SPACE];
-    let file_input = read_argument(&rt, rt.stderr(), 1, &mut file);
-    let Input::Read(file_bytes) = file_input else {
+    let Ok(file_bytes) = read_argument(&rt, rt.stderr(), 1, &mut file) else {
         return;
     };
     let mut heap: [u8; SPACE] = [0; SPACE];
-    let heap_input = read_argument(&rt, rt.stderr(), 2, &mut heap);
-    let Input::Read(heap_bytes) = heap_input else {
+    let Ok(heap_bytes) = read_argument(&rt, rt.stderr(), 2, &mut heap) else {
         return;
     };
-    program_io::write_reply(
-        rt.stdout(),
-        rt.stderr(),
-        b"tabeval",
-        evaluator::evaluation_line(&file[..file_bytes], &heap[..heap_bytes]),
-    );
+    let line = evaluator::evaluation_line(&file[..file_bytes], &heap[..heap_bytes]);
+    program_io::write_reply(rt.stdout(), rt.stderr(), b"tabeval", &line);
 }

@@ -23,6 +23,6 @@ loop-done-preserved g c =
     let from = c.loop-done.done in
     let room = length c.loop-done.space - from in
     let within = c.loop-done.invariant.0 in
-    let part = slice_range-put_mid from room c.in-Ok.more c.loop-done.space c.read.new.buf within c.in-Ok.ensures.bound.0 in
-    let joined = take_split from (from + c.in-Ok.more) c.loop-done.space (put_mid from room c.loop-done.space c.read.new.buf) (omega arith) (take-put_mid_below _ _ _ _ _ (le_refl _) within) in
-    (search rules, subst (Consumes _ _) (ap (λ l. take from c.loop-done.space ++ l) (sym part) ∙ joined) (Consumes-trans _ _ _ _ _ c.loop-done.invariant.1 c.in-Ok.ensures.bytes.0))
+    let part = slice_range-put_mid from room c.in_ok-more.more c.loop-done.space c.read.new.buf within c.in_ok-more.ensures.bound.0 in
+    let joined = take_split from (from + c.in_ok-more.more) c.loop-done.space (put_mid from room c.loop-done.space c.read.new.buf) (omega arith) (take-put_mid_below _ _ _ _ _ (le_refl _) within) in
+    (search rules, subst (Consumes _ _) (ap (λ l. take from c.loop-done.space ++ l) (sym part) ∙ joined) (Consumes-trans _ _ _ _ _ c.loop-done.invariant.1 c.in_ok-more.ensures.bytes.0))
