@@ -108,7 +108,7 @@ module _ {file : List ℕ} {held : List StoredFact} {s : Sizes} {n at : ℕ} (R 
   bad h e = rw (add-one n) (R.runs ∙ bad_line fact_fields_lem file at h e n R.facts)
 
   pub finished : length file ≤ at → Finished file held (record { count = n; sizes = s })
-  finished h = record { facts = R.facts; room = omega (arith, R.lines, R.inside, R.short); held' = R.held'; sized = R.sized; runs = R.runs ∙ at_end_lem run_fact file at h n R.facts }
+  finished h = record { facts = R.facts; count = R.count; room = omega (arith, R.lines, R.inside, R.short); held' = R.held'; sized = R.sized; runs = R.runs ∙ at_end_lem run_fact file at h n R.facts }
 
   module _ (f : LineFields) (e : line_at file at ≡ Some f) where
     pub refused_line : (r : Reason) → FactDone R.facts f (Err r) → run_from run_fact file 0 0 (passed []) ≡ stopped r (n + 1)

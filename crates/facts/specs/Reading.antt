@@ -1,5 +1,5 @@
 -- The specification's run over the D lines of a file, told by the fields that a line was read as and by the arrays that hold the facts.
-use Rattle.std.specs.Prelude.{◌≡◌, Bool, true, false, List, [], ◌∷◌, ◌++◌, ℕ, ◌<◌, ◌≤◌, eqb, take, Result, Ok, Err}
+use Rattle.std.specs.Prelude.{◌≡◌, Bool, true, false, List, [], ◌∷◌, ◌++◌, ℕ, ◌<◌, ◌≤◌, eqb, length, take, Result, Ok, Err}
 use Rattle.std.specs.Bool.{beq}
 use Rattle.tableau.specs.declared.Reason.{Reason}
 use Rattle.tableau.specs.declared.Refusal.{Refusal}
@@ -79,6 +79,7 @@ sizes_after false f s = s
 -- ALL LINES PASSED: the facts that they say are stored
 pub record Finished (file : List ℕ) (held : List StoredFact) (e : FactsRead) : Type 0 where
   pub facts : Facts
+  pub count : e.count ≡ length facts
   pub room : e.count ≤ facts_length
   pub held' : FactsHeld facts (take e.count held)
   pub sized : sizes facts ≡ sizes_of e.sizes

@@ -17,7 +17,7 @@ use Rattle.tableau.specs.Meaning.{same, image, FiniteHeap, Ref, Field, Value, re
 use Rattle.tableau.proofs.WellFormed.{OkArgument, OkTerm, WellFormed}
 use Rattle.tableau.proofs.Match.{value_apply, kind_value, argument_values}
 use Rattle.packing.specs.declared.TermView.{TermView}
-use Rattle.packing.specs.Packing.{name_of, view_apply, view_of, number, term_limit}
+use Rattle.packing.specs.Packing.{name_of, view_apply, view_of, number}
 use Rattle.tableau.specs.declared.Name.{Name}
 use Rattle.table.specs.Held.{ViewAt}
 use Rattle.regions.specs.declared.HeapTables.{HeapTables}
@@ -113,15 +113,15 @@ module _ (table : Table) (wf : WellFormed (at table)) (H : FiniteHeap) (ρ : Val
 
   -- an operation, once it is computed
   pub operation_shown : (A : HeapTables) → HoldHeap H A → (view : TermView) → ViewAt table t view → ((s : Sort) (n : Name) → view ≡ TermView.Variable s n → ⊥)
-      → t ≤ max_terms → length numbers ≡ term_limit → length rows ≡ rows_length → Computed A view numbers rows numbers' rows' t → ShownBelow H ρ table numbers' rows' (suc t)
-  operation_shown A G view w o few p q C = go (at table t) refl
+      → t ≤ max_terms → Computed A view numbers rows numbers' rows' t → ShownBelow H ρ table numbers' rows' (suc t)
+  operation_shown A G view w o few C = go (at table t) refl
     where
       go : (e : Term) → at table t ≡ e → ShownBelow H ρ table numbers' rows' (suc t)
       go (variable s n) e = absurd (o s (name_of n) (sym (ap view_of (sym e) ∙ w.is)))
       go (apply x k) e =
           let same : view_apply x k ≡ view = ap view_of (sym e) ∙ w.is in
           let own : number_at numbers' t ≡ operation_number A (view_apply x k) numbers rows =
-          ap (λ (l : List ℕ). number_at l t) C.number ∙ get_or-set_same numbers t _ 0 (omega arith) ∙ ap (λ (v : TermView). operation_number A v numbers rows) (sym same) in
-          shown_more (λ s l. ap (λ (z : List ℕ). number_at z s) C.number ∙ get_or-set_other numbers t s _ 0 (λ z. omega arith)) C.row.earlier q (C.row.size ∙ q) few
+          ap (λ (l : List ℕ). number_at l t) C.number ∙ get_or-set_same numbers t _ 0 (omega (arith, C.wide)) ∙ ap (λ (v : TermView). operation_number A v numbers rows) (sym same) in
+          shown_more (λ s l. ap (λ (z : List ℕ). number_at z s) C.number ∙ get_or-set_other numbers t s _ 0 (λ z. omega arith)) C.row.earlier C.long (C.row.size ∙ C.long) few
           (subst (λ (m : ℕ). Shows H (value ρ (at table) t) m (row_of rows' t)) (sym own)
           (operation_here A G x k e (subst (λ (v : TermView). RowComputed v numbers rows rows' t) (sym same) C.row)))

@@ -4,6 +4,7 @@ use Rattle.std.specs.Int.Bits.{bit_and, bit_or, bit_xor}
 use Rattle.tableau.specs.declared.TermNumber.{TermNumber}
 use Rattle.tableau.specs.Terms.{TermNo}
 use Rattle.packing.specs.declared.TermView.{TermView}
+use Rattle.packing.specs.Packing.{term_limit}
 use Rattle.regions.specs.declared.HeapTables.{HeapTables}
 use Rattle.regions.specs.Masks.{row_length, place, entry, one_bit, image_mask}
 
@@ -72,7 +73,9 @@ pub record RowComputed (view : TermView) (numbers old new : List ℕ) (t : TermN
   pub size : length new ≡ length old
   pub earlier : (j : ℕ) → j < t * row_length → get_or new j 0 ≡ get_or old j 0
 
--- WHAT IS COMPUTED of the operation t
+-- WHAT IS COMPUTED of the operation t, in arrays of these lengths
 pub record Computed (A : HeapTables) (view : TermView) (numbers rows numbers' rows' : List ℕ) (t : TermNo) : Type 0 where
+  pub wide : length numbers ≡ term_limit
+  pub long : length rows ≡ rows_length
   pub number : numbers' ≡ set numbers t (operation_number A view numbers rows)
   pub row : RowComputed view numbers rows rows' t

@@ -121,13 +121,13 @@ module _ {facts : Facts} (held : List StoredFact) (F : FactsHeld facts held) (p 
   rows_before Sort.Field n old new t R j l = ap (λ (r : List ℕ). get_or r j 0) R
   rows_before Sort.Class n old new t R j l = ap (λ (r : List ℕ). get_or r j 0) R
 
-  module _ (s : Sort) (n : Name) (numbers rows numbers' rows' : List ℕ) (t : TermNo) (few : t ≤ max_terms) (wide : length numbers ≡ 1024) (size : length rows ≡ rows_length)
+  module _ (s : Sort) (n : Name) (numbers rows numbers' rows' : List ℕ) (t : TermNo) (few : t ≤ max_terms)
       (D : VariableRead held s n numbers rows numbers' rows' t) where
     pub variable_shown : Shows (heap_of facts ordered) (value_of (values_of facts ordered) s n) (number_at numbers' t) (row_of rows' t)
     variable_shown =
         subst (λ (k : ℕ). Shows (heap_of facts ordered) (value_of (values_of facts ordered) s n) k (row_of rows' t))
-        (sym (ap (λ (l : List ℕ). get_or l t 0) D.number ∙ get_or-set_same numbers t D.value 0 (omega (arith, wide))))
-        (value_shown s n D.value rows rows' t few (row_size held s n rows rows' t D.row ∙ size) D.read D.row)
+        (sym (ap (λ (l : List ℕ). get_or l t 0) D.number ∙ get_or-set_same numbers t D.value 0 (omega (arith, D.wide))))
+        (value_shown s n D.value rows rows' t few (row_size held s n rows rows' t D.row ∙ D.long) D.read D.row)
 
     -- a further term of the table
     pub variable_more : (table : Table) → WellFormed (at table) → at table t ≡ variable s n → ShownBelow (heap_of facts ordered) (values_of facts ordered) table numbers rows t
@@ -135,5 +135,5 @@ module _ {facts : Facts} (held : List StoredFact) (F : FactsHeld facts held) (p 
     variable_more table wf e before =
         shown_more table wf H ρ numbers rows numbers' rows' t before
         (λ i l. ap (λ (k : List ℕ). get_or k i 0) D.number ∙ get_or-set_other numbers t i D.value 0 (λ z. omega arith))
-        (rows_before s n rows rows' t D.row) size (row_size held s n rows rows' t D.row ∙ size) few
+        (rows_before s n rows rows' t D.row) D.long (row_size held s n rows rows' t D.row ∙ D.long) few
         (subst (λ (v : Value H). Shows H v (number_at numbers' t) (row_of rows' t)) (sym (value_variable (at table) wf H ρ t s n e)) variable_shown)

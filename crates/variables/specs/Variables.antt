@@ -6,7 +6,9 @@ use Rattle.evaluation.specs.declared.FactWord.{FactWord}
 use Rattle.evaluation.specs.Facts.{fact_index}
 use Rattle.facts.specs.declared.StoredFact.{StoredFact}
 use Rattle.facts.specs.Keys.{pack_key, value_at}
+use Rattle.packing.specs.Packing.{term_limit}
 use Rattle.regions.specs.Masks.{row_length}
+use Rattle.term_values.specs.Values.{rows_length}
 use Rattle.heap_tables.specs.Scans.{key_at, IsMembers}
 
 module _ (facts : List StoredFact) where
@@ -32,6 +34,8 @@ module _ (facts : List StoredFact) where
   RowRead Sort.Class n old new t = new ≡ old
 
   pub record VariableRead (sort : Sort) (n : Name) (numbers rows numbers' rows' : List ℕ) (t : TermNo) : Type 0 where
+    pub wide : length numbers ≡ term_limit
+    pub long : length rows ≡ rows_length
     pub value : ℕ
     pub read : NumberRead sort n value
     pub number : numbers' ≡ set numbers t value

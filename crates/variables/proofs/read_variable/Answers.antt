@@ -28,6 +28,8 @@ returns c =
           let heap : a.sort ≡ Sort.Heap = same_true the_type (search rules) _ _ (sym c.eq.ensures ∙ w.if-eq.true) in
           rw w.values-is
           (record {
+            wide = search rules;
+            long = size;
             value = c.number_of.result;
             read = c.number_of.ensures;
             number = search rules;
@@ -36,5 +38,5 @@ returns c =
       | else-eq w ↦
           let other : a.sort ≡ Sort.Heap → ⊥ = λ e. true≢false (sym (ap (λ s. sameb the_type s Sort.Heap) e) ∙ sym c.eq.ensures ∙ w.if-eq.false) in
           rw w.values-is
-          (record { value = c.number_of.result; read = c.number_of.ensures; number = search rules; row = row_kept a.facts.now a.name.0 a.values.now.rows a.t.0 a.sort other })
+          (record { wide = search rules; long = size; value = c.number_of.result; read = c.number_of.ensures; number = search rules; row = row_kept a.facts.now a.name.0 a.values.now.rows a.t.0 a.sort other })
     ]
