@@ -17,7 +17,8 @@ use Rattle.rules.specs.Answer.{alternatives_of}
 abbrev pub closings_of : Rule → ℕ
 closings_of x = cond (is_closing x) 1 0
 
--- what a step makes of the tree of a branch B where W waits; literals that begin to wait stand in words
+-- what a step makes of the tree of a branch B where W waits; literals that begin to wait stand in
+-- words
 abbrev pub grown_by : List ℕ → List ℕ → List ℕ → Result (Option Change) Reason → Checked Status
 grown_by words B W (Ok o) = passed (status_after unpack_literal words B W o)
 grown_by words B W (Err r) = refused r
@@ -25,7 +26,8 @@ grown_by words B W (Err r) = refused r
 -- of an outcome: checks 15 and 16
 pub record Grows (B W : List ℕ) (x : Outcome) (r : Result (Option Change) Reason) : Type 0 where
   pub fits : IfOk r (λ o. IfSome o (Fits B W))
-  pub result : (words : List ℕ) → grown_by words B W r ≡ grown (tree_in unpack_literal B W) (alternatives_of x)
+  pub result : (words : List ℕ) → grown_by words B W r
+      ≡ grown (tree_in unpack_literal B W) (alternatives_of x)
 
 -- of a clause whose literals stand at s: an alternative for each
 abbrev pub SplitsClause : List ℕ → List ℕ → List ℕ → Span → Result Change Reason → Type 0

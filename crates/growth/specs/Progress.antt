@@ -1,5 +1,7 @@
--- How far a file is read: the specification's state that it stands for, what a line makes of it, and the verdict where the file ends.
-use Rattle.std.specs.Prelude.{◌≡◌, Bool, true, false, Option, Some, None, Result, Ok, Err, List, ℕ, ◌+◌, ◌≤◌, min}
+-- How far a file is read: the specification's state that it stands for, what a line makes of it,
+-- and the verdict where the file ends.
+use Rattle.std.specs.Prelude.{◌≡◌, Bool, true, false, Option, Some, None, Result, Ok, Err, List, ℕ}
+use Rattle.std.specs.Prelude.{◌+◌, ◌≤◌, min}
 use Rattle.tableau.specs.declared.Letter.{Letter}
 use Rattle.tableau.specs.declared.Reason.{Reason}
 use Rattle.tableau.specs.declared.Rule.{Rule}
@@ -24,9 +26,17 @@ status_of true τ = is_closed
 status_of false τ = is_open τ
 
 abbrev pub state_at : Table → Clauses → specification.Tree → Progress → State
-state_at table C τ g = record { table = table; clauses = C; status = status_of g.closed τ; letter = g.letter; counts = counts_of g.counts }
+state_at table C τ g =
+    record {
+      table = table;
+      clauses = C;
+      status = status_of g.closed τ;
+      letter = g.letter;
+      counts = counts_of g.counts;
+    }
 
--- no count is greater than that of the lines; only an S line closes the tree; only C lines make clauses
+-- no count is greater than that of the lines; only an S line closes the tree; only C lines make
+-- clauses
 pub record Counted (g : Progress) : Type 0 where
   pub terms : g.counts.terms ≤ g.lines
   pub assumptions : g.counts.assumptions ≤ g.lines
@@ -37,17 +47,33 @@ pub record Counted (g : Progress) : Type 0 where
   pub no_clause_yet : in_order g.letter Letter.A ≡ true → g.clauses ≡ 0
 
 abbrev pub at_start : Progress
-at_start = record { letter = Letter.T; closed = false; lines = 0; noted = 0; clauses = 0; counts = record { terms = 0; assumptions = 0; steps = 0; closings = 0 } }
+at_start =
+    record {
+      letter = Letter.T;
+      closed = false;
+      lines = 0;
+      noted = 0;
+      clauses = 0;
+      counts = record { terms = 0; assumptions = 0; steps = 0; closings = 0 };
+    }
 
 -- A LINE MORE of each letter, after which the tree is open
 abbrev pub after : Progress → Letter → Progress
 after g l = record g { letter = l; closed = false; lines = g.lines + 1 }
 
 abbrev pub after_term : Progress → Progress
-after_term g = record (after g Letter.T) { noted = 0; counts = record (g.counts) { terms = g.counts.terms + 1 } }
+after_term g =
+    record (after g Letter.T) {
+      noted = 0;
+      counts = record (g.counts) { terms = g.counts.terms + 1 };
+    }
 
 abbrev pub after_literal : Progress → Progress
-after_literal g = record (after g Letter.A) { counts = record (g.counts) { assumptions = g.counts.assumptions + 1 } }
+after_literal g =
+    record (after g Letter.A) {
+      counts = record
+          (g.counts) { assumptions = g.counts.assumptions + 1 };
+    }
 
 abbrev pub after_disjunct : Progress → ClauseNo → Progress
 after_disjunct g k = record (after g Letter.C) { noted = 0; clauses = k }
@@ -55,20 +81,31 @@ after_disjunct g k = record (after g Letter.C) { noted = 0; clauses = k }
 abbrev pub after_step : Progress → Rule → ℕ → Progress
 after_step g x noted' = record (after g Letter.S) {
   noted = noted';
-  counts = record (g.counts) { steps = g.counts.steps + 1; closings = g.counts.closings + closings_of x };
+  counts =
+      record (g.counts) {
+        steps = g.counts.steps + 1;
+        closings = g.counts.closings + closings_of x;
+      };
 }
 
--- THE EFFECT of a line, by how far the file is read after it and what it makes of the tree of a branch B where W waits
+-- THE EFFECT of a line, by how far the file is read after it and what it makes of the tree of a
+-- branch B where W waits
 abbrev pub changed_to : Progress → Change → LineEffect
 changed_to g c = record { progress = record g { noted = min g.noted c.cut }; change = c }
 
 abbrev pub grown_to : Progress → List ℕ → List ℕ → Option Change → LineEffect
 grown_to g B W (Some c) = changed_to g c
-grown_to g B W None = record { progress = record g { closed = true }; change = split_into B W no_literals Begun.Nothing }
+grown_to g B W None =
+    record {
+      progress = record g { closed = true };
+      change = split_into B W no_literals Begun.Nothing;
+    }
 
 -- what the line says, with the table, the clauses and their array after it
-abbrev pub state_after : List ℕ → Table → Clauses → List ℕ → List ℕ → Result LineEffect Reason → Checked State
-state_after words table C B W (Ok e) = passed (state_at table C (changed unpack_literal words B W e.change) e.progress)
+abbrev pub state_after : List ℕ → Table → Clauses → List ℕ → List ℕ → Result LineEffect Reason
+    → Checked State
+state_after words table C B W (Ok e) =
+    passed (state_at table C (changed unpack_literal words B W e.change) e.progress)
 state_after words table C B W (Err r) = refused r
 
 -- what is so of the effect of a line that was read after g

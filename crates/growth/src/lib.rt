@@ -32,7 +32,8 @@ pub struct Progress {
     pub counts: Counts,
 }
 
-// What a line comes to: how far the file is read after it, and the change that it makes of the tree.
+// What a line comes to: how far the file is read after it, and the change that it makes of the
+// tree.
 #[derive(Clone, Copy)]
 pub struct LineEffect {
     pub progress: Progress,

@@ -1,18 +1,24 @@
--- What a step makes of a tree, worked out from the codes of its branch and the packed alternatives that wait.
-use Rattle.std.specs.Prelude.{◌≡◌, Option, Some, None, Result, Ok, Err, IfOk, IfSome, List, [], ◌∷◌, ◌++◌, map, ℕ, ◌+◌, ◌≤◌, ◌<◌, length, take, reverse, if◌then◌else◌, nat_lt, ⊤}
+-- What a step makes of a tree, worked out from the codes of its branch and the packed alternatives
+-- that wait.
+use Rattle.std.specs.Prelude.{◌≡◌, Option, Some, None, Result, Ok, Err, IfOk, IfSome, List, [], ◌∷◌}
+use Rattle.std.specs.Prelude.{◌++◌, map, ℕ, ◌+◌, ◌≤◌, ◌<◌, length, take, reverse, if◌then◌else◌}
+use Rattle.std.specs.Prelude.{nat_lt, ⊤}
 use Rattle.tableau.specs.declared.Reason.{Reason}
 use Rattle.tableau.specs.Terms.{Literal}
 use Rattle.tableau.specs.Tree as specification
-use Rattle.tableau.specs.Tree.{Checked, refused, passed, Status, is_open, is_closed, close, grown, max_places, max_waiting}
+use Rattle.tableau.specs.Tree.{Checked, refused, passed, Status, is_open, is_closed, close, grown}
+use Rattle.tableau.specs.Tree.{max_places, max_waiting}
 use Rattle.tableau.specs.Reply.{max_clause_lines}
 use Rattle.clauses.specs.Held.{codes_at}
 use Rattle.tree.specs.declared.Alternative.{Alternative}
 use Rattle.tree.specs.declared.Begun.{Begun}
 use Rattle.tree.specs.declared.Change.{Change}
 use Rattle.tree.specs.declared.Tree.{Tree}
-use Rattle.tree.specs.State.{codes_of, AtMost, packed_one, AreCodes, HasRoom, AreWaiting, tree_in, codes_in, waiting_in, Within}
+use Rattle.tree.specs.State.{codes_of, AtMost, packed_one, AreCodes, HasRoom, AreWaiting, tree_in}
+use Rattle.tree.specs.State.{codes_in, waiting_in, Within}
 
--- WHAT BEGINS TO WAIT where the branch has so many literals: packed alternatives, the one that is taken first in front. Literals stand in an array.
+-- WHAT BEGINS TO WAIT where the branch has so many literals: packed alternatives, the one that is
+-- taken first in front. Literals stand in an array.
 abbrev pub begun_of : List ℕ → ℕ → Begun → List ℕ
 begun_of words cut Begun.Nothing = []
 begun_of words cut (Begun.One w) = w ∷ []
@@ -63,18 +69,21 @@ pub record Stored (words : List ℕ) (t : Tree) (c : Change) (t' : Tree) : Type 
   pub branch : codes_in t' ≡ codes_after (codes_in t) c
   pub waiting : waiting_in t' ≡ waiting_after words (waiting_in t) c
 
--- CHECKS 15 AND 16, by the length of the longest alternative and the number of those that begin to wait
+-- CHECKS 15 AND 16, by the length of the longest alternative and the number of those that begin to
+-- wait
 abbrev pub room_for : List ℕ → List ℕ → ℕ → ℕ → Result (Unit {0}) Reason
 room_for B W literals begun =
     if nat_lt max_places (length B + literals) then Err Reason.BranchFull
     else (if nat_lt max_waiting (length W + begun) then Err Reason.WaitingFull else Ok tt)
 
--- A STEP: for every reading of the codes, its change or refusal is what the specification says of its alternatives. Literals that begin to wait stand in an array.
+-- A STEP: for every reading of the codes, its change or refusal is what the specification says of
+-- its alternatives. Literals that begin to wait stand in an array.
 abbrev pub opened : (ℕ → Literal) → List ℕ → List ℕ → List ℕ → Result Change Reason → Checked Status
 opened f words B W (Ok c) = passed (is_open (changed f words B W c))
 opened f words B W (Err r) = refused r
 
-pub record SplitsAt (words B W : List ℕ) (ks : List (List ℕ)) (r : Result Change Reason) : Type 0 where
+pub record SplitsAt (words B W : List ℕ) (ks : List (List ℕ))
+    (r : Result Change Reason) : Type 0 where
   pub fits : IfOk r (Fits B W)
   pub result : (f : ℕ → Literal) → opened f words B W r ≡ grown (tree_in f B W) (map (map f) ks)
 
@@ -92,4 +101,5 @@ status_after f words B W None = is_closed
 
 pub record Closes (B W : List ℕ) (o : Option Change) : Type 0 where
   pub fits : AreCodes B → AreWaiting W → IfSome o (Fits B W)
-  pub result : (f : ℕ → Literal) (words : List ℕ) → status_after f words B W o ≡ close (tree_in f B W).branch (tree_in f B W).waiting
+  pub result : (f : ℕ → Literal) (words : List ℕ) → status_after f words B W o
+      ≡ close (tree_in f B W).branch (tree_in f B W).waiting

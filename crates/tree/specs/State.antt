@@ -1,5 +1,7 @@
--- What the arrays of the tree state hold. A literal is a number here, its code; the definitions are for any reading f of the codes.
-use Rattle.std.specs.Prelude.{◌≡◌, Bool, List, [], ◌∷◌, map, ℕ, ◌+◌, ◌*◌, ◌/◌, ◌%◌, ◌^◌, ◌≤◌, ◌<◌, length, take, reverse, get_or, All}
+-- What the arrays of the tree state hold. A literal is a number here, its code; the definitions are
+-- for any reading f of the codes.
+use Rattle.std.specs.Prelude.{◌≡◌, Bool, List, [], ◌∷◌, map, ℕ, ◌+◌, ◌*◌, ◌/◌, ◌%◌, ◌^◌, ◌≤◌, ◌<◌}
+use Rattle.std.specs.Prelude.{length, take, reverse, get_or, All}
 use Rattle.std.specs.Prelude.{Some}
 use Rattle.tableau.specs.Terms.{Literal}
 use Rattle.tableau.specs.Tree as specification
@@ -23,7 +25,8 @@ pub record AtMost (n : ℕ) (a : Alternative) : Type 0 where
 abbrev pub one_code : ℕ → Alternative
 one_code code = record { count = 1; first = code; second = 0; third = 0 }
 
--- An alternative that waits is one number: the length of the branch at its split (10 bits), its count (2 bits), two codes.
+-- An alternative that waits is one number: the length of the branch at its split (10 bits), its
+-- count (2 bits), two codes.
 abbrev pub packed : ℕ → Alternative → ℕ
 packed cut a = cut + 2 ^ 10 * (a.count + 2 ^ 2 * (a.first + 2 ^ 23 * a.second))
 
@@ -78,7 +81,8 @@ waiting_of f w = record { length = cut_of w; alternative = map f (codes_of (unpa
 
 -- THE TREE that codes and packed alternatives stand for
 abbrev pub tree_in : (ℕ → Literal) → List ℕ → List ℕ → specification.Tree
-tree_in f branch waiting = record { branch = map f branch; waiting = map (waiting_of f) (reverse waiting) }
+tree_in f branch waiting =
+    record { branch = map f branch; waiting = map (waiting_of f) (reverse waiting) }
 
 -- and a state, and what is always so of one
 abbrev pub codes_in : Tree → List ℕ

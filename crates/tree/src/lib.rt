@@ -1,15 +1,19 @@
-// The tree: the branch and the alternatives that wait. A literal is one number here, its code; the contracts hold for every reading of
-// the codes as literals. What a step makes of the tree is worked out as a small value, a change, and then stored in place: a method by
-// `mut self` for each step would copy the arrays.
+// The tree: the branch and the alternatives that wait. A literal is one number here, its code; the
+// contracts hold for every reading of the codes as literals. What a step makes of the tree is worked
+// out as a small value, a change, and then stored in place: a method by `mut self` for each step
+// would copy the arrays.
 #![tactic(auto)]
 
-ghost use Rattle.std.specs.Prelude.{◌≡◌, true, [], ◌∷◌, ◌++◌, ℕ, suc, ◌+◌, ◌≤◌, ◌<◌, length, take, reverse, get_or};
+ghost use Rattle.std.specs.Prelude.{◌≡◌, true, [], ◌∷◌, ◌++◌, ℕ, ◌+◌, ◌≤◌, ◌<◌};
+ghost use Rattle.std.specs.Prelude.{length, take, reverse, get_or};
 ghost use Rattle.tableau.specs.Terms.{Literal};
 ghost use Rattle.tableau.specs.Tree.{max_places, max_waiting, root};
 ghost use Rattle.packing.specs.Packing.{code_limit};
-ghost use Rattle.tree.specs.State.{codes_of, AtMost, one_code, packed, cut_of, unpacked, AreCodes, HasPlace, IsAt, AreWaiting};
+ghost use Rattle.tree.specs.State.{codes_of, AtMost, one_code, packed, cut_of, unpacked};
+ghost use Rattle.tree.specs.State.{AreCodes, HasPlace, IsAt, AreWaiting};
 ghost use Rattle.tree.specs.State.{codes_in, waiting_in, tree_of, Within};
-ghost use Rattle.tree.specs.Change.{no_literals, split_into, room_for, begun_of, begun_count, MayBegin, Fits, Splits, Closes, Stored};
+ghost use Rattle.tree.specs.Change.{no_literals, split_into, room_for, begun_of, begun_count};
+ghost use Rattle.tree.specs.Change.{MayBegin, Fits, Splits, Closes, Stored};
 
 use clauses::Span;
 use tableau::{Place, Reason};
@@ -23,8 +27,8 @@ pub struct Alternative {
     pub third: u32,
 }
 
-// The branch is the first `len` of its array; the first `count` of the other are the packed alternatives that wait, and the last is taken
-// next.
+// The branch is the first `len` of its array; the first `count` of the other are the packed
+// alternatives that wait, and the last is taken next.
 #[derive(Drop)]
 pub struct Tree {
     pub branch: [u32; Tree::PLACES],
@@ -40,7 +44,8 @@ pub struct TreeView<'a> {
     pub waiting: &'a [u64],
 }
 
-// What begins to wait: packed alternatives, of two the first is taken first; or the literals of a span, each an alternative of its own.
+// What begins to wait: packed alternatives, of two the first is taken first; or the literals of a
+// span, each an alternative of its own.
 #[derive(Clone, Copy)]
 pub enum Begun {
     Nothing,
@@ -49,8 +54,8 @@ pub enum Begun {
     Each(Span),
 }
 
-// The branch is cut back to a length, and an alternative added there; some alternatives are kept waiting, and others begin to wait on
-// top of them.
+// The branch is cut back to a length, and an alternative added there; some alternatives are kept
+// waiting, and others begin to wait on top of them.
 #[derive(Clone, Copy)]
 pub struct Change {
     pub cut: usize,
@@ -60,8 +65,8 @@ pub struct Change {
 }
 
 impl Alternative {
-    // How many values each part of a packed alternative can have, from the low end: the length of the branch at its split, the count, and
-    // two literals. No alternative that waits has three.
+    // How many values each part of a packed alternative can have, from the low end: the length of
+    // the branch at its split, the count, and two literals. No alternative that waits has three.
     const CUTS: u64 = 1024;
 
     const COUNTS: u64 = 4;
@@ -157,12 +162,14 @@ impl TreeView<'_> {
 
     // The tree as it is.
     pub fn unchanged(self) -> Change
-        ensures { result ≡ split_into self.entry.branch.now self.entry.waiting.now no_literals Begun.Nothing }
+        ensures { result
+            ≡ split_into self.entry.branch.now self.entry.waiting.now no_literals Begun.Nothing }
     {
         self.split(Alternative::none(), Begun::Nothing)
     }
 
-    // Checks 15 and 16 of a step: its longest alternative has so many literals, and so many alternatives begin to wait.
+    // Checks 15 and 16 of a step: its longest alternative has so many literals, and so many
+    // alternatives begin to wait.
     pub fn require_room(self, literals: usize, begun: usize) -> Result<(), Reason>
         requires { AreCodes self.branch.now × AreWaiting self.waiting.now }
         ensures { result ≡ room_for self.entry.branch.now self.entry.waiting.now literals begun }
@@ -178,7 +185,8 @@ impl TreeView<'_> {
 
     // A step with one alternative.
     pub fn extend(self, a: Alternative) -> Result<Change, Reason>
-        requires { AreCodes self.branch.now × AreWaiting self.waiting.now × AtMost 3 a }
+        requires tree { AreCodes self.branch.now × AreWaiting self.waiting.now }
+        requires literals { AtMost 3 a }
         ensures { Splits self.entry.branch.now self.entry.waiting.now (codes_of a ∷ []) result }
     {
         self.require_room(a.count, 0)?;
@@ -187,8 +195,10 @@ impl TreeView<'_> {
 
     // A step with two alternatives.
     pub fn split2(self, first: Alternative, second: Alternative) -> Result<Change, Reason>
-        requires { AreCodes self.branch.now × AreWaiting self.waiting.now × AtMost 3 first × AtMost 2 second }
-        ensures { Splits self.entry.branch.now self.entry.waiting.now (codes_of first ∷ codes_of second ∷ []) result }
+        requires tree { AreCodes self.branch.now × AreWaiting self.waiting.now }
+        requires literals { AtMost 3 first × AtMost 2 second }
+        ensures { Splits self.entry.branch.now self.entry.waiting.now
+            (codes_of first ∷ codes_of second ∷ []) result }
     {
         self.require_room(first.count.max(second.count), 1)?;
         let cut = self.branch.len();
@@ -202,16 +212,18 @@ impl TreeView<'_> {
         second: Alternative,
         third: Alternative,
     ) -> Result<Change, Reason>
-        requires { AreCodes self.branch.now × AreWaiting self.waiting.now × AtMost 3 first × AtMost 2 second × AtMost 2 third }
-        ensures { Splits self.entry.branch.now self.entry.waiting.now (codes_of first ∷ codes_of second ∷ codes_of third ∷ []) result }
+        requires tree { AreCodes self.branch.now × AreWaiting self.waiting.now }
+        requires literals { AtMost 3 first × AtMost 2 second × AtMost 2 third }
+        ensures { Splits self.entry.branch.now self.entry.waiting.now
+            (codes_of first ∷ codes_of second ∷ codes_of third ∷ []) result }
     {
         self.require_room(first.count.max(second.count).max(third.count), 2)?;
         let cut = self.branch.len();
         Ok(self.split(first, Begun::Two(second.pack(cut), third.pack(cut))))
     }
 
-    // A closing step; where no alternative waits, the tree is closed. The lesser of the recorded length and the length asks for no order among
-    // the recorded lengths.
+    // A closing step; where no alternative waits, the tree is closed. The lesser of the recorded
+    // length and the length asks for no order among the recorded lengths.
     pub fn close(self) -> Option<Change>
         ensures { Closes self.entry.branch.now self.entry.waiting.now result }
     {
@@ -269,7 +281,8 @@ impl Tree {
     // The change of a step. Literals that begin to wait stand in the array.
     pub fn apply(&mut self, change: Change, literals: &[u32; clauses::WORDS])
         requires within { Within self.old }
-        requires fits { Fits (codes_in self.old) (waiting_in self.old) change × ((i : ℕ) → get_or literals.now i 0 < code_limit) }
+        requires fits { Fits (codes_in self.old) (waiting_in self.old) change }
+        requires literals { (i : ℕ) → get_or literals.now i 0 < code_limit }
         ensures { Stored literals.now self.old change self.new }
     {
         self.len = Self::append(&mut self.branch, change.cut, change.adds);
@@ -304,7 +317,8 @@ impl Tree {
         requires room { (kept + begun_count begun ≤ max_waiting) × MayBegin cut begun }
         requires bounded { (i : ℕ) → get_or literals.now i 0 < code_limit }
         ensures count { result ≡ kept + begun_count begun }
-        ensures after { take result waiting.new ≡ take kept waiting.old ++ reverse (begun_of literals.now cut begun) }
+        ensures after { take result waiting.new
+            ≡ take kept waiting.old ++ reverse (begun_of literals.now cut begun) }
     {
         match begun {
             Begun::Nothing => kept,

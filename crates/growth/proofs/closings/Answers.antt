@@ -21,5 +21,10 @@ unfolding rules rule_names
 returns c =
     elim c.match-matches.branch [
       | in-Cls w ↦ rw (c.from.ensures, w.matches-is, closes w.in-Cls.is)
-      | in_default w ↦ rw (c.from.ensures, w.matches-is, not_closing c.args.rule (w.in_default.not-Cls, (w.in_default.not-Emp, (w.in_default.not-Bck, tt))))
+      | in_default w ↦ rw (
+        c.from.ensures,
+        w.matches-is,
+        not_closing c.args.rule
+            (w.in_default.not-Cls, (w.in_default.not-Emp, (w.in_default.not-Bck, tt))),
+      )
     ]

@@ -12,10 +12,15 @@ pub overflow_sub-result : goal.overflow_sub-result
 overflow_sub-result c = omega (arith, on (goal.at.overflow_sub-result c).Start)
 
 pub offset_bounds-branch-place : goal.offset_bounds-branch-place
-offset_bounds-branch-place c = omega (arith, on (goal.at.offset_bounds-branch-place c).Start, c.requires.0.room)
+offset_bounds-branch-place c =
+    omega (arith, on (goal.at.offset_bounds-branch-place c).Start, c.requires.0.room)
 
 pub bounds-branch-place : goal.bounds-branch-place
 bounds-branch-place c = omega (arith, on (goal.at.bounds-branch-place c).Start)
 
 pub returns : goal.returns
-returns c = record { bounded = c.requires.0.bounded _; literal = λ f. at_place f _ _ (on (goal.at.returns c).Start) }
+returns c =
+    record {
+      bounded = c.requires.0.bounded _;
+      literal = λ f. at_place f _ _ (on (goal.at.returns c).Start);
+    }

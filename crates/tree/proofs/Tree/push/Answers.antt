@@ -15,7 +15,16 @@ loop-i-preserved c =
     record {
       from = omega arith;
       stored = omega arith;
-      waiting = rw (take_more_set, v.waiting, c.pack.ensures, c.one.ensures.1, each_more c.args.literals.now c.args.cut i (i - 1) (end - i) (end - (i - 1)) (omega arith) (omega arith), append_assoc);
+      waiting =
+          rw (
+            take_more_set,
+            v.waiting,
+            c.pack.ensures,
+            c.one.ensures.1,
+            each_more c.args.literals.now c.args.cut i (i - 1) (end - i) (end - (i - 1)) (omega arith)
+                (omega arith),
+            append_assoc,
+          );
     }
 
 pub returns-after-loop-i-clause-count : goal.returns-after-loop-i-clause-count
@@ -25,5 +34,6 @@ pub returns-after-loop-i-clause-after : goal.returns-after-loop-i-clause-after
 returns-after-loop-i-clause-after c =
     let v = c.loop-i.invariant in
     let i : c.loop-i.i ≡ c.in-Each.span.from = omega arith in
-    let n : c.in-Each.span.from + c.in-Each.span.count - c.in-Each.span.from ≡ c.in-Each.span.count = omega arith in
+    let n : c.in-Each.span.from + c.in-Each.span.count - c.in-Each.span.from
+    ≡ c.in-Each.span.count = omega arith in
     rw c.in-Each.is (rw (i, n) at v.waiting)
