@@ -10,7 +10,7 @@ use borrow.Author.Tests.{leb-true}
 use Rattle.tableau.specs.declared.Reason.{Reason}
 use Rattle.tableau.specs.File.{max_digits, max_bytes, split, LF}
 use Rattle.tableau.specs.Meaning.{FiniteHeap, Values}
-use Rattle.tableau.specs.Reply.{number_bytes, reply}
+use Rattle.tableau.specs.Reply.{number_bytes}
 use Rattle.tableau.proofs.Counts.{reason_not_0}
 use Rattle.tableau.proofs.Decimals.{numbers_told}
 use Rattle.tableau.proofs.Pieces.{few_pieces}

@@ -60,7 +60,8 @@ fn check_word(
     sizes: Sizes,
 ) -> Result<StoredFact, Reason>
     requires { SmallNumbers (numbers_of f) × SizesFit (sizes_of sizes) }
-    ensures { (g : Facts) → FactsHeld g facts.now → sizesGiven g ≡ sizes_of sizes → WordDone g f word result }
+    ensures { (g : Facts) → FactsHeld g facts.now → sizesGiven g ≡ sizes_of sizes
+        → WordDone g f word result }
 {
     if !unused_zero(word, f) {
         return Err(Reason::UnusedField);
@@ -78,7 +79,8 @@ fn check_word(
 // Checks 2, 3 and 4, then those above.
 pub fn check_fact(f: LineFields, facts: &[StoredFact], sizes: Sizes) -> Result<StoredFact, Reason>
     requires { SmallNumbers (numbers_of f) × SizesFit (sizes_of sizes) }
-    ensures { (g : Facts) → FactsHeld g facts.now → sizesGiven g ≡ sizes_of sizes → FactDone g f result }
+    ensures { (g : Facts) → FactsHeld g facts.now → sizesGiven g ≡ sizes_of sizes
+        → FactDone g f result }
 {
     if f.letter != b'D' {
         return Err(Reason::BadShape);

@@ -1,4 +1,5 @@
-// The lines of a heap file, each kept as two numbers: a key, which its word and its subject make, and the value that it gives.
+// The lines of a heap file, each kept as two numbers: a key, which its word and its subject make,
+// and the value that it gives.
 #![tactic(auto)]
 
 pub mod checks;

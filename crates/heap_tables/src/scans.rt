@@ -1,4 +1,5 @@
-// Scans over the keys of all lines for those that are base + p * 2 ^ shift, with one subtraction and two shifts for a key.
+// Scans over the keys of all lines for those that are base + p * 2 ^ shift, with one subtraction
+// and two shifts for a key.
 ghost use Rattle.std.specs.Prelude.{length};
 ghost use Rattle.heap_tables.specs.Scans.{Scannable, IsPlace, IsMembers, IsScattered};
 
@@ -33,7 +34,8 @@ pub fn members(facts: &[StoredFact], base: u64, shift: u32) -> u64
     out
 }
 
-// Byte p becomes the value of the first line whose key is base + p * 2 ^ shift, 0 where there is none.
+// Byte p becomes the value of the first line whose key is base + p * 2 ^ shift, 0 where there is
+// none.
 pub fn scatter(facts: &[StoredFact], base: u64, shift: u32, out: &mut [u8])
     requires { Scannable base shift (length out.old) }
     ensures { IsScattered facts.now base shift out.old out.new }

@@ -1,4 +1,5 @@
-// Regions as numbers of 64 bits, heap values as rows of 1,024 bytes: what a heap gives for the field f of the reference x stands at 16 x + f.
+// Regions as numbers of 64 bits, heap values as rows of 1,024 bytes: what a heap gives for the
+// field f of the reference x stands at 16 x + f.
 #![tactic(auto)]
 
 ghost use Rattle.std.specs.Prelude.{◌≡◌, ◌<◌, length};
@@ -10,8 +11,8 @@ ghost use Rattle.regions.specs.Masks.{row_length, one_bit, reached_below, image_
 // The bytes of a row.
 pub const ROW: usize = 1024;
 
-// A heap that was read: the references in `all`, the classes of references and fields, for each field the references that may have it, for
-// each class the classes above it.
+// A heap that was read: the references in `all`, the classes of references and fields, for each
+// field the references that may have it, for each class the classes above it.
 #[derive(Clone, Copy)]
 pub struct HeapTables {
     pub all: u64,
@@ -43,7 +44,8 @@ fn reached(row: &[u8], members: u64, field: usize) -> u64
     out
 }
 
-// `img`: what a heap value gives for the field of those members that have it, as far as it is allocated.
+// `img`: what a heap value gives for the field of those members that have it, as far as it is
+// allocated.
 pub fn image(row: &[u8], region: u64, having: u64, field: usize, all: u64) -> u64
     requires { (length row.now ≡ row_length) × (field < 16) }
     ensures { result ≡ image_mask row.now region having field all }

@@ -16,8 +16,8 @@ pub mod operations;
 // A row for each of the numbers 0 to 600.
 pub const ROWS: usize = 615424;
 
-// numbers[t] is the number of the term t: that of a reference, a field or a class, or a region's mask. Where t is a heap value, its row
-// stands at t * ROW.
+// numbers[t] is the number of the term t: that of a reference, a field or a class, or a region's
+// mask. Where t is a heap value, its row stands at t * ROW.
 #[derive(Drop)]
 pub struct TermValues {
     pub numbers: [u64; NUMBERS],

@@ -20,7 +20,8 @@ impl TermValues {
     // `in`
     fn is_member(&self, m: TermNumber, n: TermNumber) -> bool
         requires { Small m.0 × Small n.0 }
-        ensures { result ≡ bit_at (number_at self.now.numbers n.0) (number_at self.now.numbers m.0 % 64) }
+        ensures { result ≡ bit_at (number_at self.now.numbers n.0)
+            (number_at self.now.numbers m.0 % 64) }
     {
         has(self.number(n), self.number(m) % 64)
     }
@@ -28,7 +29,8 @@ impl TermValues {
     // `le`
     fn is_under(&self, tables: &HeapTables, m: TermNumber, n: TermNumber) -> bool
         requires { Small m.0 × Small n.0 }
-        ensures { result ≡ bit_at (get_or tables.now.under (number_at self.now.numbers m.0 % 16) 0)
+        ensures { result
+            ≡ bit_at (get_or tables.now.under (number_at self.now.numbers m.0 % 16) 0)
             (number_at self.now.numbers n.0 % 64) }
     {
         let class = (self.number(m) % 16) as usize;
@@ -39,7 +41,8 @@ impl TermValues {
     fn is_equal(&self, terms: &[u64; NUMBERS], m: TermNumber, n: TermNumber) -> bool
         requires entries { (table : Table) × Entries table terms.now }
         requires m_le_max_terms { (m.0 ≤ max_terms) × (n.0 ≤ max_terms) }
-        ensures { (table : Table) → Entries table terms.now → result ≡ same_shown (sort_of (at table m.0))
+        ensures { (table : Table) → Entries table terms.now
+            → result ≡ same_shown (sort_of (at table m.0))
             (number_at self.now.numbers m.0) (number_at self.now.numbers n.0)
             (row_of self.now.rows m.0) (row_of self.now.rows n.0) }
     {
@@ -52,9 +55,10 @@ impl TermValues {
 
     fn test(&self, literal: LiteralView, terms: &[u64; NUMBERS], tables: &HeapTables) -> bool
         requires entries { (table : Table) × Entries table terms.now }
-        requires literal_bound { (left_of literal ≤ max_terms) × (right_of literal ≤ max_terms) }
+        requires sides { (left_of literal ≤ max_terms) × (right_of literal ≤ max_terms) }
         ensures { (table : Table) → Entries table terms.now
-            → result ≡ literal_test tables.now table self.now.numbers self.now.rows (literal_of literal) }
+            → result
+            ≡ literal_test tables.now table self.now.numbers self.now.rows (literal_of literal) }
     {
         match literal {
             LiteralView::In(m, n) => self.is_member(m, n),
@@ -68,9 +72,12 @@ impl TermValues {
 
     // Is a packed literal true?
     pub fn is_true(&self, code: u32, terms: &[u64; NUMBERS], tables: &HeapTables) -> bool
-        requires { (table : Table) × Entries table terms.now × IsAssumption table (unpack_literal code) }
-        ensures { (H : FiniteHeap) (ρ : Values H) (table : Table) → Entries table terms.now → IsAssumption table (unpack_literal code)
-            → Evaluable H ρ table tables.now self.now.numbers self.now.rows → result ≡ is_true ρ (at table) (unpack_literal code) }
+        requires { (table : Table) × Entries table terms.now
+            × IsAssumption table (unpack_literal code) }
+        ensures { (H : FiniteHeap) (ρ : Values H) (table : Table) → Entries table terms.now
+            → IsAssumption table (unpack_literal code)
+            → Evaluable H ρ table tables.now self.now.numbers self.now.rows
+            → result ≡ is_true ρ (at table) (unpack_literal code) }
     {
         self.test(packing::literals::view(code), terms, tables)
     }

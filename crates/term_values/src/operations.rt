@@ -9,7 +9,8 @@ use packing::TermView;
 use regions::{HeapTables, ROW, difference, image, intersection, single, union};
 use tableau::TermNumber;
 
-// The place of a field of a reference in a row. Numbers are read modulo the sizes of a heap, so that none needs a test before it is an index.
+// The place of a field of a reference in a row. Numbers are read modulo the sizes of a heap, so
+// that none needs a test before it is an index.
 fn place(x: u64, f: u64) -> usize
     ensures { (result ≡ place (x % 64) (f % 16)) × (result < row_length) }
 {
@@ -74,7 +75,8 @@ impl TermValues {
     // The number and the row of the operation t. Of a variable nothing is known here.
     pub fn operation(&mut self, view: TermView, tables: &HeapTables, t: TermNumber)
         requires { AllBelow t.0 (view_arguments view) × (t.0 ≤ max_terms) }
-        ensures { Computed tables.now view self.old.numbers self.old.rows self.new.numbers self.new.rows t.0 }
+        ensures { Computed tables.now view self.old.numbers self.old.rows
+            self.new.numbers self.new.rows t.0 }
     {
         let number = self.operation_number(view, tables);
         // `wri` alone has a row

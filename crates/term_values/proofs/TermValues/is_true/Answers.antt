@@ -3,8 +3,8 @@ use Rattle.packing.proofs.PackingLaws.{literal_of_view}
 use Rattle.term_values.proofs.LiteralLaws.{assumption_sides, test_true}
 use Rattle.term_values.proofs.TermValues.is_true.Goals as goal
 
-pub test-requires-clause-literal_bound : goal.test-requires-clause-literal_bound
-test-requires-clause-literal_bound c = let p = c.requires in assumption_sides p.0 _ p.1 _ p.2 _ c.view.ensures
+pub test-requires-clause-sides : goal.test-requires-clause-sides
+test-requires-clause-sides c = let p = c.requires in assumption_sides p.0 _ p.1 _ p.2 _ c.view.ensures
 
 pub returns : goal.returns
 returns c =
