@@ -2,11 +2,10 @@
 use mathlib.Core.Path.{◌≡◌, refl, ap}
 use mathlib.Core.List.{List}
 use Rattle.std.specs.Prelude.{Option, None, Some, Result, Ok, Err}
-use Rattle.std.proofs.lemmas.Result.{IfOk-at_ok}
 use Prim.Native.Nat.{ℕ}
 use Rattle.tableau.specs.declared.Reason.{Reason}
 use Rattle.tableau.specs.Terms.{TermNo, Table, number_of}
-use Rattle.packing.specs.Packing.{Small, number}
+use Rattle.packing.specs.Packing.{number}
 use Rattle.rules.specs.Answer.{SearchableBy}
 use Rattle.heap_rules.specs.declared.images.Access.{Access}
 use Rattle.heap_rules.specs.Accesses.{Accesses, access_of, typ, dty, rea}
@@ -28,17 +27,14 @@ first (Some m) None o e q f g h = g m (cc) refl refl
 first (Some m) (Some n) None e q f g h = h m n (cc) refl refl refl
 first (Some m) (Some n) (Some o) e q f g h = f (cc) (cc)
 
-module _ {terms chains : List ℕ} {h u f : TermNo} {r : Result Access Reason} (A : Accesses terms chains h u f r) where
-  pub access_small : {a : Access} → r ≡ Ok a → Small a.class.0 × Small a.owner.0 × Small a.value.0
-  access_small q = IfOk-at_ok (λ a. Small a.class.0 × Small a.owner.0 × Small a.value.0) q A.small
+module _ {terms chains : List ℕ} {h u f : TermNo} {r : Result Access Reason} (A : Accesses terms chains h u f r) {table : Table}
+    (s : SearchableBy terms chains table) where
+  pub all_made : {a : Access} → r ≡ Ok a
+      → (number_of table (typ u) ≡ Some a.class.0) × (number_of table (dty f) ≡ Some a.owner.0) × (number_of table (rea h u f) ≡ Some a.value.0)
+  all_made q = all (number_of table (typ u)) (number_of table (dty f)) (number_of table (rea h u f)) (A.is table s) q
 
-  module _ {table : Table} (s : SearchableBy terms chains table) where
-    pub all_made : {a : Access} → r ≡ Ok a
-        → (number_of table (typ u) ≡ Some a.class.0) × (number_of table (dty f) ≡ Some a.owner.0) × (number_of table (rea h u f) ≡ Some a.value.0)
-    all_made q = all (number_of table (typ u)) (number_of table (dty f)) (number_of table (rea h u f)) (A.is table s) q
-
-    -- by the first that is missing
-    pub one_missing : {X : Type 0} {d : Reason} → r ≡ Err d → (d ≡ Reason.TermNotMade → number_of table (typ u) ≡ None → X)
-        → ((c : TermNo) → d ≡ Reason.TermNotMade → number_of table (typ u) ≡ Some c → number_of table (dty f) ≡ None → X)
-        → ((c k : TermNo) → d ≡ Reason.TermNotMade → number_of table (typ u) ≡ Some c → number_of table (dty f) ≡ Some k → number_of table (rea h u f) ≡ None → X) → X
-    one_missing q x y z = first (number_of table (typ u)) (number_of table (dty f)) (number_of table (rea h u f)) (A.is table s) q x y z
+  -- by the first that is missing
+  pub one_missing : {X : Type 0} {d : Reason} → r ≡ Err d → (d ≡ Reason.TermNotMade → number_of table (typ u) ≡ None → X)
+      → ((c : TermNo) → d ≡ Reason.TermNotMade → number_of table (typ u) ≡ Some c → number_of table (dty f) ≡ None → X)
+      → ((c k : TermNo) → d ≡ Reason.TermNotMade → number_of table (typ u) ≡ Some c → number_of table (dty f) ≡ Some k → number_of table (rea h u f) ≡ None → X) → X
+  one_missing q x y z = first (number_of table (typ u)) (number_of table (dty f)) (number_of table (rea h u f)) (A.is table s) q x y z

@@ -1,5 +1,6 @@
 -- When it matters whether w is fresh, and when whether the branch contradicts itself.
 use mathlib.Core.Path.{◌≡◌, refl, ◌∙◌, ap}
+use mathlib.Core.Logic.{◌⊎◌, inl, inr}
 use mathlib.Core.Bool.{Bool, true, false, ◌&&◌, not, cond, false≢true}
 use mathlib.Core.List.{List, [], ◌∷◌}
 use Rattle.std.specs.Prelude.{Option, None, Some}
@@ -20,6 +21,7 @@ use Rattle.tableau.specs.Tree.{Checked, ◌>>=◌, ◌>>◌, require_some, requi
 use Rattle.tableau.proofs.Bools.{both_false}
 use Rattle.tableau.proofs.Places.{rules, NoneOf, other_rule}
 use Rattle.syntax.specs.declared.Step.{Step}
+use Rattle.conclusions.specs.declared.Told.{Told}
 use Rattle.conclusions.specs.Infers.{background_kind, is_background}
 use Rattle.conclusions.proofs.Laws.{same_whatever}
 use Rattle.steps.specs.Asking.{any_fresh, fresh_kind, asks_fresh, asks_branch, Tells}
@@ -95,26 +97,29 @@ background_unasked replacement h = refl
 background_unasked disjunction h = refl
 background_unasked background h = refl
 
--- WHAT ANSWERS TELL: any two tell a rule that does not ask the same; `bck` is told by whether the branch contradicts itself, another rule by whether w is fresh
-module _ (table : Table) (C : Clauses) (B : List Literal) (s : Step) (f : Freshness) (E : Bool) where
-  pub tells_any : asks_branch s.rule ≡ false → Tells table C B s f E
-  tells_any h P Q D t =
-      let b = both_false (asks_fresh s.rule) (is_background s.rule) h in
-      unasked_answer table P Q D _ t _ s.rule b.0 f _ ∙ same_whatever table P Q D E _ t _ _ s.rule b.1
-
-  pub tells_contradiction : is_background s.rule ≡ true → E ≡ contradicted table B → Tells table C B s f E
-  tells_contradiction b e P Q D t = unasked_answer table P Q D _ t _ s.rule (background_unasked (rule s.rule) b) f _
-      ∙ ap (λ (v : Bool). answer table (freshness table C B s.w.0) P Q D v t s.w.0 s.rule) e
-
-  pub tells_fresh : is_background s.rule ≡ false → f ≡ freshness table C B s.w.0 → Tells table C B s f E
-  tells_fresh b e P Q D t = same_whatever table P Q D E _ t _ _ s.rule b
-      ∙ ap (λ (v : Freshness). answer table v P Q D (contradicted table B) t s.w.0 s.rule) e
-
 -- THE RULES THAT ASK are `ext`, `wit` and `bck`
-pub others_unasked : (x : Rule) → NoneOf x (Rule.Ext ∷ Rule.Wit ∷ Rule.Bck ∷ []) → asks_branch x ≡ false
+others_unasked : (x : Rule) → NoneOf x (Rule.Ext ∷ Rule.Wit ∷ Rule.Bck ∷ []) → asks_branch x ≡ false
 unfolding rules rule_names rule any_fresh
 others_unasked x o = not-true _ (other_rule (λ y. not (asks_branch y)) (Rule.Ext ∷ Rule.Wit ∷ Rule.Bck ∷ []) refl x o)
 
-pub others_not_background : (x : Rule) → NoneOf x (Rule.Bck ∷ []) → is_background x ≡ false
-unfolding rules rule_names rule
-others_not_background x o = not-true _ (other_rule (λ y. not (is_background y)) (Rule.Bck ∷ []) refl x o)
+fresh_no_background : {x : Rule} → (x ≡ Rule.Ext) ⊎ (x ≡ Rule.Wit) → is_background x ≡ false
+unfolding rule
+fresh_no_background (inl e) = ap is_background e
+fresh_no_background (inr e) = ap is_background e
+
+-- WHAT ANSWERS TELL: any two tell a rule that does not ask the same; `bck` is told by whether the branch contradicts itself, `ext` and `wit` by whether w is fresh
+module _ (table : Table) (C : Clauses) (B : List Literal) (s : Step) (o : Told) where
+  pub tells_any : NoneOf s.rule (Rule.Ext ∷ Rule.Wit ∷ Rule.Bck ∷ []) → Tells table C B s o
+  tells_any h P Q D t =
+      let b = both_false (asks_fresh s.rule) (is_background s.rule) (others_unasked s.rule h) in
+      unasked_answer table P Q D _ t _ s.rule b.0 o.fresh _ ∙ same_whatever table P Q D o.contradicted _ t _ _ s.rule b.1
+
+  pub tells_contradiction : s.rule ≡ Rule.Bck → o.contradicted ≡ contradicted table B → Tells table C B s o
+  unfolding rule
+  tells_contradiction b e P Q D t =
+      unasked_answer table P Q D _ t _ s.rule (background_unasked (rule s.rule) (ap is_background b)) o.fresh _
+      ∙ ap (λ (v : Bool). answer table (freshness table C B s.w.0) P Q D v t s.w.0 s.rule) e
+
+  pub tells_fresh : (s.rule ≡ Rule.Ext) ⊎ (s.rule ≡ Rule.Wit) → o.fresh ≡ freshness table C B s.w.0 → Tells table C B s o
+  tells_fresh r e P Q D t = same_whatever table P Q D o.contradicted _ t _ _ s.rule (fresh_no_background r)
+      ∙ ap (λ (v : Freshness). answer table v P Q D (contradicted table B) t s.w.0 s.rule) e

@@ -25,9 +25,6 @@ use Rattle.syntax.specs.declared.Step.{Step}
 use Rattle.syntax.specs.declared.ThirdField as declared
 use Rattle.syntax.specs.Syntax.{kind_of, third_in, step_fields}
 use Rattle.clauses.proofs.Laws.{is_clause_lem}
-use Rattle.rules.specs.declared.outcome.Outcome.{Outcome}
-use Rattle.steps.specs.declared.inferring.Inference.{Inference}
-use Rattle.steps.specs.Inference.{inferred_in, named_up_to, RoomFor}
 use Rattle.steps.proofs.CheckLaws.{and-true}
 
 -- the rules that look at a clause
@@ -49,19 +46,19 @@ module _ (table : Table) (P Q : Option Literal) (t w : ℕ) (D : List Literal) (
   same_conclusion background h = refl
 
 -- a rule that is not `cla`, whose t is a clause's number
-pub no_clause_asked : (table : Table) (fresh : Freshness) (P Q : Option Literal) (D : List Literal) (E : Bool) (t w : ℕ) (x : Rule) → kind_of (rule_fields x).t < 2
-    → answer table fresh P Q D E t w x ≡ answer table fresh P Q [] E t w x
+pub no_clause_asked : (table : Table) (f : Freshness) (P Q : Option Literal) (D : List Literal) (E : Bool) (t w : ℕ) (x : Rule) → kind_of (rule_fields x).t < 2
+    → answer table f P Q D E t w x ≡ answer table f P Q [] E t w x
 unfolding answer rules rule_names rule_fields rule
-no_clause_asked table fresh P Q D E t w x h =
+no_clause_asked table f P Q D E t w x h =
     let e = every_rule (λ y. eqb (kind_of (rule_fields y).t) 2 || not (looks_at_clause (rule y))) refl x in
     let n = not-true _ (rw (ne_eqb (kind_of (rule_fields x).t) 2 (λ z. omega arith)) at e) in
     rw (same_conclusion table P Q t w D E (rule x) n)
 
 -- `cla` adds the literals of its clause
-pub cla_answer : (table : Table) (C : Clauses) (s : Step) {k : ClauseNumber} (fresh : Freshness) (P Q : Option Literal) (E : Bool) (w : ℕ) → s.rule ≡ Rule.Cla → s.t ≡ declared.ThirdField.Clause k
-    → answer table fresh P Q (clause_of C (third_in s.t)) E (third_in s.t) w s.rule ≡ passed (map (λ l. l ∷ []) (clause_of C k.0))
+pub cla_answer : (table : Table) (C : Clauses) (s : Step) {k : ClauseNumber} (f : Freshness) (P Q : Option Literal) (E : Bool) (w : ℕ) → s.rule ≡ Rule.Cla → s.t ≡ declared.ThirdField.Clause k
+    → answer table f P Q (clause_of C (third_in s.t)) E (third_in s.t) w s.rule ≡ passed (map (λ l. l ∷ []) (clause_of C k.0))
 unfolding answer conclude rule
-cla_answer table C s fresh P Q E w e q = rw (e, q)
+cla_answer table C s f P Q E w e q = rw (e, q)
 
 -- CHECK 11 of `cla`
 cla_there : (C : Clauses) (B : List Literal) (s : Step) {k : ClauseNumber} → s.rule ≡ Rule.Cla → s.t ≡ declared.ThirdField.Clause k
@@ -69,23 +66,6 @@ cla_there : (C : Clauses) (B : List Literal) (s : Step) {k : ClauseNumber} → s
 unfolding rule_fields
 cla_there C B s {k} e q = rw (e, q) (and-true (is_clause C k.0))
 
-pub cla_alternatives : (table : Table) (C : Clauses) (B : List Literal) (s : Step) {k : ClauseNumber} {last : ℕ} → s.rule ≡ Rule.Cla → s.t ≡ declared.ThirdField.Clause k
-    → InSequence C → last_clause C ≡ last → inferred_in C (named_up_to last k) ≡ alternatives table C B s.rule (step_fields s)
-unfolding alternatives
-cla_alternatives table C B s {k} {last} e q h l = go (leb 1 k.0 && leb k.0 last) refl
-  where
-    there : every (is_there C B) (rule_uses s.rule) (step_fields s) ≡ (leb 1 k.0 && leb k.0 last)
-    there = cla_there C B s e q ∙ is_clause_lem C k.0 h ∙ ap (λ n. leb 1 k.0 && leb k.0 n) l
-
-    go : (b : Bool) → (leb 1 k.0 && leb k.0 last) ≡ b → inferred_in C (named_up_to last k) ≡ alternatives table C B s.rule (step_fields s)
-    go true p = rw (p, there ∙ p) (sym (cla_answer table C s _ _ _ _ _ e q))
-    go false p = rw (p, there ∙ p)
-
--- a clause that is named is one of those up to the last
-pub named_room : (last : ℕ) (k : ClauseNumber) → RoomFor last (named_up_to last k)
-named_room last k = go (leb 1 k.0) (leb k.0 last) refl refl
-  where
-    go : (a b : Bool) → leb 1 k.0 ≡ a → leb k.0 last ≡ b → RoomFor last (cond (a && b) (Inference.ByClause k) (Inference.ByRule (Outcome.Refused Reason.NoSuchPlace)))
-    go true true p q = (leb-true 1 k.0 p, leb-true k.0 last q)
-    go true false p q = tt
-    go false b p q = tt
+pub clause_there : (C : Clauses) (B : List Literal) (s : Step) {k : ClauseNumber} {last : ℕ} → s.rule ≡ Rule.Cla → s.t ≡ declared.ThirdField.Clause k
+    → InSequence C → last_clause C ≡ last → every (is_there C B) (rule_uses s.rule) (step_fields s) ≡ (leb 1 k.0 && leb k.0 last)
+clause_there C B s {k} e q h l = cla_there C B s e q ∙ is_clause_lem C k.0 h ∙ ap (λ n. leb 1 k.0 && leb k.0 n) l

@@ -1,7 +1,6 @@
 -- What is known of a step after check 8, and what it asks of the whole branch.
-use Rattle.std.specs.Prelude.{◌≡◌, Bool, true, false, ◌||◌, List, [], ◌∷◌, ℕ}
+use Rattle.std.specs.Prelude.{◌≡◌, Bool, true, false, ◌||◌, List, [], ◌∷◌, map, ℕ}
 use Rattle.std.specs.Prelude.{Option}
-use Rattle.tableau.specs.declared.Freshness.{Freshness}
 use Rattle.tableau.specs.declared.Rule.{Rule}
 use Rattle.tableau.specs.Fields.{rule_uses}
 use Rattle.tableau.specs.Terms.{Table, Literal, Clauses}
@@ -13,10 +12,11 @@ use Rattle.tableau.specs.Reply.{term_or_name}
 use Rattle.tableau.specs.Basics.{every}
 use Rattle.syntax.specs.declared.Step.{Step}
 use Rattle.syntax.specs.Syntax.{step_fields}
+use Rattle.packing.specs.Packing.{unpack_literal}
 use Rattle.freshness.specs.Prefixes.{PrefixRows}
+use Rattle.conclusions.specs.declared.Told.{Told}
 use Rattle.conclusions.specs.Infers.{is_background}
 use Rattle.steps.specs.declared.asking.Asked.{Asked}
-use Rattle.tree.specs.State.{branch_of}
 
 -- check 8 has passed
 abbrev pub TermsNamed : Table → Step → Type 0
@@ -41,12 +41,12 @@ asks_fresh x = fresh_kind (rule x)
 abbrev pub asks_branch : Rule → Bool
 asks_branch x = asks_fresh x || is_background x
 
--- with these answers the step's rule answers as it does with the freshness of its w and with whether the branch contradicts itself
-abbrev pub Tells : Table → Clauses → List Literal → Step → Freshness → Bool → Type 0
-Tells table C B s f E = (P Q : Option Literal) (D : List Literal) (t : ℕ)
-    → answer table f P Q D E t s.w.0 s.rule ≡ answer table (freshness table C B s.w.0) P Q D (contradicted table B) t s.w.0 s.rule
+-- told this, the step's rule answers as it does with the freshness of its w and with whether the branch contradicts itself
+abbrev pub Tells : Table → Clauses → List Literal → Step → Told → Type 0
+Tells table C B s o = (P Q : Option Literal) (D : List Literal) (t : ℕ)
+    → answer table o.fresh P Q D o.contradicted t s.w.0 s.rule ≡ answer table (freshness table C B s.w.0) P Q D (contradicted table B) t s.w.0 s.rule
 
--- what the answers tell, and the rows after them
-pub record Told (table : Table) (C : Clauses) (codes : List ℕ) (len : ℕ) (s : Step) (prefix : List ℕ) (r : Asked) : Type 0 where
-  pub tells : Tells table C (branch_of codes len) s r.fresh r.contradicted
+-- what the step is told, and the rows after it
+pub record Answers (table : Table) (C : Clauses) (codes : List ℕ) (s : Step) (prefix : List ℕ) (r : Asked) : Type 0 where
+  pub tells : Tells table C (map unpack_literal codes) s r.told
   pub rows : PrefixRows table C codes prefix r.noted

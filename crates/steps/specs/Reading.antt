@@ -1,12 +1,11 @@
 -- What the code reads off the branch.
-use Rattle.std.specs.Prelude.{◌≡◌, List, ℕ, ◌≤◌}
+use Rattle.std.specs.Prelude.{◌≡◌, List, map, ℕ, ◌≤◌}
 use Rattle.std.specs.Prelude.{Some}
 use Rattle.tableau.specs.Tree.{literal_at}
 use Rattle.packing.specs.declared.LiteralView.{LiteralView}
-use Rattle.packing.specs.Packing.{literal_of, SmallLiteral}
-use Rattle.tree.specs.State.{branch_of}
+use Rattle.packing.specs.Packing.{literal_of, unpack_literal, SmallLiteral}
 
 -- r is the literal at the place, if there is one
-pub record ReadAt (array : List ℕ) (n place : ℕ) (r : LiteralView) : Type 0 where
+pub record ReadAt (codes : List ℕ) (place : ℕ) (r : LiteralView) : Type 0 where
   pub small : SmallLiteral r
-  pub is : 1 ≤ place → literal_at (branch_of array n) place ≡ Some (literal_of r)
+  pub is : 1 ≤ place → literal_at (map unpack_literal codes) place ≡ Some (literal_of r)

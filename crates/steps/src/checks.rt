@@ -13,15 +13,15 @@ ghost use Rattle.steps.specs.Checks.{HasSorts};
 ghost use Rattle.steps.specs.Asking.{TermsNamed};
 
 use syntax::{Mask, Step, ThirdField};
-use tableau::{Place, Rule, Sort, TermNumber};
+use tableau::{Rule, Sort, TermNumber};
 use terms::is_term;
 use tree::Tree;
 
-// A term whose bit is not set is not asked for.
-fn made_if_used(n: usize, used: Mask, bit: u8, t: TermNumber) -> bool
-    ensures { (table : Table) → length table ≡ n → result ≡ (eqb (bit_and used.0 bit) 0 || is_term table t.0) }
+// What is said of a field, where it is used: one whose bit is not set is not asked for.
+fn if_used(used: Mask, bit: u8, holds: bool) -> bool
+    ensures { result ≡ (eqb (bit_and used.0 bit) 0 || holds) }
 {
-    used.0 & bit == 0 || is_term(n, t)
+    used.0 & bit == 0 || holds
 }
 
 // Check 8: "a term field names no term made so far". A side or a clause number names none.
@@ -29,13 +29,11 @@ pub fn terms_made(n: usize, step: Step) -> bool
     requires { WellTaken step }
     ensures { (table : Table) → length table ≡ n → result ≡ every (term_or_name table) (rule_uses step.rule) (step_fields step) }
 {
-    let used = step.used;
-    let third = step.t;
-    let w = step.w;
-    let ThirdField::Term(t) = third else {
-        return made_if_used(n, used, Mask::W, w);
+    let w_made = if_used(step.used, Mask::W, is_term(n, step.w));
+    let ThirdField::Term(t) = step.t else {
+        return w_made;
     };
-    made_if_used(n, used, Mask::T, t) && made_if_used(n, used, Mask::W, w)
+    if_used(step.used, Mask::T, is_term(n, t)) && w_made
 }
 
 // Check 9: "wrong sort in .. `cut` or `ler`".
@@ -59,20 +57,10 @@ pub fn sorts_fit(terms: &[u64; table::NUMBERS], step: Step) -> bool
     ensures { (table : Table) → Entries table terms.now
         → result ≡ every (of_sort table) (rule_uses step.rule) (step_fields step) }
 {
-    let rule = step.rule;
-    let third = step.t;
-    let w = step.w;
-    let ThirdField::Term(t) = third else {
+    let ThirdField::Term(t) = step.t else {
         return true;
     };
-    has_sorts(terms, rule, t, w)
-}
-
-// A place whose bit is not set is not asked for.
-fn there_if_used(len: usize, used: Mask, bit: u8, place: Place) -> bool
-    ensures { (B : List Literal) → length B ≡ len → result ≡ (eqb (bit_and used.0 bit) 0 || on_branch B place.0) }
-{
-    used.0 & bit == 0 || Tree::has_place(len, place)
+    has_sorts(terms, step.rule, t, step.w)
 }
 
 // Check 11 where t is no clause: "a place used is not on the branch".
@@ -80,8 +68,6 @@ pub fn places_there(len: usize, step: Step) -> bool
     requires { WellTaken step × NoClause step.t }
     ensures { (C : Clauses) (B : List Literal) → length B ≡ len → result ≡ every (is_there C B) (rule_uses step.rule) (step_fields step) }
 {
-    let used = step.used;
-    let p = step.p;
-    let q = step.q;
-    there_if_used(len, used, Mask::P, p) && there_if_used(len, used, Mask::Q, q)
+    if_used(step.used, Mask::P, Tree::has_place(len, step.p))
+        && if_used(step.used, Mask::Q, Tree::has_place(len, step.q))
 }

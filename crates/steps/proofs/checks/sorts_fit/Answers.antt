@@ -16,18 +16,3 @@ returns-in_default c =
     let x = c.args.step.rule in
     let l : 1 ≤ kind_of (rule_fields x).t = omega (arith, c.requires.well_taken.third, no_term_lem c.args.step.t c.in_default.not-Term) in
     sym (nine table x (step_fields c.args.step) ∙ unsorted_unless_term table x _ _ l)
-
-pub has_sorts-requires : goal.has_sorts-requires
-has_sorts-requires c =
-    let x = c.args.step.rule in
-    let p = c.requires.entries in
-    let g = step_given p.0 p.1.few c.args.step c.requires.well_taken p.2 in
-    let e = c.in-Term.is in
-    let t = third_small (rule_fields x).t _ (subst (ThirdFits (rule_fields x).t) e c.requires.well_taken.third)
-    (subst (λ (k : declared.ThirdField). ThirdGiven (rule_fields x).t (third_in k)) e g.third) in
-    record { entries = (p.0, p.1); small = (t, fourth_small (rule_fields x).w _ g.fourth) }
-
-pub returns : goal.returns
-returns c =
-    λ table E.
-    sym (nine table c.args.step.rule (step_fields c.args.step) ∙ rw c.in-Term.is (sym (c.has_sorts.ensures table E)))
