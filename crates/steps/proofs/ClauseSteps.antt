@@ -1,15 +1,14 @@
 -- Which steps look at a clause: those of `cla` alone, and what they add.
-use mathlib.Core.Path.{◌≡◌, refl, sym, ◌∙◌, ap}
-use mathlib.Core.Bool.{Bool, true, false, not, ◌&&◌, ◌||◌, cond}
+use mathlib.Core.Path.{◌≡◌, refl, ◌∙◌, ap}
+use mathlib.Core.Bool.{Bool, true, false, not, ◌&&◌, ◌||◌}
 use mathlib.Core.List.{List, [], ◌∷◌, map}
 use Rattle.std.specs.Prelude.{Option}
 use Prim.Native.Nat.{ℕ, ◌<◌}
 use native.Mathlib.Omega.{arith}
 use lib.Dec.{eqb, leb}
-use borrow.Author.Tests.{leb-true, ne_eqb, not-true}
+use borrow.Author.Tests.{ne_eqb, not-true}
 use Rattle.tableau.specs.declared.Freshness.{Freshness}
 use Rattle.tableau.specs.declared.ClauseNumber.{ClauseNumber}
-use Rattle.tableau.specs.declared.Reason.{Reason}
 use Rattle.tableau.specs.declared.Rule.{Rule}
 use Rattle.tableau.specs.Basics.{every}
 use Rattle.tableau.specs.Fields.{rule_fields, rule_uses}
@@ -17,7 +16,7 @@ use Rattle.tableau.specs.Words.{rule_names}
 use Rattle.tableau.specs.Terms.{Table, Literal, Clauses, clause_of, last_clause}
 use Rattle.tableau.specs.Rules.{Kind, rows, congruence, replacement, disjunction, background, rule}
 use Rattle.tableau.specs.Steps.{conclude}
-use Rattle.tableau.specs.Tree.{passed, is_clause, is_there, answer, alternatives}
+use Rattle.tableau.specs.Tree.{passed, is_clause, is_there, answer}
 use Rattle.tableau.proofs.Bools.{clash}
 use Rattle.tableau.proofs.ClauseLaws.{InSequence}
 use Rattle.tableau.proofs.Places.{rules, every_rule}

@@ -6,7 +6,7 @@ use Prim.Native.Nat.{ℕ, ◌≤◌}
 use native.Mathlib.Omega.{arith}
 use lib.Dec.{leb}
 use lib.ListN.{length, length-map}
-use borrow.Author.Tests.{le-leb, leb-true, eqb-true}
+use borrow.Author.Tests.{leb-true, eqb-true}
 use Rattle.tableau.specs.Fields.{PlaceField, unused, place, place_use}
 use Rattle.tableau.specs.Terms.{Clauses}
 use Rattle.tableau.specs.Tree.{literal_at, on_branch, is_there}
@@ -14,7 +14,6 @@ use Rattle.tableau.specs.Reply.{zero_if_unused}
 use Rattle.tableau.proofs.Bools.{both_true}
 use Rattle.packing.specs.declared.LiteralView.{LiteralView}
 use Rattle.packing.specs.Packing.{unpack_literal}
-use Rattle.tree.specs.State.{HasPlace}
 use Rattle.steps.specs.Reading.{ReadAt}
 use Rattle.conclusions.specs.Infers.{at_place}
 

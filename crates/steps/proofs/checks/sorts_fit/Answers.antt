@@ -1,12 +1,10 @@
 -- Check 9 speaks of t and w; a rule whose t is no term asks for no sort.
-use mathlib.Core.Path.{sym, ◌∙◌, subst}
+use mathlib.Core.Path.{sym, ◌∙◌}
 use Prim.Native.Nat.{◌≤◌}
 use native.Mathlib.Omega.{arith}
 use Rattle.tableau.specs.Fields.{rule_fields}
-use Rattle.syntax.specs.Syntax.{kind_of, step_fields, third_in, ThirdFits}
-use Rattle.syntax.specs.declared.ThirdField as declared
-use Rattle.conclusions.specs.Infers.{ThirdGiven}
-use Rattle.steps.proofs.CheckLaws.{no_term_lem, nine, step_given, third_small, fourth_small, unsorted_unless_term}
+use Rattle.syntax.specs.Syntax.{kind_of, step_fields}
+use Rattle.steps.proofs.CheckLaws.{no_term_lem, nine, unsorted_unless_term}
 use Rattle.steps.proofs.checks.sorts_fit.Goals as goal
 
 pub returns-in_default : goal.returns-in_default

@@ -20,7 +20,7 @@ use Rattle.rules.proofs.Laws.{passed_on}
 use Rattle.conclusions.proofs.Laws.{is_cla}
 use Rattle.steps.specs.Asking.{Tells}
 use Rattle.steps.proofs.Laws.{place_within, place_read}
-use Rattle.steps.proofs.CheckLaws.{no_clause, step_given}
+use Rattle.steps.proofs.CheckLaws.{no_clause}
 use Rattle.steps.proofs.ClauseSteps.{cla_answer, clause_there, no_clause_asked}
 use Rattle.steps.proofs.inferring.added.Goals as goal
 use Rattle.steps.proofs.inferring.added.Goals.{After-conclude, Else-not-places_there}
