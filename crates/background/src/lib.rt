@@ -1,5 +1,5 @@
-// `bck`: does a branch contradict its own equalities and its order of classes? Terms are put into one
-// block where it follows that they are equal, and blocks into an order, until nothing changes.
+// `bck`: does a branch contradict its own equalities and its order of classes? Terms are put into
+// one block where it follows that they are equal, and blocks into an order, until nothing changes.
 #![tactic(auto)]
 
 mod literals;
@@ -20,10 +20,10 @@ use partition::Partition;
 use table::NUMBERS;
 
 // One round: None where it joined blocks; else there are none left to join, and it says whether the
-// branch contradicts itself. The eq literals are joined in each round, though only the first finds sides
-// apart, so that a round's promise asks nothing of those before. `again` is set from the second one on:
-// most branches need no second, and the search for congruent terms would cost them more than it saves.
-// Its rows are large, and stay out of the loop over the lines.
+// branch contradicts itself. The eq literals are joined in each round, though only the first finds
+// sides apart, so that a round's promise asks nothing of those before. `again` is set from the
+// second one on: most branches need no second, and the search for congruent terms would cost them
+// more than it saves. Its rows are large, and stay out of the loop over the lines.
 #[inline(never)]
 fn round(
     blocks: &mut Partition,

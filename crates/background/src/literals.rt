@@ -7,8 +7,8 @@ use packing::LiteralView;
 use packing::literals::view;
 use partition::Partition;
 
-// Joins the sides of an eq literal; another literal says nothing of equality. Says whether they were
-// apart.
+// Joins the sides of an eq literal; another literal says nothing of equality. Says whether they
+// were apart.
 fn join_literal(blocks: &mut Partition, code: u32) -> bool
     ensures { JoinedLiteral blocks.old blocks.new (unpack_literal code) result }
 {

@@ -9,8 +9,8 @@ use packing::LiteralView;
 use packing::literals::view;
 use partition::Partition;
 
-// Joins the sides of a le literal whose right side is under its left one too. Says whether they were
-// apart.
+// Joins the sides of a le literal whose right side is under its left one too. Says whether they
+// were apart.
 fn join_mutual(blocks: &mut Partition, rows: &Rows, code: u32) -> bool
     ensures { JoinedMutual rows.now blocks.old blocks.new (unpack_literal code) result }
 {
@@ -44,7 +44,8 @@ fn denies_literal(blocks: &Partition, rows: &Rows, code: u32) -> bool
 
 // Does any literal of the branch?
 pub fn contradicts(blocks: &Partition, rows: &Rows, branch: &[u32]) -> bool
-    ensures { result ≡ list_any (λ code. denies blocks.now rows.now (unpack_literal code)) branch.now }
+    ensures { result ≡ list_any (λ code. denies blocks.now rows.now (unpack_literal code))
+        branch.now }
 {
     branch
         .iter()

@@ -1,5 +1,5 @@
-// Arrays in which a search keeps what it knows. Nothing is promised of what a search finds, so that an
-// index or a number that is too large may be cut, and needs no proof.
+// Arrays in which a search keeps what it knows. Nothing is promised of what a search finds, so that
+// an index or a number that is too large may be cut, and needs no proof.
 #![tactic(auto)]
 
 ghost use Rattle.std.specs.Prelude.{◌≡◌, ◌<◌, ◌%◌, ◌^◌, replicate, slice_index, slice_set};

@@ -51,7 +51,8 @@ impl Rows {
     ghost use Rattle.packing.specs.Packing.{unpack_literal, Small};
     ghost use Rattle.table.specs.Held.{Entries};
     ghost use Rattle.partition.specs.Blocks.{block_of};
-    ghost use Rattle.class_order.specs.Rows.{is_under, Raised, RaisedLiteral, Passed, Composed, RaisedClass, Empty, Reflexive, Filled};
+    ghost use Rattle.class_order.specs.Rows.{is_under, Raised, RaisedLiteral, Passed, Composed};
+    ghost use Rattle.class_order.specs.Rows.{RaisedClass, Empty, Reflexive, Filled};
 
     pub fn empty() -> Self
         ensures { Empty result }
@@ -147,7 +148,8 @@ impl Rows {
     fn reflexive(&mut self, blocks: &Partition, terms: &[u64; NUMBERS], n: usize)
         requires entries { (table : Table) × Entries table terms.now × (length table ≡ n) }
         requires empty { Empty self.old }
-        ensures { (table : Table) → Entries table terms.now → length table ≡ n → Reflexive table blocks.now self.new }
+        ensures { (table : Table) → Entries table terms.now → length table ≡ n
+            → Reflexive table blocks.now self.new }
     {
         for t in 1..=n {
             self.raise_class(blocks, terms[t], TermNumber(t));

@@ -1,10 +1,6 @@
 -- What two terms with one signature have in common.
-use mathlib.Core.Path.{◌≡◌, refl, sym, ◌∙◌, ap, subst}
-use mathlib.Core.Bool.{Bool, true, false, cond}
-use mathlib.Core.List.{List}
-use Prim.Native.Nat.{ℕ, ◌/◌, ◌%◌, ◌<◌, ◌≤◌}
-use native.Mathlib.Omega.{arith}
-use lib.ListN.{length, get_or}
+use Rattle.std.proofs.Common.{◌≡◌, refl, sym, ◌∙◌, ap, subst, Bool, true, false, cond, List, ℕ, ◌/◌}
+use Rattle.std.proofs.Common.{◌%◌, ◌<◌, ◌≤◌, arith, length, get_or}
 use Rattle.tableau.specs.declared.Operator.{Operator}
 use Rattle.tableau.specs.declared.Relation.{Relation}
 use Rattle.tableau.specs.Basics.{Four, four, map_four}
@@ -31,9 +27,23 @@ module _ (blocks : Partition) (p : ℕ) where
   signature_fields =
       let k : Four ℕ = map_four (block_of blocks) (fields_in p) in
       let s : ℕ = signature_of blocks p in
-      let a : s / 274877906944 % 1024 ≡ k.a = omega (arith, blocks.valid.small (fields_in p).a, blocks.valid.small (fields_in p).b, blocks.valid.small (fields_in p).c, blocks.valid.small (fields_in p).d) in
-      let b : s / 268435456 % 1024 ≡ k.b = omega (arith, blocks.valid.small (fields_in p).b, blocks.valid.small (fields_in p).c, blocks.valid.small (fields_in p).d) in
-      let c : s / 262144 % 1024 ≡ k.c = omega (arith, blocks.valid.small (fields_in p).c, blocks.valid.small (fields_in p).d) in
+      let a : s / 274877906944 % 1024 ≡ k.a =
+      omega (
+        arith,
+        blocks.valid.small (fields_in p).a,
+        blocks.valid.small (fields_in p).b,
+        blocks.valid.small (fields_in p).c,
+        blocks.valid.small (fields_in p).d,
+      ) in
+      let b : s / 268435456 % 1024 ≡ k.b =
+      omega (
+        arith,
+        blocks.valid.small (fields_in p).b,
+        blocks.valid.small (fields_in p).c,
+        blocks.valid.small (fields_in p).d,
+      ) in
+      let c : s / 262144 % 1024 ≡ k.c =
+      omega (arith, blocks.valid.small (fields_in p).c, blocks.valid.small (fields_in p).d) in
       let d : s / 256 % 1024 ≡ k.d = omega (arith, blocks.valid.small (fields_in p).d) in
       λ i. four (a i) (b i) (c i) (d i)
 
@@ -50,7 +60,8 @@ module _ (blocks : Partition) (p : ℕ) where
   pub sign_takes : takes_arguments p ≡ true → sign_of blocks p ≡ signature_of blocks p
   sign_takes h = ap (λ b. cond b (signature_of blocks p) p) h
 
-  pub sign_fields : takes_arguments p ≡ true → fields_in (sign_of blocks p) ≡ map_four (block_of blocks) (fields_in p)
+  pub sign_fields : takes_arguments p ≡ true
+      → fields_in (sign_of blocks p) ≡ map_four (block_of blocks) (fields_in p)
   sign_fields h = ap fields_in (sign_takes h) ∙ signature_fields
 
 -- FOUR PAIRS that follow to be equal
@@ -60,12 +71,14 @@ pub record AllFollow (table : Table) (B : List Literal) (k l : Four ℕ) : Type 
   pub c : Follows table B Relation.Eq k.c l.c
   pub d : Follows table B Relation.Eq k.d l.d
 
-pub blocks_follow : (table : Table) (B : List Literal) (blocks : Partition) → Sound table B blocks → (p : ℕ) → AllFollow table B (fields_in p) (map_four (block_of blocks) (fields_in p))
+pub blocks_follow : (table : Table) (B : List Literal) (blocks : Partition) → Sound table B blocks
+    → (p : ℕ) → AllFollow table B (fields_in p) (map_four (block_of blocks) (fields_in p))
 blocks_follow table B blocks C p =
     let h = fields_small p in
     record { a = C _ h.0; b = C _ h.1; c = C _ h.2; d = C _ h.3 }
 
-pub both_follow : (table : Table) (B : List Literal) (k l m : Four ℕ) → AllFollow table B k m → AllFollow table B l m → AllFollow table B k l
+pub both_follow : (table : Table) (B : List Literal) (k l m : Four ℕ) → AllFollow table B k m
+    → AllFollow table B l m → AllFollow table B k l
 both_follow table B k l m S T = record {
   a = background.trn S.a (background.sym T.a);
   b = background.trn S.b (background.sym T.b);
@@ -83,29 +96,47 @@ module _ (table : Table) (terms : List ℕ) (E : Entries table terms) where
   packed t = get_or terms t 0
 
   -- terms of one word whose arguments follow to be equal
-  pub alike_follow : (B : List Literal) (t w : TermNo) → takes_arguments (packed t) ≡ true → packed t % 256 ≡ packed w % 256
-      → AllFollow table B (fields_in (packed t)) (fields_in (packed w)) → Follows table B Relation.Eq t w
+  pub alike_follow : (B : List Literal) (t w : TermNo) → takes_arguments (packed t) ≡ true
+      → packed t % 256 ≡ packed w % 256
+      → AllFollow table B (fields_in (packed t)) (fields_in (packed w))
+      → Follows table B Relation.Eq t w
   alike_follow B t w h low S =
       let x = applied (at table t) (packed t) (packs table terms E t) h in
-      let y = applied (at table w) (packed w) (packs table terms E w) (sym (low_takes (packed t) (packed w) low) ∙ h) in
-      let same : x.0 ≡ y.0 = one_operator x.0 y.0 _ _ (packed t) (packed w) (subst (λ e. Packs e (packed t)) x.1 (packs table terms E t)) (subst (λ e. Packs e (packed w)) y.1 (packs table terms E w)) low in
-      background.sub x.1 (y.1 ∙ ap (λ (o : Operator). apply o (fields_in (packed w))) (sym same)) x.2 S.a S.b S.c S.d
+      let y = applied (at table w) (packed w) (packs table terms E w)
+      (sym (low_takes (packed t) (packed w) low) ∙ h) in
+      let same : x.0 ≡ y.0 =
+      one_operator x.0 y.0 _ _ (packed t) (packed w)
+      (subst (λ e. Packs e (packed t)) x.1 (packs table terms E t))
+      (subst (λ e. Packs e (packed w)) y.1 (packs table terms E w)) low in
+      background.sub x.1 (y.1 ∙ ap (λ (o : Operator). apply o (fields_in (packed w))) (sym same))
+      x.2 S.a S.b S.c S.d
 
   -- terms of one signature
-  pub signed_follow : (B : List Literal) (blocks : Partition) → Sound table B blocks → (t w : TermNo) → takes_arguments (packed t) ≡ true
-      → signature_of blocks (packed t) ≡ signature_of blocks (packed w) → Follows table B Relation.Eq t w
+  pub signed_follow : (B : List Literal) (blocks : Partition) → Sound table B blocks
+      → (t w : TermNo) → takes_arguments (packed t) ≡ true
+      → signature_of blocks (packed t) ≡ signature_of blocks (packed w)
+      → Follows table B Relation.Eq t w
   signed_follow B blocks C t w h e =
-      let low : packed t % 256 ≡ packed w % 256 = sym (signature_low blocks (packed t)) ∙ ap (λ v. v % 256) e ∙ signature_low blocks (packed w) in
-      let same : map_four (block_of blocks) (fields_in (packed w)) ≡ map_four (block_of blocks) (fields_in (packed t))
-      = sym (signature_fields blocks (packed w)) ∙ ap fields_in (sym e) ∙ signature_fields blocks (packed t) in
+      let low : packed t % 256 ≡ packed w % 256 = sym (signature_low blocks (packed t))
+      ∙ ap (λ v. v % 256) e ∙ signature_low blocks (packed w) in
+      let same : map_four (block_of blocks) (fields_in (packed w)) ≡ map_four (block_of blocks)
+      (fields_in (packed t))
+      = sym (signature_fields blocks (packed w)) ∙ ap fields_in (sym e)
+      ∙ signature_fields blocks (packed t) in
       alike_follow B t w h low
-      (both_follow table B (fields_in (packed t)) (fields_in (packed w)) (map_four (block_of blocks) (fields_in (packed t))) (blocks_follow table B blocks C (packed t))
-      (subst (λ v. AllFollow table B (fields_in (packed w)) v) same (blocks_follow table B blocks C (packed w))))
+      (both_follow table B (fields_in (packed t)) (fields_in (packed w))
+      (map_four (block_of blocks) (fields_in (packed t)))
+      (blocks_follow table B blocks C (packed t))
+      (subst (λ v. AllFollow table B (fields_in (packed w)) v) same
+      (blocks_follow table B blocks C (packed w))))
 
   -- such a term stands in the table
-  pub applied_in : (t : TermNo) (o : Operator) (k : Four TermNo) → at table t ≡ apply o k → takes_terms o ≡ true
-      → (0 < t) × (t ≤ length table) × (takes_arguments (packed t) ≡ true) × (fields_in (packed t) ≡ k)
+  pub applied_in : (t : TermNo) (o : Operator) (k : Four TermNo) → at table t ≡ apply o k
+      → takes_terms o ≡ true
+      → (0 < t) × (t ≤ length table) × (takes_arguments (packed t) ≡ true)
+      × (fields_in (packed t) ≡ k)
   unfolding takes takes_terms arguments
   applied_in t o k e h =
-      let f = applied_fields o k (packed t) (subst (λ x. Packs x (packed t)) e (packs table terms E t)) h in
+      let f = applied_fields o k (packed t)
+      (subst (λ x. Packs x (packed t)) e (packs table terms E t)) h in
       let i = inside takes refl table t (ap takes e ∙ h) in (i.0, i.1, f.0, f.1)

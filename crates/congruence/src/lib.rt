@@ -1,6 +1,6 @@
-// Terms with one word and equal arguments are equal. The signature of a term is its packed form with the
-// block of each argument in the argument's place; the chains of the term table lead from a signature to
-// a term that has it.
+// Terms with one word and equal arguments are equal. The signature of a term is its packed form
+// with the block of each argument in the argument's place; the chains of the term table lead from a
+// signature to a term that has it.
 #![tactic(auto)]
 
 ghost use Rattle.std.specs.Prelude.{◌≡◌, ℕ, ◌≤◌};
@@ -10,7 +10,8 @@ ghost use Rattle.syntax.specs.Syntax.{arguments_in};
 ghost use Rattle.packing.specs.Packing.{Small, AllSmall};
 ghost use Rattle.table.specs.Held.{Chains};
 ghost use Rattle.partition.specs.Blocks.{block_of};
-ghost use Rattle.congruence.specs.Signatures.{signature_of, sign_of, JoinedSigned, JoinedAlike, JoinedSome};
+ghost use Rattle.congruence.specs.Signatures.{signature_of, sign_of, JoinedSigned, JoinedAlike};
+ghost use Rattle.congruence.specs.Signatures.{JoinedSome};
 
 use congruence_search::plan;
 use packing::term_codes::{fields, takes_terms, with_fields};
@@ -50,8 +51,8 @@ fn sign(blocks: &Partition, packed: u64) -> u64
     }
 }
 
-// Joins the block of the term t, whose packed form and signature are given, with that of a term before
-// it that has its signature. Says whether they were apart.
+// Joins the block of the term t, whose packed form and signature are given, with that of a term
+// before it that has its signature. Says whether they were apart.
 fn join_signed(
     blocks: &mut Partition,
     signatures: &[u64; NUMBERS],
@@ -74,8 +75,8 @@ fn join_signed(
     blocks.join(t, w)
 }
 
-// Joins the blocks of terms with one signature, and says whether any were apart. A joining counts at
-// once for the terms behind it.
+// Joins the blocks of terms with one signature, and says whether any were apart. A joining counts
+// at once for the terms behind it.
 fn join_alike(blocks: &mut Partition, terms: &[u64; NUMBERS], n: usize) -> bool
     requires { n ≤ max_terms }
     ensures { JoinedAlike blocks.old blocks.new terms.now n result }
@@ -114,8 +115,9 @@ fn join_pairs(blocks: &mut Partition, terms: &[u64; NUMBERS], pairs: &[u32]) -> 
     changed
 }
 
-// Joins the terms that a search finds, and says whether any were apart. As a rule that is all of them,
-// in whatever order the terms stand, and `join_alike` then finds none; the result does not depend on it.
+// Joins the terms that a search finds, and says whether any were apart. As a rule that is all of
+// them, in whatever order the terms stand, and `join_alike` then finds none; the result does not
+// depend on it.
 fn hasten(blocks: &mut Partition, terms: &[u64; NUMBERS], n: usize) -> bool
     requires { n ≤ max_terms }
     ensures { JoinedSome terms.now blocks.old blocks.new result }
@@ -125,9 +127,9 @@ fn hasten(blocks: &mut Partition, terms: &[u64; NUMBERS], n: usize) -> bool
     join_pairs(blocks, terms, pairs.noted())
 }
 
-// Joins terms that have one signature, and says whether any were apart. Where none were, terms with one
-// word and arguments of the same blocks are in one block. Where some were, it is left open which are
-// joined: with `again`, a search goes on from there.
+// Joins terms that have one signature, and says whether any were apart. Where none were, terms with
+// one word and arguments of the same blocks are in one block. Where some were, it is left open
+// which are joined: with `again`, a search goes on from there.
 pub fn join_congruent(blocks: &mut Partition, terms: &[u64; NUMBERS], n: usize, again: bool) -> bool
     requires { n ≤ max_terms }
     ensures { JoinedAlike blocks.old blocks.new terms.now n result }

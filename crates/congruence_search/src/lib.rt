@@ -1,9 +1,9 @@
-// Which terms to join by congruence, and in which order: a congruence closure by a queue of terms whose
-// arguments have changed blocks, on its own copy of the blocks. A pair t, w says: these two have one
-// signature now.
+// Which terms to join by congruence, and in which order: a congruence closure by a queue of terms
+// whose arguments have changed blocks, on its own copy of the blocks. A pair t, w says: these two
+// have one signature now.
 //
-// Nothing is promised of the pairs but their number: whoever follows them joins two terms only where
-// their signatures are one, so that a search that errs costs time and nothing else.
+// Nothing is promised of the pairs but their number: whoever follows them joins two terms only
+// where their signatures are one, so that a search that errs costs time and nothing else.
 #![tactic(auto)]
 
 ghost use Rattle.std.specs.Prelude.{◌≤◌, ◌<◌};
@@ -28,8 +28,8 @@ const HOPS: usize = 8;
 // More than ordinary files need.
 const STEPS: usize = 16384;
 
-// Other factors than those of the term table, so that terms which share a hash there do not share one
-// here. They are odd.
+// Other factors than those of the term table, so that terms which share a hash there do not share
+// one here. They are odd.
 const LOW_FACTOR: u64 = 22695477211;
 
 const HIGH_FACTOR: u64 = 28629151879;
@@ -48,8 +48,8 @@ struct Search<'a> {
     // Of a block: how many numbers it has.
     sizes: Cells<NUMBERS>,
 
-    // Of a number: the first use as an argument, 4 t + k + 1 for argument k of the term t; 0 where there
-    // is none.
+    // Of a number: the first use as an argument, 4 t + k + 1 for argument k of the term t; 0 where
+    // there is none.
     uses: Cells<NUMBERS>,
 
     // Of a use: the next use of the same number.
@@ -66,8 +66,8 @@ struct Search<'a> {
     // Of a hash: the first entry; 0 where there is none.
     heads: Cells<NUMBERS>,
 
-    // Of each of the `entered` entries: the next one of its hash, and its term. A term is entered anew
-    // when its signature has changed.
+    // Of each of the `entered` entries: the next one of its hash, and its term. A term is entered
+    // anew when its signature has changed.
     next_entries: Cells<LONG>,
     entries: Cells<LONG>,
     entered: usize,
@@ -181,6 +181,7 @@ impl<'a> Search<'a> {
         TermNumber(self.blocks.get(t.0) % NUMBERS)
     }
 
+    // A twin of that in `congruence`: one for both, over a closure, needs more clauses than it saves.
     fn blocks_of(&self, k: Arguments) -> Arguments
         ensures { AllSmall (arguments_in result) }
     {
@@ -253,8 +254,8 @@ impl<'a> Search<'a> {
     fn absorb(&mut self, x: usize, y: usize) {
         let from = self.blocks.get(x);
         let to = self.blocks.get(y);
-        self.sizes
-            .put(to, self.sizes.get(to) + self.sizes.get(from));
+        let size = self.sizes.get(to) + self.sizes.get(from);
+        self.sizes.put(to, size);
         self.rename(x, to);
         self.splice(x, y);
     }
@@ -270,8 +271,8 @@ impl<'a> Search<'a> {
         }
     }
 
-    // The term t, taken out of the queue, beside the one that was entered with its signature, if there is
-    // one.
+    // The term t, taken out of the queue, beside the one that was entered with its signature, if
+    // there is one.
     fn meet(&mut self, pairs: &mut Pairs, t: usize)
         requires { Small t }
     {

@@ -1,10 +1,10 @@
-// In which order to raise the blocks of le literals, so that as a rule one pass is enough: a depth-first
-// search for the strongly connected components of the le literals' blocks (Tarjan). A pair x, y says:
-// what is above y is above x. A component's pairs come after those of the components above it; the last
-// ones lead from each of its blocks to one that was found earlier.
+// In which order to raise the blocks of le literals, so that as a rule one pass is enough: a
+// depth-first search for the strongly connected components of the le literals' blocks (Tarjan). A
+// pair x, y says: what is above y is above x. A component's pairs come after those of the
+// components above it; the last ones lead from each of its blocks to one that was found earlier.
 //
-// Nothing is promised of the pairs but their number: whoever follows them takes a pair only where the
-// rows already say that it holds, so that a search that errs costs time and nothing else.
+// Nothing is promised of the pairs but their number: whoever follows them takes a pair only where
+// the rows already say that it holds, so that a search that errs costs time and nothing else.
 #![tactic(auto)]
 
 ghost use Rattle.std.specs.Prelude.{◌≤◌, ◌<◌};

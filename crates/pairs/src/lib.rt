@@ -3,12 +3,13 @@
 
 ghost use Rattle.std.specs.Prelude.{◌≡◌, ◌%◌, take};
 ghost use Rattle.packing.specs.Packing.{Small};
-ghost use Rattle.pairs.specs.Pairs.{AtMostPairs, pair_of, first_of, second_of, with_pair, count_with};
+ghost use Rattle.pairs.specs.Pairs.{AtMostPairs, pair_of, first_of, second_of, with_pair};
+ghost use Rattle.pairs.specs.Pairs.{count_with};
 
 use table::NUMBERS;
 
-// Room for what either search names: of the order, a pair from each literal and one from each block; of
-// congruent terms, fewer than there are terms.
+// Room for what either search names: of the order, a pair from each literal and one from each
+// block; of congruent terms, fewer than there are terms.
 const PAIRS: usize = 2048;
 
 // The first `count` of an array, in the order in which they were noted.

@@ -20,7 +20,8 @@ Sound table B p = (x : TermNo) → Small x → Follows table B Relation.Eq x (bl
 
 -- what was in one block stays so
 abbrev pub Coarser : Partition → Partition → Type 0
-Coarser old new = (x y : TermNo) → Small x → Small y → block_of old x ≡ block_of old y → block_of new x ≡ block_of new y
+Coarser old new = (x y : TermNo) → Small x → Small y → block_of old x ≡ block_of old y
+    → block_of new x ≡ block_of new y
 
 abbrev pub one_if : Bool → ℕ
 one_if true = 1
@@ -36,7 +37,8 @@ Fewer false old new = new ≡ old
 Fewer true old new = roots 1024 new < roots 1024 old
 
 -- HOW BLOCKS CHANGE: P is what must hold for the change to be sound; r says whether any were joined
-pub record Coarsened (P : Table → List Literal → Type 0) (old new : Partition) (r : Bool) : Type 0 where
+pub record Coarsened (P : Table → List Literal → Type 0) (old new : Partition)
+    (r : Bool) : Type 0 where
   pub coarser : Coarser old new
   pub fewer : Fewer r old new
   pub sound : (table : Table) (B : List Literal) → P table B → Sound table B old → Sound table B new

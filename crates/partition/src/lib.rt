@@ -56,8 +56,8 @@ impl Partition {
         self.blocks[a.0] == self.blocks[b.0]
     }
 
-    // Joins the blocks of a and b, and says whether they were apart. Which of its numbers stands for
-    // the joined block is free: whoever asks compares two blocks, or takes one as a name.
+    // Joins the blocks of a and b, and says whether they were apart. Which of its numbers stands
+    // for the joined block is free: whoever asks compares two blocks, or takes one as a name.
     pub fn join(&mut self, a: TermNumber, b: TermNumber) -> bool
         requires { Small a.0 × Small b.0 }
         ensures { Joined self.old self.new a.0 b.0 result }

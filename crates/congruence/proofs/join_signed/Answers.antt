@@ -13,4 +13,6 @@ pub returns-in_default : goal.returns-in_default
 returns-in_default c m C l = signed_new _ _ m _ _ _ (c.in_default.ensures m C)
 
 pub returns : goal.returns
-returns c m C l = signed_met _ _ _ m _ _ _ _ _ (sym c.takes_terms.ensures ∙ c.if-not-takes_terms.false) (c.in-Some.ensures m C) c.join.ensures
+returns c m C l =
+    signed_met _ _ _ m _ _ _ _ _ (sym c.takes_terms.ensures ∙ c.if-not-takes_terms.false)
+    (c.in-Some.ensures m C) c.join.ensures

@@ -10,7 +10,8 @@ pub returns-in_default : goal.returns-in_default
 unfolding relation_index
 returns-in_default c =
     let p = c.view.result in
-    literal_skipped _ p _ (literal_read_lem _ p c.view.ensures) (is_not Relation.Eq p c.in_default.not-Eq)
+    literal_skipped _ p _ (literal_read_lem _ p c.view.ensures)
+    (is_not Relation.Eq p c.in_default.not-Eq)
 
 pub join-requires : goal.join-requires
 join-requires c = literal_view_small c.args.code _ c.in-Eq.ensures

@@ -3,7 +3,9 @@ use Rattle.background.proofs.OrderLaws.{part_more, part_all}
 use Rattle.background.proofs.order.antisymmetry.Goals as goal
 
 pub loop-code-preserved : goal.loop-code-preserved
-loop-code-preserved c = part_more _ _ _ _ c.args.branch.now _ _ _ (omega arith) c.loop-code.invariant c.join_mutual-changed.ensures
+loop-code-preserved c =
+    part_more _ _ _ _ c.args.branch.now _ _ _ (omega arith) c.loop-code.invariant
+    c.join_mutual-changed.ensures
 
 pub returns : goal.returns
 returns c = part_all _ _ _ c.args.branch.now _ _ (omega arith) c.loop-code.invariant

@@ -5,4 +5,5 @@ pub loop-init : goal.loop-init
 loop-init c =
     let blocks = c.args.blocks.now in
     told_more _ blocks _ _ _ _ _ (λ table. tt) (c.hasten.ensures blocks)
-    (told_more _ blocks _ _ _ _ _ (λ table l o. o) c.pass.ensures.change (told_first _ _ _ _ _ c.reflexive.ensures))
+    (told_more _ blocks _ _ _ _ _ (λ table l o. o) c.pass.ensures.change
+    (told_first _ _ _ _ _ c.reflexive.ensures))

@@ -7,4 +7,6 @@ returns c = class_all _ _ _ _ _ (omega arith) c.loop-t.invariant
 
 -- after the last term
 pub returns-2 : goal.returns-2
-returns-2 c = class_all _ _ _ _ _ (omega arith) (class_more _ _ _ _ _ c.loop-t.invariant c.raise_class.ensures)
+returns-2 c =
+    class_all _ _ _ _ _ (omega arith)
+    (class_more _ _ _ _ _ c.loop-t.invariant c.raise_class.ensures)

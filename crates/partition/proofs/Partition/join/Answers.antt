@@ -6,7 +6,8 @@ pub returns-then-from-to : goal.returns-then-from-to
 returns-then-from-to c = joined_already _ _ _ c.if-from-to.true
 
 pub invariant_of-self : goal.invariant_of-self
-invariant_of-self c = record { valid = joined_valid c.args.self.now _ _ _ c.requires.0 c.requires.1 c.merge.ensures }
+invariant_of-self c =
+    record { valid = joined_valid c.args.self.now _ _ _ c.requires.0 c.requires.1 c.merge.ensures }
 
 pub returns : goal.returns
 returns c = joined _ _ _ _ c.requires.0 c.requires.1 c.merge.ensures c.if-from-to.false
