@@ -100,15 +100,18 @@ pub fn read_word(file: &[u8], at: usize) -> Option<(usize, usize)>
     }
 }
 
-// The first digit of a number of at most so many, and how many may follow it: none after a 0.
+// The first digit of a number of at most so many, and how many may follow it: none after a 0. Tried
+// and too slow: an arm of its own for the 0.
 #[tactic(auto, using(std::proofs::lemmas::Bool::Decides::nat_tests), unfolding(crate::specs::ByteSteps::first_digit))]
 fn first_digit(x: u8, limit: usize) -> Option<(usize, usize)>
     requires { 0 < limit }
     ensures { result ≡ first_digit limit x }
 {
     match x {
-        b'0' => Some((0, 0)),
-        b'1'..=b'9' => Some((usize::from(x - b'0'), limit - 1)),
+        b'0'..=b'9' => {
+            let left = if x == b'0' { 0 } else { limit - 1 };
+            Some((usize::from(x - b'0'), left))
+        }
         _ => None,
     }
 }
