@@ -1,11 +1,7 @@
-use mathlib.Core.Path.{refl}
 use native.Mathlib.Omega.{arith}
-use Rattle.mentions.proofs.RowLaws.{filled_none, filled_more, filled_all}
+use Rattle.mentions.proofs.RowLaws.{filled_more}
 use Rattle.freshness.proofs.PrefixLaws.{ahead_more, next_bits_lem}
 use Rattle.freshness.proofs.fill.Goals as goal
-
-pub loop-k-init : goal.loop-k-init
-loop-k-init c = record { filled = filled_none _ _ _; ahead = record { same = λ j m n. refl } }
 
 pub loop-k-preserved : goal.loop-k-preserved
 loop-k-preserved c =
@@ -18,6 +14,3 @@ loop-k-preserved c =
           v.ahead q);
       ahead = ahead_more _ _ _ _ _ v.ahead;
     }
-
-pub returns : goal.returns
-returns c = filled_all _ _ _ _ _ c.loop-k-test.false c.loop-k.invariant.filled

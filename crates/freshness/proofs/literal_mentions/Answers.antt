@@ -11,9 +11,3 @@ returns c table R e first =
     c.has_bit.ensures
     ∙ sides_bit table _ (unpack_literal c.args.literal) _ _ R (rw e s.0)
     (rw e s.1) c.args.w.0 first (omega (arith, c.requires)) (omega (arith, c.requires))
-
-pub bounds-rows-left : goal.bounds-rows-left
-bounds-rows-left c = omega (arith, c.side_rows-left.ensures.0.made, c.requires)
-
-pub bounds-rows-right : goal.bounds-rows-right
-bounds-rows-right c = omega (arith, c.side_rows-left.ensures.1.made, c.requires)

@@ -2,11 +2,6 @@ use native.Mathlib.Omega.{arith}
 use Rattle.freshness.proofs.PrefixLaws.{prefix_less, prefix_more}
 use Rattle.freshness.proofs.note.Goals as goal
 
-pub fill-requires : goal.fill-requires
-fill-requires c =
-    let s = c.side_rows-left.ensures in
-    (omega arith, omega (arith, c.requires), omega (arith, s.0.made), omega (arith, s.1.made))
-
 pub loop-i-preserved : goal.loop-i-preserved
 loop-i-preserved c table C R e P =
     let Q = c.loop-i.invariant table C R e P in

@@ -38,24 +38,11 @@ told c y table C E e P =
 pub returns-then-not-is_rfv : goal.returns-then-not-is_rfv
 returns-then-not-is_rfv c table C E R e P = sym (no_rfv table C _ c.args.w.0 (sym (c.is_rfv.ensures.value table E e) ∙ c.if-not-is_rfv.true))
 
-pub bounds-prefix-branch : goal.bounds-prefix-branch
-bounds-prefix-branch c = omega (
-  arith,
-  made (goal.at.bounds-prefix-branch c).Else-not-is_rfv,
-  c.requires.len_le_max_places,
-)
-
 pub returns-then-not-has_bit : goal.returns-then-not-has_bit
 returns-then-not-has_bit c table C E R e P =
     let b = (goal.at.returns-then-not-has_bit c).After-has_bit in
     let r = rfv (goal.at.returns-then-not-has_bit c).Else-not-is_rfv table E e in
     sym (fresh_rfv table C _ c.args.w.0 r (sym (told b c.if-not-is_rfv.false table C E e P) ∙ c.if-not-has_bit.true))
-
-pub first_place-requires : goal.first_place-requires
-first_place-requires c = record {
-  n_le_max_terms = (omega (arith, c.requires.n_le_max_terms), made (goal.at.first_place-requires c).Else-not-is_rfv);
-  len_le_max_places = c.requires.len_le_max_places;
-}
 
 pub returns : goal.returns
 returns c table C E R e P =

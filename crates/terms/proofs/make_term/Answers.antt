@@ -74,9 +74,6 @@ returns-then-not-are_made c =
       after = refl;
     }
 
-pub have_sorts-requires : goal.have_sorts-requires
-have_sorts-requires c = let p = c.requires.held in record { entries = (p.0, p.1.searchable.entries); packable = packable (goal.at.have_sorts-requires c).Else-not-are_made p.0 p.1 }
-
 pub returns-then-not-have_sorts : goal.returns-then-not-have_sorts
 returns-then-not-have_sorts c =
     λ table H.
@@ -85,12 +82,6 @@ returns-then-not-have_sorts c =
           (sym (c.have_sorts.ensures table H.searchable.entries) ∙ c.if-not-have_sorts.true) refl));
       after = refl;
     }
-
-pub pack-packed-requires : goal.pack-packed-requires
-pack-packed-requires c = let p = c.requires.held in packable (goal.at.pack-packed-requires c).Else-not-are_made p.0 p.1
-
-pub search-requires : goal.search-requires
-search-requires c = let p = c.requires.held in (p.0, p.1.searchable)
 
 pub returns-then-is_some : goal.returns-then-is_some
 returns-then-is_some c =
