@@ -163,10 +163,6 @@ module _ (old new : Partition) (a b : TermNo) (la : Small a) (lb : Small b)
 pub unchanged : (P : Table → List Literal → Type 0) (p : Partition) → Coarsened P p p false
 unchanged P p = record { coarser = λ x y lx ly h. h; fewer = refl; sound = λ table B _ C. C }
 
-pub joined_already : (p : Partition) (a b : TermNo) → block_of p a ≡ block_of p b
-    → Joined p p a b false
-joined_already p a b e = record { change = unchanged _ p; together = e }
-
 -- a change that is sound where P holds, and so where Q does
 pub coarsened_where : (P Q : Table → List Literal → Type 0) (old new : Partition) (r : Bool)
     → Coarsened P old new r

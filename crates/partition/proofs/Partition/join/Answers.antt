@@ -1,9 +1,5 @@
-use Rattle.partition.proofs.JoinLaws.{joined_valid, joined, joined_already}
+use Rattle.partition.proofs.JoinLaws.{joined_valid, joined}
 use Rattle.partition.proofs.Partition.join.Goals as goal
-
--- they were one already
-pub returns-then-from-to : goal.returns-then-from-to
-returns-then-from-to c = joined_already _ _ _ c.if-from-to.true
 
 pub invariant_of-self : goal.invariant_of-self
 invariant_of-self c =
