@@ -3,7 +3,8 @@ use Rattle.std.specs.Prelude.{◌≡◌, Bool, true, false, List, [], ℕ}
 use Rattle.std.specs.Prelude.{Option, None, Some, Result, IfOk}
 use Rattle.tableau.specs.declared.Reason.{Reason}
 use Rattle.tableau.specs.declared.Rule.{Rule}
-use Rattle.tableau.specs.Fields.{PlaceField, ThirdField, TermField, unused, place, side, clause, term, of, rule_fields}
+use Rattle.tableau.specs.Fields.{PlaceField, ThirdField, TermField, unused, place, side, clause}
+use Rattle.tableau.specs.Fields.{term, of, rule_fields}
 use Rattle.tableau.specs.Terms.{Table, Literal}
 use Rattle.tableau.specs.Rules.{Kind, rows, congruence, replacement, disjunction, background, rule}
 use Rattle.tableau.specs.Tree.{answer}
@@ -19,7 +20,8 @@ abbrev pub at_place : PlaceField → LiteralView → Option Literal
 at_place unused P = None
 at_place place P = Some (literal_of P)
 
--- the numbers of the fields t and w: 0 where the rule does not use the field, else that of a term, or any side or clause
+-- the numbers of the fields t and w: 0 where the rule does not use the field, else that of a term,
+-- or any side or clause
 abbrev pub ThirdGiven : ThirdField → ℕ → Type 0
 ThirdGiven unused n = n ≡ 0
 ThirdGiven side n = Unit {0}
@@ -47,8 +49,11 @@ background_kind background = true
 abbrev pub is_background : Rule → Bool
 is_background x = background_kind (rule x)
 
--- the outcome is the answer of rule x, which looks at no clause, where o is what it was told of the branch
-pub record Infers (x : Rule) (P Q : LiteralView) (t w : ℕ) (o : Told) (terms chains : List ℕ) (r : Result Outcome Reason) : Type 0 where
+-- the outcome is the answer of rule x, which looks at no clause, where o is what it was told of the
+-- branch
+pub record Infers (x : Rule) (P Q : LiteralView) (t w : ℕ) (o : Told) (terms chains : List ℕ)
+    (r : Result Outcome Reason) : Type 0 where
   pub room : IfOk r Room
   pub answers : (table : Table) → Searchable table terms chains
-      → answer table o.fresh (at_place (rule_fields x).p P) (at_place (rule_fields x).q Q) [] o.contradicted t w x ≡ answer_of r
+      → answer table o.fresh (at_place (rule_fields x).p P)
+      (at_place (rule_fields x).q Q) [] o.contradicted t w x ≡ answer_of r

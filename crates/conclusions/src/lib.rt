@@ -1,4 +1,5 @@
-// The rule that a line names, on the literals at its places and the terms of its fields: checks 12 to 14.
+// The rule that a line names, on the literals at its places and the terms of its fields: checks 12
+// to 14.
 #![tactic(auto)]
 
 ghost use Rattle.tableau.specs.Fields.{rule_fields};
@@ -16,8 +17,8 @@ use rules::outcome::Outcome;
 use syntax::{Step, ThirdField};
 use tableau::{Freshness, Reason, Rule, TermNumber};
 
-// What a rule asks of the whole branch: is w fresh, does the branch contradict itself? No rule looks
-// at an answer that it did not ask for.
+// What a rule asks of the whole branch: is w fresh, does the branch contradict itself? No rule
+// looks at an answer that it did not ask for.
 #[derive(Clone, Copy)]
 pub struct Told {
     pub fresh: Freshness,
@@ -37,7 +38,8 @@ fn by_rule(
     chains: &[u16; table::LINKS],
 ) -> Result<Outcome, Reason>
     requires searchable { (table : Table) × Searchable table terms.now chains.now }
-    requires small_literal { SmallLiteral p × SmallLiteral q × Given rule t.0 w.0 × ThirdFits (rule_fields rule).t (Third.Term t) }
+    requires small_literal { SmallLiteral p × SmallLiteral q × Given rule t.0 w.0
+        × ThirdFits (rule_fields rule).t (Third.Term t) }
     ensures { Infers rule p q t.0 w.0 told terms.now chains.now result }
 {
     match rule {
@@ -85,7 +87,8 @@ pub fn conclude(
     chains: &[u16; table::LINKS],
 ) -> Result<Outcome, Reason>
     requires searchable { (table : Table) × Searchable table terms.now chains.now }
-    requires small_literal { SmallLiteral p × SmallLiteral q × Given step.rule (third_in step.t) step.w.0
+    requires small_literal { SmallLiteral p × SmallLiteral q
+        × Given step.rule (third_in step.t) step.w.0
         × ThirdFits (rule_fields step.rule).t step.t × NoClause step.t }
     ensures { Infers step.rule p q (third_in step.t) step.w.0 told terms.now chains.now result }
 {

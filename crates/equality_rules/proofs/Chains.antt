@@ -13,9 +13,11 @@ use Rattle.rules.proofs.Laws.{by_test, computing, same}
 use Rattle.rules.proofs.Rows.{MetIf}
 
 abbrev chaining : Relation → List Row
-chaining R = p∶ (pattern R row.a row.b) ∷ q∶ (pattern R row.b row.c) ∷ [] ⟶ only ⟨ pattern R row.a row.c ⟩
+chaining R =
+    p∶ (pattern R row.a row.b) ∷ q∶ (pattern R row.b row.c) ∷ [] ⟶ only ⟨ pattern R row.a row.c ⟩
 
-pub chained : {A : Table → Type 0} {x : Rule} {R : Relation} {P Q : Literal} {k l m n : ℕ} → rule x ≡ rows (chaining R) → P ≡ literal R k l → Q ≡ literal R m n
+pub chained : {A : Table → Type 0} {x : Rule} {R : Relation} {P Q : Literal} {k l m n : ℕ}
+    → rule x ≡ rows (chaining R) → P ≡ literal R k l → Q ≡ literal R m n
     → MetIf A x (Some P) (Some Q) 0 0 (eqb l m) ((literal R k n ∷ []) ∷ [])
 unfolding computing
 chained {R = R} {l = l} {m} d p q = record {

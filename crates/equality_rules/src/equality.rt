@@ -44,8 +44,8 @@ pub fn trn(p: LiteralView, q: LiteralView) -> Result<Outcome, Reason>
     Ok(outcome::adds_one(literal(Relation::Eq, a, c)))
 }
 
-// a eq b; t, w have one word, whose arguments are terms and not a name, and has at least one; at each argument they agree, or t has a and
-// w has b: gives t eq w.
+// a eq b; t, w have one word, whose arguments are terms and not a name, and has at least one; at
+// each argument they agree, or t has a and w has b: gives t eq w.
 pub fn sub(
     p: LiteralView,
     t: TermNumber,
@@ -68,7 +68,8 @@ pub fn sub(
 // any literal; a eq b; side t (1 left, 2 right) is a: gives p's literal with b on that side.
 pub fn rep(p: LiteralView, q: LiteralView, side: Side) -> Result<Outcome, Reason>
     requires { SmallLiteral p × SmallLiteral q }
-    ensures { Concludes Anywhere Rule.Rep (Some (literal_of p)) (Some (literal_of q)) side.0 0 result }
+    ensures { Concludes Anywhere
+        Rule.Rep (Some (literal_of p)) (Some (literal_of q)) side.0 0 result }
 {
     let LiteralView::Eq(a, b) = q else {
         return Err(Reason::NeedNotMet);

@@ -22,9 +22,12 @@ abbrev pub access_of : Option TermNo → Option TermNo → Option TermNo → Res
 access_of None n o = Err Reason.TermNotMade
 access_of (Some c) None o = Err Reason.TermNotMade
 access_of (Some c) (Some d) None = Err Reason.TermNotMade
-access_of (Some c) (Some d) (Some v) = Ok (record { class = number c; owner = number d; value = number v })
+access_of (Some c) (Some d) (Some v) =
+    Ok (record { class = number c; owner = number d; value = number v })
 
-pub record Accesses (terms chains : List ℕ) (h u f : TermNo) (r : Result Access Reason) : Type 0 where
+pub record Accesses (terms chains : List ℕ) (h u f : TermNo)
+    (r : Result Access Reason) : Type 0 where
   pub small : IfOk r (λ a. Small a.class.0 × Small a.owner.0 × Small a.value.0)
   pub is : (table : Table) → SearchableBy terms chains table
-      → r ≡ access_of (number_of table (typ u)) (number_of table (dty f)) (number_of table (rea h u f))
+      → r ≡ access_of (number_of table (typ u)) (number_of table (dty f))
+      (number_of table (rea h u f))

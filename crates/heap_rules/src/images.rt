@@ -49,7 +49,8 @@ pub fn img(
 ) -> Result<Outcome, Reason>
     requires searchable_by { (table : Table) × SearchableBy terms.now chains.now table }
     requires small_literal { SmallLiteral p × Small t.0 }
-    ensures { Concludes (SearchableBy terms.now chains.now) Rule.Img (Some (literal_of p)) None t.0 0 result }
+    ensures { Concludes (SearchableBy terms.now chains.now)
+        Rule.Img (Some (literal_of p)) None t.0 0 result }
 {
     let LiteralView::In(u, r) = p else {
         return Err(Reason::NeedNotMet);
@@ -107,7 +108,8 @@ pub fn fin(
 ) -> Result<Outcome, Reason>
     requires searchable_by { (table : Table) × SearchableBy terms.now chains.now table }
     requires small_literal { SmallLiteral p }
-    ensures { Concludes (SearchableBy terms.now chains.now) Rule.Fin (Some (literal_of p)) None 0 0 result }
+    ensures { Concludes (SearchableBy terms.now chains.now)
+        Rule.Fin (Some (literal_of p)) None 0 0 result }
 {
     let LiteralView::Eq(union, image) = p else {
         return Err(Reason::NeedNotMet);

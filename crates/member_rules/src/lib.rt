@@ -1,5 +1,6 @@
-// The rules of singletons, of `all` and `nul`, and the cut. Each looks at the terms that its row names and searches for those that it
-// adds: refusal 12 where what the row needs isn't so, then 14 where a term to be added is not made.
+// The rules of singletons, of `all` and `nul`, and the cut. Each looks at the terms that its row
+// names and searches for those that it adds: refusal 12 where what the row needs isn't so, then 14
+// where a term to be added is not made.
 #![tactic(auto)]
 
 ghost use Rattle.std.specs.Prelude.{None, Some};
@@ -62,7 +63,8 @@ pub fn all(
 ) -> Result<Outcome, Reason>
     requires searchable_by { (table : Table) × SearchableBy terms.now chains.now table }
     requires small_literal { SmallLiteral p }
-    ensures { Concludes (SearchableBy terms.now chains.now) Rule.All (Some (literal_of p)) None 0 0 result }
+    ensures { Concludes (SearchableBy terms.now chains.now)
+        Rule.All (Some (literal_of p)) None 0 0 result }
 {
     let LiteralView::In(u, _) = p else {
         return Err(Reason::NeedNotMet);
@@ -79,7 +81,8 @@ pub fn nul(
 ) -> Result<Outcome, Reason>
     requires searchable_by { (table : Table) × SearchableBy terms.now chains.now table }
     requires small_literal { SmallLiteral p }
-    ensures { Concludes (SearchableBy terms.now chains.now) Rule.Nul (Some (literal_of p)) None 0 0 result }
+    ensures { Concludes (SearchableBy terms.now chains.now)
+        Rule.Nul (Some (literal_of p)) None 0 0 result }
 {
     let LiteralView::In(u, _) = p else {
         return Err(Reason::NeedNotMet);

@@ -1,5 +1,5 @@
--- What an outcome of the code says, and the contract of a rule's function: the outcome is the answer of the specification (checks 12, 13
--- and 14 of a step).
+-- What an outcome of the code says, and the contract of a rule's function: the outcome is the
+-- answer of the specification (checks 12, 13 and 14 of a step).
 use Rattle.std.specs.Prelude.{◌≡◌, false, List, [], ◌∷◌, map, ℕ}
 use Rattle.std.specs.Prelude.{Option, None, Some, Result, Ok, Err, IfOk}
 use Rattle.tableau.specs.declared.Freshness.{Freshness}
@@ -54,7 +54,8 @@ pub record Builds (r : Outcome) (ks : List (List specification.Literal)) : Type 
   pub room : Room r
   pub adds : alternatives_of r ≡ ks
 
--- THE PREMISES: the tables of which a rule that looks nothing up speaks, one that looks at terms, one that searches for terms.
+-- THE PREMISES: the tables of which a rule that looks nothing up speaks, one that looks at terms,
+-- one that searches for terms.
 abbrev pub Anywhere : Table → Type 0
 Anywhere table = Unit {0}
 
@@ -74,13 +75,19 @@ pub record Finds (terms chains : List ℕ) (e : Term) (f : Result TermNumber Rea
   pub small : IfOk f (λ n. Small n.0)
   pub is : (table : Table) → SearchableBy terms chains table → f ≡ made_as (number_of table e)
 
--- THE CONTRACT OF A RULE other than `cla` and `bck`, which looks at no clause and not at the whole branch: in every table of which the premise holds, the outcome is the rule's answer, whether w is fresh or not.
-pub record Concludes (premise : Table → Type 0) (x : Rule) (P Q : Option specification.Literal) (t w : ℕ) (r : Result Outcome Reason) : Type 0 where
+-- THE CONTRACT OF A RULE other than `cla` and `bck`, which looks at no clause and not at the whole
+-- branch: in every table of which the premise holds, the outcome is the rule's answer, whether w is
+-- fresh or not.
+pub record Concludes (premise : Table → Type 0) (x : Rule) (P Q : Option specification.Literal)
+    (t w : ℕ) (r : Result Outcome Reason) : Type 0 where
   pub room : IfOk r Room
-  pub answers : (table : Table) → premise table → (fresh : Freshness) → answer table fresh P Q [] false t w x ≡ answer_of r
+  pub answers : (table : Table) → premise table → (fresh : Freshness)
+      → answer table fresh P Q [] false t w x ≡ answer_of r
 
 -- the same for a rule that asks for a fresh w
-pub record ConcludesFresh (premise : Table → Type 0) (fresh : Freshness) (x : Rule) (P Q : Option specification.Literal) (t w : ℕ) (r : Result Outcome Reason)
+pub record ConcludesFresh (premise : Table → Type 0) (fresh : Freshness) (x : Rule)
+    (P Q : Option specification.Literal) (t w : ℕ) (r : Result Outcome Reason)
     : Type 0 where
   pub room : IfOk r Room
-  pub answers : (table : Table) → premise table → answer table fresh P Q [] false t w x ≡ answer_of r
+  pub answers : (table : Table) → premise table
+      → answer table fresh P Q [] false t w x ≡ answer_of r

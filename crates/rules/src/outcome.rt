@@ -43,7 +43,8 @@ fn two(l: Literal, m: Literal) -> Alternative
 }
 
 fn three(l: Literal, m: Literal, n: Literal) -> Alternative
-    requires { PackableLiteral (literal_in l) × PackableLiteral (literal_in m) × PackableLiteral (literal_in n) }
+    requires { PackableLiteral (literal_in l) × PackableLiteral (literal_in m)
+        × PackableLiteral (literal_in n) }
     ensures { Forms 3 result (literal_in l ∷ literal_in m ∷ literal_in n ∷ []) }
 {
     Alternative::three(pack(l), pack(m), pack(n))
@@ -66,7 +67,8 @@ pub fn adds_two(l: Literal, m: Literal) -> Outcome
 
 // l, m, n
 pub fn adds_three(l: Literal, m: Literal, n: Literal) -> Outcome
-    requires { PackableLiteral (literal_in l) × PackableLiteral (literal_in m) × PackableLiteral (literal_in n) }
+    requires { PackableLiteral (literal_in l) × PackableLiteral (literal_in m)
+        × PackableLiteral (literal_in n) }
     ensures { Builds result ((literal_in l ∷ literal_in m ∷ literal_in n ∷ []) ∷ []) }
 {
     Outcome::Adds(three(l, m, n))
@@ -82,7 +84,8 @@ pub fn splits(l: Literal, m: Literal) -> Outcome
 
 // l, m ∥ n
 pub fn splits_two_one(l: Literal, m: Literal, n: Literal) -> Outcome
-    requires { PackableLiteral (literal_in l) × PackableLiteral (literal_in m) × PackableLiteral (literal_in n) }
+    requires { PackableLiteral (literal_in l) × PackableLiteral (literal_in m)
+        × PackableLiteral (literal_in n) }
     ensures { Builds result ((literal_in l ∷ literal_in m ∷ []) ∷ (literal_in n ∷ []) ∷ []) }
 {
     Outcome::Splits(two(l, m), one(n))
@@ -92,14 +95,16 @@ pub fn splits_two_one(l: Literal, m: Literal, n: Literal) -> Outcome
 pub fn splits_two_two(l: Literal, m: Literal, n: Literal, o: Literal) -> Outcome
     requires packable_literal { PackableLiteral (literal_in l) × PackableLiteral (literal_in m) }
     requires packable_literal_2 { PackableLiteral (literal_in n) × PackableLiteral (literal_in o) }
-    ensures { Builds result ((literal_in l ∷ literal_in m ∷ []) ∷ (literal_in n ∷ literal_in o ∷ []) ∷ []) }
+    ensures { Builds result ((literal_in l ∷ literal_in m ∷ [])
+        ∷ (literal_in n ∷ literal_in o ∷ []) ∷ []) }
 {
     Outcome::Splits(two(l, m), two(n, o))
 }
 
 // l ∥ m ∥ n
 pub fn splits_three(l: Literal, m: Literal, n: Literal) -> Outcome
-    requires { PackableLiteral (literal_in l) × PackableLiteral (literal_in m) × PackableLiteral (literal_in n) }
+    requires { PackableLiteral (literal_in l) × PackableLiteral (literal_in m)
+        × PackableLiteral (literal_in n) }
     ensures { Builds result ((literal_in l ∷ []) ∷ (literal_in m ∷ []) ∷ (literal_in n ∷ []) ∷ []) }
 {
     Outcome::SplitsThree(one(l), one(m), one(n))

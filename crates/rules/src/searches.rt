@@ -1,4 +1,5 @@
-// The search for a term that a rule would add, by its operator and arguments: its number, or refusal 14 where it is not made.
+// The search for a term that a rule would add, by its operator and arguments: its number, or
+// refusal 14 where it is not made.
 ghost use Rattle.tableau.specs.Basics.{four};
 ghost use Rattle.tableau.specs.Terms.{Table, apply};
 ghost use Rattle.packing.specs.Packing.{Small};

@@ -31,18 +31,25 @@ two_guards true b k = refl
 two_guards false b k = refl
 
 -- p is m eq n; the row carries a member of the one with letter k to the one with letter l
-module _ {A : Table → Type 0} {x : Rule} {k l : ℕ} {p : LiteralView} {m n : TermNumber} (i : rule x ≡ rows (carrying k l)) (e : p ≡ LiteralView.Eq m n) where
-  pub no_member : (q : LiteralView) → IsNot Relation.In q → Concludes A x (Some (literal_of p)) (Some (literal_of q)) 0 0 (Err Reason.NeedNotMet)
+module _ {A : Table → Type 0} {x : Rule} {k l : ℕ} {p : LiteralView} {m n : TermNumber}
+    (i : rule x ≡ rows (carrying k l)) (e : p ≡ LiteralView.Eq m n) where
+  pub no_member : (q : LiteralView) → IsNot Relation.In q
+      → Concludes A x (Some (literal_of p)) (Some (literal_of q)) 0 0 (Err Reason.NeedNotMet)
   unfolding computing
   no_member q o = record {
     room = tt;
-    answers = λ table h fresh. rw (i, e, two_guards _ _ _, by_sides q) (by_test (are_regions table m.0 n.0) (λ j. rw (j, o)) (λ j. rw j));
+    answers = λ table h fresh.
+        rw (i, e, two_guards _ _ _, by_sides q)
+        (by_test (are_regions table m.0 n.0) (λ j. rw (j, o)) (λ j. rw j));
   }
 
   -- q is u in y, and b whether they are regions
-  pub carried : {q : LiteralView} {u y : TermNumber} {b : Bool} {c d : TermNo} → q ≡ LiteralView.In u y
-      → ((table : Table) → A table → b ≡ are_regions table m.0 n.0) → letters_of m n u k ≡ Some c → letters_of m n u l ≡ Some d
-      → MetIf A x (Some (literal_of p)) (Some (literal_of q)) 0 0 (b && eqb c y.0) ((literal Relation.In u.0 d ∷ []) ∷ [])
+  pub carried : {q : LiteralView} {u y : TermNumber} {b : Bool} {c d : TermNo}
+      → q ≡ LiteralView.In u y
+      → ((table : Table) → A table → b ≡ are_regions table m.0 n.0) → letters_of m n u k ≡ Some c
+      → letters_of m n u l ≡ Some d
+      → MetIf A x (Some (literal_of p)) (Some (literal_of q)) 0 0 (b && eqb c y.0)
+      ((literal Relation.In u.0 d ∷ []) ∷ [])
   unfolding computing
   carried {y = y} {b} {c} q f from to = record {
     answers = λ table h fresh.
@@ -51,7 +58,8 @@ module _ {A : Table → Type 0} {x : Rule} {k l : ℕ} {p : LiteralView} {m n : 
   }
 
 -- p is m ne n, and b whether they are regions
-pub unequal : {A : Table → Type 0} {p : LiteralView} {m n : TermNumber} {b : Bool} {fresh : Freshness} {w : ℕ} {r : Result Outcome Reason} → p ≡ LiteralView.Ne m n
+pub unequal : {A : Table → Type 0} {p : LiteralView} {m n : TermNumber} {b : Bool}
+    {fresh : Freshness} {w : ℕ} {r : Result Outcome Reason} → p ≡ LiteralView.Ne m n
     → ((table : Table) → A table → b ≡ are_regions table m.0 n.0) → IfOk r Room
     → answer_of r ≡ cond (not b) (refused Reason.NeedNotMet) (require_fresh true fresh >> passed (
     (literal Relation.In w m.0 ∷ literal Relation.Ni w n.0 ∷ []) ∷
@@ -66,11 +74,16 @@ unequal {b = b} {fresh = f} e g room a = record {
       rw (e, two_guards _ _ _, ← g table h, a) (by_test b (λ i. rw i) (λ i. rw i));
 }
 
--- m in k, n in or outside l, and t has the operator and a, b: m in t where m is n, k is a, and l is b
-pub joins : {A : Table → Type 0} {x : Rule} {R : Relation} {o : Operator} {P Q : Literal} {m k n l t : ℕ} {a b : TermNumber} {v y : TermView}
-    → rule x ≡ rows (joining R o) → arguments o ≡ arguments Operator.Cap → P ≡ literal Relation.In m k → Q ≡ literal R n l
-    → ((e : Term) → view_of e ≡ y → Arguments2 o e a b) → v ≡ y → ((table : Table) → A table → ViewAt table t v)
-    → MetIf A x (Some P) (Some Q) t 0 ((eqb m n && eqb k a.0) && eqb l b.0) ((literal Relation.In m t ∷ []) ∷ [])
+-- m in k, n in or outside l, and t has the operator and a, b: m in t where m is n, k is a, and l is
+-- b
+pub joins : {A : Table → Type 0} {x : Rule} {R : Relation} {o : Operator} {P Q : Literal}
+    {m k n l t : ℕ} {a b : TermNumber} {v y : TermView}
+    → rule x ≡ rows (joining R o) → arguments o ≡ arguments Operator.Cap
+    → P ≡ literal Relation.In m k → Q ≡ literal R n l
+    → ((e : Term) → view_of e ≡ y → Arguments2 o e a b) → v ≡ y
+    → ((table : Table) → A table → ViewAt table t v)
+    → MetIf A x (Some P) (Some Q) t 0 ((eqb m n && eqb k a.0) && eqb l b.0)
+    ((literal Relation.In m t ∷ []) ∷ [])
 unfolding computing
 joins {R = R} {m = m} {k} {n} {l} {t} {a} {b} i two p q is j g = record {
   answers = λ table h fresh.
@@ -83,19 +96,24 @@ joins {R = R} {m = m} {k} {n} {l} {t} {a} {b} i two p q is j g = record {
 }
 
 -- u in k, and t is cup(a,b): u in t where k is a or b
-pub united : {A : Table → Type 0} {p : LiteralView} {u k a b : TermNumber} {Q : Option Literal} {t : ℕ} {v : TermView} → p ≡ LiteralView.In u k
+pub united : {A : Table → Type 0} {p : LiteralView} {u k a b : TermNumber} {Q : Option Literal}
+    {t : ℕ} {v : TermView} → p ≡ LiteralView.In u k
     → v ≡ TermView.Cup a b → ((table : Table) → A table → ViewAt table t v)
-    → MetIf A Rule.Cui (Some (literal_of p)) Q t 0 (eqb k.0 a.0 || eqb k.0 b.0) ((literal Relation.In u.0 t ∷ []) ∷ [])
+    → MetIf A Rule.Cui (Some (literal_of p)) Q t 0 (eqb k.0 a.0 || eqb k.0 b.0)
+    ((literal Relation.In u.0 t ∷ []) ∷ [])
 unfolding computing
 united {k = k} {a} {b} {t = t} p j g = record {
   answers = λ table h fresh.
       rw (p, (is_cup (at table t) _ _ ((g table h).is ∙ j)).2)
-      (by_test (eqb k.0 a.0) (λ i. rw i) (λ i. rw i (by_test (eqb k.0 b.0) (λ o. rw o) (λ o. rw o))));
+      (by_test (eqb k.0 a.0) (λ i. rw i)
+      (λ i. rw i (by_test (eqb k.0 b.0) (λ o. rw o) (λ o. rw o))));
 }
 
 -- u in k, v ni l: u ne v where k is l
-pub separated : {A : Table → Type 0} {p q : LiteralView} {u k v l : TermNumber} → p ≡ LiteralView.In u k → q ≡ LiteralView.Ni v l
-    → MetIf A Rule.Sep (Some (literal_of p)) (Some (literal_of q)) 0 0 (eqb k.0 l.0) ((literal Relation.Ne u.0 v.0 ∷ []) ∷ [])
+pub separated : {A : Table → Type 0} {p q : LiteralView} {u k v l : TermNumber}
+    → p ≡ LiteralView.In u k → q ≡ LiteralView.Ni v l
+    → MetIf A Rule.Sep (Some (literal_of p)) (Some (literal_of q)) 0 0 (eqb k.0 l.0)
+    ((literal Relation.Ne u.0 v.0 ∷ []) ∷ [])
 unfolding computing
 separated {k = k} {l = l} e f = record {
   answers = λ table h fresh. rw (e, f) (by_test (eqb k.0 l.0) (λ i. rw i) (λ i. rw i));

@@ -1,5 +1,5 @@
-// The rules of equal regions, of intersections, unions and differences, and `sep`. Each looks at the terms that its row names; where
-// what the row needs isn't so, the answer is refusal 12.
+// The rules of equal regions, of intersections, unions and differences, and `sep`. Each looks at
+// the terms that its row names; where what the row needs isn't so, the answer is refusal 12.
 #![tactic(auto)]
 
 ghost use Rattle.std.specs.Prelude.{◌≡◌};
@@ -28,7 +28,8 @@ fn are_regions(terms: &[u64; table::NUMBERS], m: TermNumber, n: TermNumber) -> b
 pub fn eqr(p: LiteralView, q: LiteralView, terms: &[u64; table::NUMBERS]) -> Result<Outcome, Reason>
     requires held_by { (table : Table) × HeldBy terms.now table }
     requires small_literal { SmallLiteral p × SmallLiteral q }
-    ensures { Concludes (HeldBy terms.now) Rule.Eqr (Some (literal_of p)) (Some (literal_of q)) 0 0 result }
+    ensures { Concludes (HeldBy terms.now)
+        Rule.Eqr (Some (literal_of p)) (Some (literal_of q)) 0 0 result }
 {
     let (LiteralView::Eq(r, s), LiteralView::In(u, x)) = (p, q) else {
         return Err(Reason::NeedNotMet);
@@ -43,7 +44,8 @@ pub fn eqr(p: LiteralView, q: LiteralView, terms: &[u64; table::NUMBERS]) -> Res
 pub fn eql(p: LiteralView, q: LiteralView, terms: &[u64; table::NUMBERS]) -> Result<Outcome, Reason>
     requires held_by { (table : Table) × HeldBy terms.now table }
     requires small_literal { SmallLiteral p × SmallLiteral q }
-    ensures { Concludes (HeldBy terms.now) Rule.Eql (Some (literal_of p)) (Some (literal_of q)) 0 0 result }
+    ensures { Concludes (HeldBy terms.now)
+        Rule.Eql (Some (literal_of p)) (Some (literal_of q)) 0 0 result }
 {
     let (LiteralView::Eq(r, s), LiteralView::In(u, x)) = (p, q) else {
         return Err(Reason::NeedNotMet);
@@ -63,7 +65,8 @@ pub fn ext(
 ) -> Result<Outcome, Reason>
     requires held_by { (table : Table) × HeldBy terms.now table }
     requires small_literal { SmallLiteral p × Small w.0 }
-    ensures { ConcludesFresh (HeldBy terms.now) fresh Rule.Ext (Some (literal_of p)) None 0 w.0 result }
+    ensures { ConcludesFresh (HeldBy terms.now) fresh
+        Rule.Ext (Some (literal_of p)) None 0 w.0 result }
 {
     let LiteralView::Ne(r, s) = p else {
         return Err(Reason::NeedNotMet);
@@ -106,7 +109,8 @@ pub fn cpi(
 ) -> Result<Outcome, Reason>
     requires held_by { (table : Table) × HeldBy terms.now table }
     requires small_literal { SmallLiteral p × SmallLiteral q × Small t.0 }
-    ensures { Concludes (HeldBy terms.now) Rule.Cpi (Some (literal_of p)) (Some (literal_of q)) t.0 0 result }
+    ensures { Concludes (HeldBy terms.now)
+        Rule.Cpi (Some (literal_of p)) (Some (literal_of q)) t.0 0 result }
 {
     let (LiteralView::In(u, r), LiteralView::In(v, s)) = (p, q) else {
         return Err(Reason::NeedNotMet);
@@ -177,7 +181,8 @@ pub fn dfi(
 ) -> Result<Outcome, Reason>
     requires held_by { (table : Table) × HeldBy terms.now table }
     requires small_literal { SmallLiteral p × SmallLiteral q × Small t.0 }
-    ensures { Concludes (HeldBy terms.now) Rule.Dfi (Some (literal_of p)) (Some (literal_of q)) t.0 0 result }
+    ensures { Concludes (HeldBy terms.now)
+        Rule.Dfi (Some (literal_of p)) (Some (literal_of q)) t.0 0 result }
 {
     let (LiteralView::In(u, r), LiteralView::Ni(v, s)) = (p, q) else {
         return Err(Reason::NeedNotMet);

@@ -1,4 +1,5 @@
--- The checks 8, 9 and 11 of an S line: of which fields each speaks, and what the mask of the rule's fields says of it.
+-- The checks 8, 9 and 11 of an S line: of which fields each speaks, and what the mask of the rule's
+-- fields says of it.
 use mathlib.Core.Path.{◌≡◌, refl, sym, ◌∙◌, ap}
 use mathlib.Core.Bool.{Bool, true, false, not, ◌&&◌, ◌||◌, true≢false}
 use mathlib.Core.List.{List, [], ◌∷◌}
@@ -13,7 +14,9 @@ use Rattle.tableau.specs.declared.TermNumber.{TermNumber}
 use Rattle.tableau.specs.declared.ClauseNumber.{ClauseNumber}
 use Rattle.tableau.specs.Basics.{Four, every}
 use Rattle.tableau.specs.Words.{rule_names}
-use Rattle.tableau.specs.Fields.{Use, name, PlaceField, ThirdField, TermField, unused, place, side, clause, term, of, place_use, third_use, term_use, rule_fields, rule_uses}
+use Rattle.tableau.specs.Fields.{Use, name, PlaceField, ThirdField, TermField, unused, place, side}
+use Rattle.tableau.specs.Fields.{clause, term, of, place_use, third_use, term_use, rule_fields}
+use Rattle.tableau.specs.Fields.{rule_uses}
 use Rattle.tableau.specs.Terms.{Table, Literal, Clauses, max_terms}
 use Rattle.tableau.specs.Tree.{on_branch, is_there}
 use Rattle.tableau.specs.Reply.{zero_if_unused, is_term, term_or_name, of_sort}
@@ -21,18 +24,21 @@ use Rattle.tableau.proofs.Bools.{both_true, every_true}
 use Rattle.tableau.proofs.Places.{rules, NoneOf, every_rule, other_rule}
 use Rattle.syntax.specs.declared.ThirdField as declared
 use Rattle.syntax.specs.declared.Step.{Step}
-use Rattle.syntax.specs.Syntax.{kind_of, kind_in, ThirdFits, NoClause, WellTaken, third_in, step_fields}
+use Rattle.syntax.specs.Syntax.{kind_of, kind_in, ThirdFits, NoClause, WellTaken, third_in}
+use Rattle.syntax.specs.Syntax.{step_fields}
 use Rattle.syntax.proofs.Masks.{is_used, bits_of}
 use Rattle.packing.specs.Packing.{Small}
 use Rattle.conclusions.specs.Infers.{ThirdGiven, TermGiven, Given}
 
 -- FIELD t in the arm that is left when a term, or a clause number, has its own
-pub no_term_lem : (k : declared.ThirdField) → ((t : TermNumber) → k ≡ declared.ThirdField.Term t → ⊥) → 1 ≤ kind_in k
+pub no_term_lem : (k : declared.ThirdField)
+    → ((t : TermNumber) → k ≡ declared.ThirdField.Term t → ⊥) → 1 ≤ kind_in k
 no_term_lem (declared.ThirdField.Term t) o = absurd (o t refl)
 no_term_lem (declared.ThirdField.Side s) o = omega arith
 no_term_lem (declared.ThirdField.Clause k) o = omega arith
 
-pub no_clause : (k : declared.ThirdField) → ((n : ClauseNumber) → k ≡ declared.ThirdField.Clause n → ⊥) → kind_in k < 2
+pub no_clause : (k : declared.ThirdField)
+    → ((n : ClauseNumber) → k ≡ declared.ThirdField.Clause n → ⊥) → kind_in k < 2
 no_clause (declared.ThirdField.Term t) o = omega arith
 no_clause (declared.ThirdField.Side s) o = omega arith
 no_clause (declared.ThirdField.Clause k) o = absurd (o k refl)
@@ -48,11 +54,14 @@ module _ (table : Table) where
   place_sorted place n = refl
 
   pub eight : (x : Rule) (k : Four ℕ)
-      → every (term_or_name table) (rule_uses x) k ≡ (term_or_name table (rule_uses x).c k.c && term_or_name table (rule_uses x).d k.d)
+      → every (term_or_name table) (rule_uses x) k ≡
+      (term_or_name table (rule_uses x).c k.c && term_or_name table (rule_uses x).d k.d)
   eight x k = λ i. place_made (rule_fields x).p k.a i && (place_made (rule_fields x).q k.b i
       && (term_or_name table (rule_uses x).c k.c && term_or_name table (rule_uses x).d k.d))
 
-  pub nine : (x : Rule) (k : Four ℕ) → every (of_sort table) (rule_uses x) k ≡ (of_sort table (rule_uses x).c k.c && of_sort table (rule_uses x).d k.d)
+  pub nine : (x : Rule) (k : Four ℕ)
+      → every (of_sort table) (rule_uses x) k ≡
+      (of_sort table (rule_uses x).c k.c && of_sort table (rule_uses x).d k.d)
   nine x k = λ i. place_sorted (rule_fields x).p k.a i && (place_sorted (rule_fields x).q k.b i
       && (of_sort table (rule_uses x).c k.c && of_sort table (rule_uses x).d k.d))
 
@@ -65,7 +74,8 @@ module _ (table : Table) where
   third_made term t h = refl
   third_made (of s) t h = refl
 
-  pub fourth_made : (f : TermField) (n : ℕ) → term_or_name table (term_use f) n ≡ (not (is_used (term_use f)) || is_term table n)
+  pub fourth_made : (f : TermField) (n : ℕ)
+      → term_or_name table (term_use f) n ≡ (not (is_used (term_use f)) || is_term table n)
   fourth_made unused n = refl
   fourth_made term n = refl
   fourth_made (of s) n = refl
@@ -82,12 +92,16 @@ module _ (C : Clauses) (B : List Literal) where
   fourth_there (of s) n = refl
 
   eleven : (x : Rule) (k : Four ℕ)
-      → every (is_there C B) (rule_uses x) k ≡ (is_there C B (rule_uses x).a k.a && (is_there C B (rule_uses x).b k.b && is_there C B (rule_uses x).c k.c))
+      → every (is_there C B) (rule_uses x) k ≡
+      (is_there C B (rule_uses x).a k.a &&
+      (is_there C B (rule_uses x).b k.b && is_there C B (rule_uses x).c k.c))
   eleven x k = λ i. is_there C B (rule_uses x).a k.a && (is_there C B (rule_uses x).b k.b
-      && (ap (λ (b : Bool). is_there C B (rule_uses x).c k.c && b) (fourth_there (rule_fields x).w k.d) ∙ and-true (is_there C B (rule_uses x).c k.c)) i)
+      && (ap (λ (b : Bool). is_there C B (rule_uses x).c k.c && b)
+      (fourth_there (rule_fields x).w k.d) ∙ and-true (is_there C B (rule_uses x).c k.c)) i)
 
   -- a place that is used is to be there
-  place_there : (f : PlaceField) (n : ℕ) → is_there C B (place_use f) n ≡ (not (is_used (place_use f)) || on_branch B n)
+  place_there : (f : PlaceField) (n : ℕ)
+      → is_there C B (place_use f) n ≡ (not (is_used (place_use f)) || on_branch B n)
   place_there unused n = refl
   place_there place n = refl
 
@@ -121,31 +135,48 @@ module _ (s : Step) (W : WellTaken s) where
   unset_w = unset (bits_of (rule_uses s.rule) s.used.0 W.used).3
 
   -- check 11, by what is found of p and q, where t is no clause
-  pub eleven_by : (C : Clauses) (B : List Literal) → NoClause s.t → {p q : Bool} → p ≡ (eqb (bit_and s.used.0 1) 0 || on_branch B s.p.0)
-      → q ≡ (eqb (bit_and s.used.0 2) 0 || on_branch B s.q.0) → every (is_there C B) (rule_uses s.rule) (step_fields s) ≡ (p && q)
+  pub eleven_by : (C : Clauses) (B : List Literal) → NoClause s.t → {p q : Bool}
+      → p ≡ (eqb (bit_and s.used.0 1) 0 || on_branch B s.p.0)
+      → q ≡ (eqb (bit_and s.used.0 2) 0 || on_branch B s.q.0)
+      → every (is_there C B) (rule_uses s.rule) (step_fields s) ≡ (p && q)
   eleven_by C B n a b =
       let x = s.rule in
       eleven C B x (step_fields s)
-      ∙ rw (place_there C B (rule_fields x).p, place_there C B (rule_fields x).q, third_there C B (rule_fields x).t (third_in s.t) (omega (arith, n, W.third)), and-true, ← unset_p, ← unset_q, a, b)
+      ∙ rw (
+        place_there C B (rule_fields x).p,
+        place_there C B (rule_fields x).q,
+        third_there C B
+            (rule_fields x).t (third_in s.t) (omega (arith, n, W.third)),
+        and-true,
+        ← unset_p,
+        ← unset_q,
+        a,
+        b,
+      )
 
 -- WHAT THE RULE IS GIVEN, after checks 6 and 8
 made_small : (table : Table) (n : ℕ) → length table ≤ max_terms → is_term table n ≡ true → Small n
-made_small table n few h = let l : n ≤ length table = leb-true n (length table) (both_true (leb 1 n) _ h).1 in omega arith
+made_small table n few h =
+    let l : n ≤ length table = leb-true n (length table) (both_true (leb 1 n) _ h).1 in omega arith
 
 module _ (table : Table) (few : length table ≤ max_terms) where
-  third_given : (f : ThirdField) (n : ℕ) → zero_if_unused (third_use f) n ≡ true → term_or_name table (third_use f) n ≡ true → ThirdGiven f n
+  third_given : (f : ThirdField) (n : ℕ) → zero_if_unused (third_use f) n ≡ true
+      → term_or_name table (third_use f) n ≡ true → ThirdGiven f n
   third_given unused n z h = eqb-true n 0 z
   third_given side n z h = tt
   third_given clause n z h = tt
   third_given term n z h = made_small table n few h
   third_given (of s) n z h = made_small table n few h
 
-  fourth_given : (f : TermField) (n : ℕ) → zero_if_unused (term_use f) n ≡ true → term_or_name table (term_use f) n ≡ true → TermGiven f n
+  fourth_given : (f : TermField) (n : ℕ) → zero_if_unused (term_use f) n ≡ true
+      → term_or_name table (term_use f) n ≡ true → TermGiven f n
   fourth_given unused n z h = eqb-true n 0 z
   fourth_given term n z h = made_small table n few h
   fourth_given (of s) n z h = made_small table n few h
 
-  pub step_given : (s : Step) → WellTaken s → every (term_or_name table) (rule_uses s.rule) (step_fields s) ≡ true → Given s.rule (third_in s.t) s.w.0
+  pub step_given : (s : Step) → WellTaken s
+      → every (term_or_name table) (rule_uses s.rule) (step_fields s) ≡ true
+      → Given s.rule (third_in s.t) s.w.0
   step_given s W e =
       let z = every_true zero_if_unused (rule_uses s.rule) (step_fields s) W.unused_zero in
       let h = every_true (term_or_name table) (rule_uses s.rule) (step_fields s) e in
@@ -155,7 +186,8 @@ module _ (table : Table) (few : length table ≤ max_terms) where
       }
 
 -- a field that is a term is small, used or not
-pub third_small : (f : ThirdField) (t : TermNumber) → ThirdFits f (declared.ThirdField.Term t) → ThirdGiven f t.0 → Small t.0
+pub third_small : (f : ThirdField) (t : TermNumber) → ThirdFits f (declared.ThirdField.Term t)
+    → ThirdGiven f t.0 → Small t.0
 third_small unused t h g = omega arith
 third_small side t h g = absurd (omega arith)
 third_small clause t h g = absurd (omega arith)
@@ -192,13 +224,23 @@ pub others_unsorted : (table : Table) (x : Rule) (t w : ℕ) → NoneOf x (Rule.
 unfolding rules rule_names rule_fields
 others_unsorted table x t w o =
     let b = both_true (not (asks_sort (rule_uses x).c)) _
-    (other_rule (λ y. not (asks_sort (rule_uses y).c) && not (asks_sort (rule_uses y).d)) (Rule.Cut ∷ Rule.Ler ∷ []) refl x o) in
-    λ i. unsorted table (rule_uses x).c t (not-true _ b.0) i && unsorted table (rule_uses x).d w (not-true _ b.1) i
+    (other_rule (λ y. not (asks_sort (rule_uses y).c) && not (asks_sort (rule_uses y).d))
+    (Rule.Cut ∷ Rule.Ler ∷ []) refl x o) in
+    λ i.
+    unsorted table (rule_uses x).c t (not-true _ b.0) i && unsorted table (rule_uses x).d w
+    (not-true _ b.1) i
 
 -- nor has a rule whose t is no term
-pub unsorted_unless_term : (table : Table) (x : Rule) (t w : ℕ) → 1 ≤ kind_of (rule_fields x).t → (of_sort table (rule_uses x).c t && of_sort table (rule_uses x).d w) ≡ true
+pub unsorted_unless_term : (table : Table) (x : Rule) (t w : ℕ) → 1 ≤ kind_of (rule_fields x).t
+    → (of_sort table (rule_uses x).c t && of_sort table (rule_uses x).d w) ≡ true
 unfolding rules rule_names rule_fields
 unsorted_unless_term table x t w h =
-    let e = every_rule (λ y. eqb (kind_of (rule_fields y).t) 0 || (not (asks_sort (rule_uses y).c) && not (asks_sort (rule_uses y).d))) refl x in
-    let b = both_true (not (asks_sort (rule_uses x).c)) _ (rw (ne_eqb (kind_of (rule_fields x).t) 0 (λ z. omega arith)) at e) in
-    λ i. unsorted table (rule_uses x).c t (not-true _ b.0) i && unsorted table (rule_uses x).d w (not-true _ b.1) i
+    let e =
+    every_rule (λ y. eqb (kind_of (rule_fields y).t) 0 ||
+    (not (asks_sort (rule_uses y).c) && not (asks_sort (rule_uses y).d))) refl x in
+    let b =
+    both_true (not (asks_sort (rule_uses x).c)) _
+    (rw (ne_eqb (kind_of (rule_fields x).t) 0 (λ z. omega arith)) at e) in
+    λ i.
+    unsorted table (rule_uses x).c t (not-true _ b.0) i && unsorted table (rule_uses x).d w
+    (not-true _ b.1) i

@@ -36,7 +36,8 @@ looks_at_clause background = false
 
 -- a rule of another kind concludes the same of any clause
 module _ (table : Table) (P Q : Option Literal) (t w : ℕ) (D : List Literal) (E : Bool) where
-  same_conclusion : (k : Kind) → looks_at_clause k ≡ false → conclude table P Q t w D E k ≡ conclude table P Q t w [] E k
+  same_conclusion : (k : Kind) → looks_at_clause k ≡ false
+      → conclude table P Q t w D E k ≡ conclude table P Q t w [] E k
   unfolding conclude
   same_conclusion (rows Rs) h = refl
   same_conclusion congruence h = refl
@@ -45,26 +46,36 @@ module _ (table : Table) (P Q : Option Literal) (t w : ℕ) (D : List Literal) (
   same_conclusion background h = refl
 
 -- a rule that is not `cla`, whose t is a clause's number
-pub no_clause_asked : (table : Table) (f : Freshness) (P Q : Option Literal) (D : List Literal) (E : Bool) (t w : ℕ) (x : Rule) → kind_of (rule_fields x).t < 2
+pub no_clause_asked : (table : Table) (f : Freshness) (P Q : Option Literal) (D : List Literal)
+    (E : Bool) (t w : ℕ) (x : Rule) → kind_of (rule_fields x).t < 2
     → answer table f P Q D E t w x ≡ answer table f P Q [] E t w x
 unfolding answer rules rule_names rule_fields rule
 no_clause_asked table f P Q D E t w x h =
-    let e = every_rule (λ y. eqb (kind_of (rule_fields y).t) 2 || not (looks_at_clause (rule y))) refl x in
+    let e =
+    every_rule (λ y. eqb (kind_of (rule_fields y).t) 2 || not
+    (looks_at_clause (rule y))) refl x in
     let n = not-true _ (rw (ne_eqb (kind_of (rule_fields x).t) 2 (λ z. omega arith)) at e) in
     rw (same_conclusion table P Q t w D E (rule x) n)
 
 -- `cla` adds the literals of its clause
-pub cla_answer : (table : Table) (C : Clauses) (s : Step) {k : ClauseNumber} (f : Freshness) (P Q : Option Literal) (E : Bool) (w : ℕ) → s.rule ≡ Rule.Cla → s.t ≡ declared.ThirdField.Clause k
-    → answer table f P Q (clause_of C (third_in s.t)) E (third_in s.t) w s.rule ≡ passed (map (λ l. l ∷ []) (clause_of C k.0))
+pub cla_answer : (table : Table) (C : Clauses) (s : Step) {k : ClauseNumber} (f : Freshness)
+    (P Q : Option Literal) (E : Bool) (w : ℕ) → s.rule ≡ Rule.Cla
+    → s.t ≡ declared.ThirdField.Clause k
+    → answer table f P Q (clause_of C (third_in s.t)) E (third_in s.t) w s.rule ≡ passed
+    (map (λ l. l ∷ []) (clause_of C k.0))
 unfolding answer conclude rule
 cla_answer table C s f P Q E w e q = rw (e, q)
 
 -- CHECK 11 of `cla`
-cla_there : (C : Clauses) (B : List Literal) (s : Step) {k : ClauseNumber} → s.rule ≡ Rule.Cla → s.t ≡ declared.ThirdField.Clause k
+cla_there : (C : Clauses) (B : List Literal) (s : Step) {k : ClauseNumber} → s.rule ≡ Rule.Cla
+    → s.t ≡ declared.ThirdField.Clause k
     → every (is_there C B) (rule_uses s.rule) (step_fields s) ≡ is_clause C k.0
 unfolding rule_fields
 cla_there C B s {k} e q = rw (e, q) (and-true (is_clause C k.0))
 
-pub clause_there : (C : Clauses) (B : List Literal) (s : Step) {k : ClauseNumber} {last : ℕ} → s.rule ≡ Rule.Cla → s.t ≡ declared.ThirdField.Clause k
-    → InSequence C → last_clause C ≡ last → every (is_there C B) (rule_uses s.rule) (step_fields s) ≡ (leb 1 k.0 && leb k.0 last)
-clause_there C B s {k} e q h l = cla_there C B s e q ∙ is_clause_lem C k.0 h ∙ ap (λ n. leb 1 k.0 && leb k.0 n) l
+pub clause_there : (C : Clauses) (B : List Literal) (s : Step) {k : ClauseNumber} {last : ℕ}
+    → s.rule ≡ Rule.Cla → s.t ≡ declared.ThirdField.Clause k
+    → InSequence C → last_clause C ≡ last
+    → every (is_there C B) (rule_uses s.rule) (step_fields s) ≡ (leb 1 k.0 && leb k.0 last)
+clause_there C B s {k} e q h l =
+    cla_there C B s e q ∙ is_clause_lem C k.0 h ∙ ap (λ n. leb 1 k.0 && leb k.0 n) l

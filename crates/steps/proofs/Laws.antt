@@ -21,16 +21,25 @@ use Rattle.conclusions.specs.Infers.{at_place}
 module _ (codes : List ℕ) where
   place_in : (n : ℕ) → on_branch (map unpack_literal codes) n ≡ true → (1 ≤ n) × (n ≤ length codes)
   place_in n h =
-      let b = both_true (leb 1 n) _ h in
-      (leb-true 1 n b.0, omega (arith, leb-true n (length (map unpack_literal codes)) b.1, length-map codes unpack_literal))
+      let b = both_true (leb 1 n) _ h in (
+        leb-true 1 n b.0,
+        omega (
+          arith,
+          leb-true n (length (map unpack_literal codes)) b.1,
+          length-map codes unpack_literal,
+        ),
+      )
 
-  pub place_within : (C : Clauses) (f : PlaceField) (n : ℕ) → zero_if_unused (place_use f) n ≡ true → is_there C (map unpack_literal codes) (place_use f) n ≡ true
+  pub place_within : (C : Clauses) (f : PlaceField) (n : ℕ) → zero_if_unused (place_use f) n ≡ true
+      → is_there C (map unpack_literal codes) (place_use f) n ≡ true
       → n ≤ length codes
   place_within C unused n z h = omega (arith, eqb-true n 0 z)
   place_within C place n z h = (place_in n h).1
 
   -- the literal that was read is the one at the place
-  pub place_read : (C : Clauses) (f : PlaceField) (n : ℕ) (P : LiteralView) → zero_if_unused (place_use f) n ≡ true
-      → is_there C (map unpack_literal codes) (place_use f) n ≡ true → ReadAt codes n P → literal_at (map unpack_literal codes) n ≡ at_place f P
+  pub place_read : (C : Clauses) (f : PlaceField) (n : ℕ) (P : LiteralView)
+      → zero_if_unused (place_use f) n ≡ true
+      → is_there C (map unpack_literal codes) (place_use f) n ≡ true → ReadAt codes n P
+      → literal_at (map unpack_literal codes) n ≡ at_place f P
   place_read C unused n P z h r = ap (literal_at (map unpack_literal codes)) (eqb-true n 0 z)
   place_read C place n P z h r = r.is (place_in n h).0

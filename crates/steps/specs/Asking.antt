@@ -4,7 +4,8 @@ use Rattle.std.specs.Prelude.{Option}
 use Rattle.tableau.specs.declared.Rule.{Rule}
 use Rattle.tableau.specs.Fields.{rule_uses}
 use Rattle.tableau.specs.Terms.{Table, Literal, Clauses}
-use Rattle.tableau.specs.Rules.{Row, Kind, rows, congruence, replacement, disjunction, background, rule}
+use Rattle.tableau.specs.Rules.{Row, Kind, rows, congruence, replacement, disjunction, background}
+use Rattle.tableau.specs.Rules.{rule}
 use Rattle.tableau.specs.Steps.{freshness}
 use Rattle.tableau.specs.Saturation.{contradicted}
 use Rattle.tableau.specs.Tree.{answer}
@@ -41,12 +42,15 @@ asks_fresh x = fresh_kind (rule x)
 abbrev pub asks_branch : Rule → Bool
 asks_branch x = asks_fresh x || is_background x
 
--- told this, the step's rule answers as it does with the freshness of its w and with whether the branch contradicts itself
+-- told this, the step's rule answers as it does with the freshness of its w and with whether the
+-- branch contradicts itself
 abbrev pub Tells : Table → Clauses → List Literal → Step → Told → Type 0
 Tells table C B s o = (P Q : Option Literal) (D : List Literal) (t : ℕ)
-    → answer table o.fresh P Q D o.contradicted t s.w.0 s.rule ≡ answer table (freshness table C B s.w.0) P Q D (contradicted table B) t s.w.0 s.rule
+    → answer table o.fresh P Q D o.contradicted t s.w.0 s.rule ≡ answer table
+    (freshness table C B s.w.0) P Q D (contradicted table B) t s.w.0 s.rule
 
 -- what the step is told, and the rows after it
-pub record Answers (table : Table) (C : Clauses) (codes : List ℕ) (s : Step) (prefix : List ℕ) (r : Asked) : Type 0 where
+pub record Answers (table : Table) (C : Clauses) (codes : List ℕ) (s : Step) (prefix : List ℕ)
+    (r : Asked) : Type 0 where
   pub tells : Tells table C (map unpack_literal codes) s r.told
   pub rows : PrefixRows table C codes prefix r.noted

@@ -15,7 +15,8 @@ abbrev pub inferred_in : Clauses → Result Inference Reason → Checked (List (
 inferred_in C (Ok i) = passed (added_in C i)
 inferred_in C (Err r) = refused r
 
--- the tree has room for an outcome's alternatives; a clause that is named is one of those up to the last
+-- the tree has room for an outcome's alternatives; a clause that is named is one of those up to the
+-- last
 abbrev pub RoomFor : ℕ → Inference → Type 0
 RoomFor last (Inference.ByRule x) = Room x
 RoomFor last (Inference.ByClause k) = (1 ≤ k.0) × (k.0 ≤ last)

@@ -1,4 +1,5 @@
-// What a step asks of the whole branch: is w fresh, does the branch contradict itself? Asked only where the rule asks it.
+// What a step asks of the whole branch: is w fresh, does the branch contradict itself? Asked only
+// where the rule asks it.
 ghost use Rattle.std.specs.Prelude.{◌≡◌, ◌≤◌, length};
 ghost use Rattle.tableau.specs.Terms.{Table, Clauses};
 ghost use Rattle.table.specs.Held.{Entries};
@@ -18,7 +19,8 @@ pub struct Asked {
     pub noted: usize,
 }
 
-// The first `noted` literals of the branch have their rows. A rule that does not ask looks at no answer: any serves.
+// The first `noted` literals of the branch have their rows. A rule that does not ask looks at no
+// answer: any serves.
 pub fn ask(
     step: Step,
     branch: &[u32],
@@ -31,7 +33,8 @@ pub fn ask(
     requires entries { (table : Table) × Entries table terms.now × (length table ≡ n) }
     requires branch { AreCodes branch.now × (noted ≤ length branch.now) }
     ensures noted_le_len { result.noted ≤ length branch.now }
-    ensures told { (table : Table) (C : Clauses) → Entries table terms.now → MentionRows table rows.now → length table ≡ n
+    ensures told { (table : Table) (C : Clauses) → Entries table terms.now
+        → MentionRows table rows.now → length table ≡ n
         → PrefixRows table C branch.now prefix.old noted
         → Answers table C branch.now step prefix.new result }
 {

@@ -27,7 +27,8 @@ fn if_used(used: Mask, bit: u8, holds: bool) -> bool
 // Check 8: "a term field names no term made so far". A side or a clause number names none.
 pub fn terms_made(n: usize, step: Step) -> bool
     requires { WellTaken step }
-    ensures { (table : Table) → length table ≡ n → result ≡ every (term_or_name table) (rule_uses step.rule) (step_fields step) }
+    ensures { (table : Table) → length table ≡ n
+        → result ≡ every (term_or_name table) (rule_uses step.rule) (step_fields step) }
 {
     let w_made = if_used(step.used, Mask::W, is_term(n, step.w));
     let ThirdField::Term(t) = step.t else {
@@ -66,7 +67,8 @@ pub fn sorts_fit(terms: &[u64; table::NUMBERS], step: Step) -> bool
 // Check 11 where t is no clause: "a place used is not on the branch".
 pub fn places_there(len: usize, step: Step) -> bool
     requires { WellTaken step × NoClause step.t }
-    ensures { (C : Clauses) (B : List Literal) → length B ≡ len → result ≡ every (is_there C B) (rule_uses step.rule) (step_fields step) }
+    ensures { (C : Clauses) (B : List Literal) → length B ≡ len
+        → result ≡ every (is_there C B) (rule_uses step.rule) (step_fields step) }
 {
     if_used(step.used, Mask::P, Tree::has_place(len, step.p))
         && if_used(step.used, Mask::Q, Tree::has_place(len, step.q))

@@ -18,7 +18,8 @@ use rules::outcome::Outcome;
 use syntax::{Step, ThirdField};
 use tableau::{ClauseNumber, Reason};
 
-// What a step adds: the outcome of its rule, or, of `cla`, the literals of a clause, which is named.
+// What a step adds: the outcome of its rule, or, of `cla`, the literals of a clause, which is
+// named.
 #[derive(Clone, Copy)]
 pub enum Inference {
     ByRule(Outcome),
@@ -34,12 +35,15 @@ fn added(
     terms: &[u64; table::NUMBERS],
     chains: &[u16; table::LINKS],
 ) -> Result<Inference, Reason>
-    requires searchable { (table : Table) × Searchable table terms.now chains.now × TermsNamed table step }
+    requires searchable { (table : Table) × Searchable table terms.now chains.now
+        × TermsNamed table step }
     requires branch { AreCodes branch.now × WellTaken step }
     ensures room_for { IfOk result (RoomFor last) }
-    ensures result_value { (table : Table) (C : Clauses) → Searchable table terms.now chains.now → InSequence C → last_clause C ≡ last
+    ensures result_value { (table : Table) (C : Clauses) → Searchable table terms.now chains.now
+        → InSequence C → last_clause C ≡ last
         → Tells table C (map unpack_literal branch.now) step told
-        → inferred_in C result ≡ alternatives table C (map unpack_literal branch.now) step.rule (step_fields step) }
+        → inferred_in C result
+        ≡ alternatives table C (map unpack_literal branch.now) step.rule (step_fields step) }
 {
     // `cla`, "a `cla` on no clause". It meets no other check.
     if let ThirdField::Clause(k) = step.t {
@@ -57,7 +61,8 @@ fn added(
     Ok(Inference::ByRule(outcome))
 }
 
-// Checks 8, 9 and 11 to 14, where n terms are made, and what the rule asks of the whole branch was asked.
+// Checks 8, 9 and 11 to 14, where n terms are made, and what the rule asks of the whole branch was
+// asked.
 pub fn infer(
     step: Step,
     told: Told,
@@ -67,12 +72,15 @@ pub fn infer(
     chains: &[u16; table::LINKS],
     n: usize,
 ) -> Result<Inference, Reason>
-    requires searchable { (table : Table) × Searchable table terms.now chains.now × (length table ≡ n) }
+    requires searchable { (table : Table) × Searchable table terms.now chains.now
+        × (length table ≡ n) }
     requires branch { AreCodes branch.now × WellTaken step }
     ensures room_for { IfOk result (RoomFor last) }
-    ensures result_value { (table : Table) (C : Clauses) → Searchable table terms.now chains.now → length table ≡ n → InSequence C → last_clause C ≡ last
+    ensures result_value { (table : Table) (C : Clauses) → Searchable table terms.now chains.now
+        → length table ≡ n → InSequence C → last_clause C ≡ last
         → Tells table C (map unpack_literal branch.now) step told
-        → inferred_in C result ≡ step_line table C (map unpack_literal branch.now) step.rule (step_fields step) }
+        → inferred_in C result
+        ≡ step_line table C (map unpack_literal branch.now) step.rule (step_fields step) }
 {
     if !checks::terms_made(n, step) {
         return Err(Reason::NoSuchTerm);

@@ -8,7 +8,8 @@ use packing::literals::view;
 use tableau::{Place, TermNumber};
 use tree::Tree;
 
-// The literal at a place. A rule that does not use the place has 0 there, and looks at no literal: any serves.
+// The literal at a place. A rule that does not use the place has 0 there, and looks at no literal:
+// any serves.
 pub fn literal(branch: &[u32], place: Place) -> LiteralView
     requires { AreCodes branch.now × (place.0 ≤ length branch.now) }
     ensures { ReadAt branch.now place.0 result }

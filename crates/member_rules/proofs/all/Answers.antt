@@ -13,9 +13,13 @@ returns-in_default c = let p = c.args.p in other_p p refl (is_not Relation.In p 
 -- `all` does not stand in the table
 pub returns-in_err-a : goal.returns-in_err-a
 unfolding computing
-returns-in_err-a c = passes_on c.from_residual.ensures.1 (not_named refl refl c.in-In.is c.on_none.ensures c.in_err-a.was)
+returns-in_err-a c =
+    passes_on c.from_residual.ensures.1
+    (not_named refl refl c.in-In.is c.on_none.ensures c.in_err-a.was)
 
 -- it does
 pub returns : goal.returns
 unfolding computing
-returns c = named refl refl c.in-In.is c.on_none.ensures c.in_ok-a.was (rw c.literal.ensures at c.adds_one.ensures)
+returns c =
+    named refl refl c.in-In.is c.on_none.ensures c.in_ok-a.was
+    (rw c.literal.ensures at c.adds_one.ensures)

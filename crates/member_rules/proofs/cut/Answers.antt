@@ -6,4 +6,5 @@ use Rattle.member_rules.proofs.cut.Goals as goal
 
 pub returns : goal.returns
 unfolding computing
-returns c = always refl (λ table. refl) (rw (c.literal.ensures, c.literal-2.ensures) at c.splits.ensures)
+returns c =
+    always refl (λ table. refl) (rw (c.literal.ensures, c.literal-2.ensures) at c.splits.ensures)

@@ -13,9 +13,13 @@ returns-in_default c = let p = c.args.p in other_p p refl (is_not Relation.In p 
 -- `nul` does not stand in the table
 pub returns-in_err-n : goal.returns-in_err-n
 unfolding computing
-returns-in_err-n c = passes_on c.from_residual.ensures.1 (not_named refl refl c.in-In.is c.on_none.ensures c.in_err-n.was)
+returns-in_err-n c =
+    passes_on c.from_residual.ensures.1
+    (not_named refl refl c.in-In.is c.on_none.ensures c.in_err-n.was)
 
 -- it does
 pub returns : goal.returns
 unfolding computing
-returns c = named refl refl c.in-In.is c.on_none.ensures c.in_ok-n.was (rw c.literal.ensures at c.adds_one.ensures)
+returns c =
+    named refl refl c.in-In.is c.on_none.ensures c.in_ok-n.was
+    (rw c.literal.ensures at c.adds_one.ensures)

@@ -12,7 +12,8 @@ returns-in_err-a c =
     passes_on c.from_residual.ensures.1 record {
       room = tt;
       answers = λ table h fresh.
-          let K = is_sin (at table c.args.t.0) _ ((c.view.ensures table h.entries).is ∙ c.in-Sin.is) in
+          let K =
+          is_sin (at table c.args.t.0) _ ((c.view.ensures table h.entries).is ∙ c.in-Sin.is) in
           let m = missing c.on_none.ensures h c.in_err-a.was in
           rw (K.3, m.0, m.1);
     }
@@ -24,7 +25,8 @@ returns c =
     record {
       room = built.room;
       answers = λ table h fresh.
-          let K = is_sin (at table c.args.t.0) _ ((c.view.ensures table h.entries).is ∙ c.in-Sin.is) in
+          let K =
+          is_sin (at table c.args.t.0) _ ((c.view.ensures table h.entries).is ∙ c.in-Sin.is) in
           rw (K.3, found c.on_none.ensures h c.in_ok-a.was, built.adds);
     }
 

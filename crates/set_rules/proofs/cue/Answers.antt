@@ -19,4 +19,5 @@ returns-in_default c = let p = c.args.p in other_p p refl (is_not Relation.In p 
 -- x is not cup(r,s)
 pub returns-in_default-view : goal.returns-in_default-view
 unfolding computing
-returns-in_default-view c = other_region refl refl c.in-In.is c.view.ensures c.in_default-view.not-Cup
+returns-in_default-view c =
+    other_region refl refl c.in-In.is c.view.ensures c.in_default-view.not-Cup

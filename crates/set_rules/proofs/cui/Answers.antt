@@ -13,7 +13,11 @@ pub returns-in_default : goal.returns-in_default
 unfolding computing
 returns-in_default c =
     let p = c.args.p in
-    record { room = tt; answers = λ table h fresh. rw (by_sides p, is_not Relation.In p c.in_default.not-In) }
+    record {
+      room = tt;
+      answers = λ table h fresh.
+          rw (by_sides p, is_not Relation.In p c.in_default.not-In);
+    }
 
 -- t is not cup(r,s)
 pub returns-in_default-view : goal.returns-in_default-view
@@ -22,7 +26,12 @@ returns-in_default-view c =
     let t = c.args.t.0 in
     record {
       room = tt;
-      answers = λ table h fresh. rw (c.in-In.is, no_arguments Operator.Cup (at table t) (c.view.ensures table h).is c.in_default-view.not-Cup);
+      answers = λ table h fresh.
+          rw (
+            c.in-In.is,
+            no_arguments Operator.Cup (at table t)
+                (c.view.ensures table h).is c.in_default-view.not-Cup,
+          );
     }
 
 -- x is neither
@@ -36,7 +45,8 @@ pub returns : goal.returns
 returns c =
     where_true (united c.in-In.is c.in-Cup.is c.view.ensures)
     (elim c.else-ne.branch [
-      | else-ne-via-then-ne+else-ne-2 w ↦ rw (differ c.ne.ensures w.if-ne.true, agree w.ne-then-ne.ensures w.if-ne-2.false)
+      | else-ne-via-then-ne+else-ne-2 w ↦
+          rw (differ c.ne.ensures w.if-ne.true, agree w.ne-then-ne.ensures w.if-ne-2.false)
       | else-ne-via-else-ne w ↦ rw (agree c.ne.ensures w.if-ne.false)
     ])
     (rw c.literal.ensures at c.adds_one.ensures)

@@ -15,7 +15,8 @@ returns-in_default c =
 
 -- w is not fresh
 pub returns-in-NotFresh : goal.returns-in-NotFresh
-returns-in-NotFresh c = unequal c.in-Ne.is c.are_regions.ensures tt (rw (c.if-not-are_regions.false, c.in-NotFresh.is))
+returns-in-NotFresh c =
+    unequal c.in-Ne.is c.are_regions.ensures tt (rw (c.if-not-are_regions.false, c.in-NotFresh.is))
 
 pub returns : goal.returns
 returns c =
@@ -30,4 +31,5 @@ returns c =
 
 -- r or s is no region
 pub returns-then-not-are_regions : goal.returns-then-not-are_regions
-returns-then-not-are_regions c = unequal c.in-Ne.is c.are_regions.ensures tt (rw c.if-not-are_regions.true)
+returns-then-not-are_regions c =
+    unequal c.in-Ne.is c.are_regions.ensures tt (rw c.if-not-are_regions.true)

@@ -12,7 +12,12 @@ unfolding computing
 returns c =
     record {
       room = tt;
-      answers = λ table h fresh. rw (c.in-In.is, (is_emp (at table c.in-In.r.0) ((c.view.ensures table h).is ∙ c.in-Emp.is)).1);
+      answers = λ table h fresh.
+          rw (
+            c.in-In.is,
+            (is_emp (at table c.in-In.r.0)
+                ((c.view.ensures table h).is ∙ c.in-Emp.is)).1,
+          );
     }
 
 -- p is not u in r
@@ -23,4 +28,5 @@ returns-in_default c = let p = c.args.p in other_p p refl (is_not Relation.In p 
 -- r is not emp
 pub returns-in_default-view : goal.returns-in_default-view
 unfolding computing
-returns-in_default-view c = other_region refl refl c.in-In.is c.view.ensures c.in_default-view.not-Emp
+returns-in_default-view c =
+    other_region refl refl c.in-In.is c.view.ensures c.in_default-view.not-Emp

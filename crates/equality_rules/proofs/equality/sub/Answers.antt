@@ -8,7 +8,11 @@ pub returns-in_default : goal.returns-in_default
 unfolding computing conclude_sub
 returns-in_default c =
     let p = c.args.p in
-    record { room = tt; answers = λ table h fresh. rw (by_sides p, is_not Relation.Eq p c.in_default.not-Eq) }
+    record {
+      room = tt;
+      answers = λ table h fresh.
+          rw (by_sides p, is_not Relation.Eq p c.in_default.not-Eq);
+    }
 
 -- t and w are not congruent
 pub returns-then-not-congruent : goal.returns-then-not-congruent

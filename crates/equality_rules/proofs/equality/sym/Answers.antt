@@ -12,7 +12,11 @@ unfolding computing
 returns-in_default c =
     let p = c.args.p in
     let n = c.in_default in
-    record { room = tt; answers = λ table h fresh. rw (by_sides p, is_not Relation.Eq p n.not-Eq, is_not Relation.Ne p n.not-Ne) }
+    record {
+      room = tt;
+      answers = λ table h fresh.
+          rw (by_sides p, is_not Relation.Eq p n.not-Eq, is_not Relation.Ne p n.not-Ne);
+    }
 
 -- p is a eq b, or a ne b
 pub returns : goal.returns

@@ -23,23 +23,28 @@ returns-in_default c =
 -- p is
 pub returns-in_default-2 : goal.returns-in_default-2
 unfolding computing
-returns-in_default-2 c = let p = c.args.p in other_p p refl (is_not Relation.Le p c.in_default.not-Le-0)
+returns-in_default-2 c =
+    let p = c.args.p in other_p p refl (is_not Relation.Le p c.in_default.not-Le-0)
 
 -- whether q's sides are b and a decides
 turned : (i : goal.In-Le-Le)
     → let k = i.in-Le-Le in
-    MetIf Anywhere Rule.Lea (Some (literal_of i.args.p)) (Some (literal_of i.args.q)) 0 0 (eqb k.b.0 k.x.0 && eqb k.a.0 k.y.0)
+    MetIf Anywhere Rule.Lea (Some (literal_of i.args.p)) (Some (literal_of i.args.q)) 0 0
+    (eqb k.b.0 k.x.0 && eqb k.a.0 k.y.0)
     ((literal Relation.Eq k.a.0 k.b.0 ∷ []) ∷ [])
 unfolding computing
 turned i =
     let k = i.in-Le-Le in
     record {
       answers = λ table h fresh.
-          rw (k.is-0, k.is-1) (by_tests (eqb k.b.0 k.x.0) (eqb k.a.0 k.y.0) (λ m. rw m) (λ m n. rw (m, n)) (λ m n. rw (m, n)));
+          rw (k.is-0, k.is-1) (by_tests (eqb k.b.0 k.x.0) (eqb k.a.0 k.y.0) (λ m. rw m)
+          (λ m n. rw (m, n)) (λ m n. rw (m, n)));
     }
 
 pub returns-then-ne : goal.returns-then-ne
 returns-then-ne c = unmet (turned (goal.at.returns-then-ne c).In-Le-Le) c.ne.ensures c.if-ne.true
 
 pub returns : goal.returns
-returns c = met (turned (goal.at.returns c).In-Le-Le) c.ne.ensures c.if-ne.false (rw c.literal.ensures at c.adds_one.ensures)
+returns c =
+    met (turned (goal.at.returns c).In-Le-Le) c.ne.ensures c.if-ne.false
+    (rw c.literal.ensures at c.adds_one.ensures)

@@ -16,15 +16,19 @@ returns-in_default c =
 -- p is
 pub returns-in_default-2 : goal.returns-in_default-2
 unfolding computing
-returns-in_default-2 c = let p = c.args.p in other_p p refl (is_not Relation.Le p c.in_default.not-Le-0)
+returns-in_default-2 c =
+    let p = c.args.p in other_p p refl (is_not Relation.Le p c.in_default.not-Le-0)
 
 -- whether q's left side is b decides
 pub returns-then-ne : goal.returns-then-ne
 unfolding computing
-returns-then-ne c = unmet (chained refl (ap literal_of c.in-Le-Le.is-0) (ap literal_of c.in-Le-Le.is-1)) c.ne.ensures c.if-ne.true
+returns-then-ne c =
+    unmet (chained refl (ap literal_of c.in-Le-Le.is-0)
+    (ap literal_of c.in-Le-Le.is-1)) c.ne.ensures c.if-ne.true
 
 pub returns : goal.returns
 unfolding computing
 returns c =
-    met (chained refl (ap literal_of c.in-Le-Le.is-0) (ap literal_of c.in-Le-Le.is-1)) c.ne.ensures c.if-ne.false
+    met (chained refl (ap literal_of c.in-Le-Le.is-0)
+    (ap literal_of c.in-Le-Le.is-1)) c.ne.ensures c.if-ne.false
     (rw c.literal.ensures at c.adds_one.ensures)

@@ -6,7 +6,8 @@ use Rattle.tableau.specs.declared.Operator.{Operator}
 use Rattle.tableau.specs.declared.Relation.{Relation}
 use Rattle.tableau.specs.Terms.{Table, at}
 use Rattle.table.specs.Held.{Entries}
-use Rattle.rules.proofs.Laws.{Arguments2, Arguments3, agree, by_test, computing, differ, found, is_cup, is_img, is_not, missing, no_arguments}
+use Rattle.rules.proofs.Laws.{Arguments2, Arguments3, agree, by_test, computing, differ, found}
+use Rattle.rules.proofs.Laws.{is_cup, is_img, is_not, missing, no_arguments}
 use Rattle.rules.proofs.Rows.{by_failed, other_p, passes_on}
 use Rattle.heap_rules.proofs.images.fin.Goals as goal
 use Rattle.heap_rules.proofs.images.fin.Goals.{Else-ne, In-Cup, In-Img}
@@ -33,7 +34,11 @@ returns-in_default-view c =
     record {
       room = tt;
       answers = λ table h fresh.
-          rw (c.in-Eq.is, no_arguments Operator.Cup (at table _) (c.view.ensures table h.entries).is c.in_default-view.not-Cup);
+          rw (
+            c.in-Eq.is,
+            no_arguments Operator.Cup (at table _)
+                (c.view.ensures table h.entries).is c.in_default-view.not-Cup,
+          );
     }
 
 -- i is not img(h,s,f)
@@ -45,7 +50,11 @@ returns-in_default-view-2 c =
       answers = λ table h fresh.
           rw (c.in-Eq.is, (is_union (goal.at.returns-in_default-view-2 c).In-Cup table h.entries).2)
           (by_test (eqb c.in-Cup.i.0 c.in-Eq.image.0)
-          (λ e. rw (e, no_arguments Operator.Img (at table _) (c.view-2.ensures table h.entries).is c.in_default-view-2.not-Img))
+          (λ e. rw (
+            e,
+            no_arguments Operator.Img (at table _)
+                (c.view-2.ensures table h.entries).is c.in_default-view-2.not-Img,
+          ))
           (λ e. rw e));
     }
 
@@ -61,11 +70,13 @@ returns-then-ne c =
           let U = is_union (goal.at.returns-then-ne c).In-Cup table h.entries in
           let I = is_image (goal.at.returns-then-ne c).In-Img table h.entries in
           rw (c.in-Eq.is, U.2)
-          (by_failed (eqb i image) (eqb c.in-Cup.r.0 c.in-Img.s.0) (differ c.ne.ensures c.if-ne.true) (λ m. rw m) (λ m n. rw (m, I.1, n)));
+          (by_failed (eqb i image) (eqb c.in-Cup.r.0 c.in-Img.s.0)
+          (differ c.ne.ensures c.if-ne.true) (λ m. rw m) (λ m n. rw (m, I.1, n)));
     }
 
 -- they are the same
-same_parts : (e : goal.Else-ne) → (eqb e.in-Cup.i.0 e.in-Eq.image.0 ≡ true) × (eqb e.in-Cup.r.0 e.in-Img.s.0 ≡ true)
+same_parts : (e : goal.Else-ne)
+    → (eqb e.in-Cup.i.0 e.in-Eq.image.0 ≡ true) × (eqb e.in-Cup.r.0 e.in-Img.s.0 ≡ true)
 same_parts e = both_true _ _ (agree e.ne.ensures e.if-ne.false)
 
 -- cup(i,r) is no term
@@ -93,5 +104,13 @@ returns c =
       answers = λ table h fresh.
           let U = is_union (goal.at.returns c).In-Cup table h.entries in
           let I = is_image (goal.at.returns c).In-Img table h.entries in
-          rw (c.in-Eq.is, U.2, same.0, I.1, same.1, found c.on_three.ensures h c.in_ok-turned.was, b.adds);
+          rw (
+            c.in-Eq.is,
+            U.2,
+            same.0,
+            I.1,
+            same.1,
+            found c.on_three.ensures h c.in_ok-turned.was,
+            b.adds,
+          );
     }

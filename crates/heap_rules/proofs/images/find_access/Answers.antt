@@ -26,7 +26,12 @@ returns-in_err-value c =
       small = tt;
       is = λ table S.
           let m = missing c.on_three.ensures S c.in_err-value.was in
-          rw (found c.on_one.ensures S c.in_ok-class.was, found c.on_one-2.ensures S c.in_ok-owner.was, m.0, m.1);
+          rw (
+            found c.on_one.ensures S c.in_ok-class.was,
+            found c.on_one-2.ensures S c.in_ok-owner.was,
+            m.0,
+            m.1,
+          );
     }
 
 -- all three are terms

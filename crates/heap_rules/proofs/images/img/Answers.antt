@@ -2,7 +2,8 @@ use mathlib.Core.Path.{refl, ◌∙◌}
 use Rattle.tableau.specs.declared.Operator.{Operator}
 use Rattle.tableau.specs.declared.Relation.{Relation}
 use Rattle.tableau.specs.Terms.{at}
-use Rattle.rules.proofs.Laws.{agree, computing, differ, found, is_img, is_not, missing, no_arguments}
+use Rattle.rules.proofs.Laws.{agree, computing, differ, found, is_img, is_not, missing}
+use Rattle.rules.proofs.Laws.{no_arguments}
 use Rattle.rules.proofs.Rows.{other_p, passes_on}
 use Rattle.heap_rules.proofs.Made.{all_made, one_missing}
 use Rattle.heap_rules.proofs.images.img.Goals as goal
@@ -20,7 +21,11 @@ returns-in_default-view c =
     record {
       room = tt;
       answers = λ table h fresh.
-          rw (c.in-In.is, no_arguments Operator.Img (at table t) (c.view.ensures table h.entries).is c.in_default-view.not-Img);
+          rw (
+            c.in-In.is,
+            no_arguments Operator.Img (at table t)
+                (c.view.ensures table h.entries).is c.in_default-view.not-Img,
+          );
     }
 
 -- the regions differ
@@ -30,7 +35,9 @@ returns-then-ne c =
     record {
       room = tt;
       answers = λ table h fresh.
-          let K = is_img (at table c.args.t.0) _ _ _ ((c.view.ensures table h.entries).is ∙ c.in-Img.is) in
+          let K =
+          is_img (at table c.args.t.0) _ _ _
+          ((c.view.ensures table h.entries).is ∙ c.in-Img.is) in
           rw (c.in-In.is, K.1, differ c.ne.ensures c.if-ne.true);
     }
 
@@ -41,7 +48,9 @@ returns-in_err-access c =
     passes_on c.from_residual.ensures.1 record {
       room = tt;
       answers = λ table h fresh.
-          let K = is_img (at table c.args.t.0) _ _ _ ((c.view.ensures table h.entries).is ∙ c.in-Img.is) in
+          let K =
+          is_img (at table c.args.t.0) _ _ _
+          ((c.view.ensures table h.entries).is ∙ c.in-Img.is) in
           rw (c.in-In.is, K.1, agree c.ne.ensures c.if-ne.false)
           (one_missing c.find_access.ensures h c.in_err-access.was
           (λ d q. rw (d, q)) (λ k d q s. rw (d, q, s)) (λ k l d q s o. rw (d, q, s, o)));
@@ -54,7 +63,9 @@ returns-in_err-a c =
     passes_on c.from_residual-in_err-a.ensures.1 record {
       room = tt;
       answers = λ table h fresh.
-          let K = is_img (at table c.args.t.0) _ _ _ ((c.view.ensures table h.entries).is ∙ c.in-Img.is) in
+          let K =
+          is_img (at table c.args.t.0) _ _ _
+          ((c.view.ensures table h.entries).is ∙ c.in-Img.is) in
           let A = all_made c.find_access.ensures h c.in_ok-access.was in
           let m = missing c.on_none.ensures h c.in_err-a.was in
           rw (c.in-In.is, K.1, agree c.ne.ensures c.if-ne.false, A.0, A.1, A.2, m.0, m.1);
@@ -64,11 +75,23 @@ returns-in_err-a c =
 pub returns : goal.returns
 unfolding computing
 returns c =
-    let b = rw (c.literal.ensures, c.literal-2.ensures, c.literal-3.ensures) at c.splits_three.ensures in
+    let b =
+    rw (c.literal.ensures, c.literal-2.ensures, c.literal-3.ensures) at c.splits_three.ensures in
     record {
       room = b.room;
       answers = λ table h fresh.
-          let K = is_img (at table c.args.t.0) _ _ _ ((c.view.ensures table h.entries).is ∙ c.in-Img.is) in
+          let K =
+          is_img (at table c.args.t.0) _ _ _
+          ((c.view.ensures table h.entries).is ∙ c.in-Img.is) in
           let A = all_made c.find_access.ensures h c.in_ok-access.was in
-          rw (c.in-In.is, K.1, agree c.ne.ensures c.if-ne.false, A.0, A.1, A.2, found c.on_none.ensures h c.in_ok-a.was, b.adds);
+          rw (
+            c.in-In.is,
+            K.1,
+            agree c.ne.ensures c.if-ne.false,
+            A.0,
+            A.1,
+            A.2,
+            found c.on_none.ensures h c.in_ok-a.was,
+            b.adds,
+          );
     }

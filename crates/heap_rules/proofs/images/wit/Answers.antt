@@ -9,12 +9,15 @@ use Rattle.heap_rules.proofs.images.wit.Goals as goal
 -- p is not u in s
 pub returns-in_default : goal.returns-in_default
 unfolding computing
-returns-in_default c = let p = c.args.p in fresh_or_not (other_p p refl (is_not Relation.In p c.in_default.not-In))
+returns-in_default c =
+    let p = c.args.p in fresh_or_not (other_p p refl (is_not Relation.In p c.in_default.not-In))
 
 -- s is not img(h,r,f)
 pub returns-in_default-view : goal.returns-in_default-view
 unfolding computing
-returns-in_default-view c = fresh_or_not (other_region refl refl c.in-In.is (λ table h. c.view.ensures table h.entries) c.in_default-view.not-Img)
+returns-in_default-view c =
+    fresh_or_not (other_region refl refl c.in-In.is
+    (λ table h. c.view.ensures table h.entries) c.in_default-view.not-Img)
 
 -- w is not fresh
 pub returns-in-NotFresh : goal.returns-in-NotFresh
@@ -44,7 +47,8 @@ returns-in_err-access c =
 pub returns : goal.returns
 unfolding computing
 returns c =
-    let b = rw (c.literal.ensures, c.literal-2.ensures, c.literal-3.ensures) at c.adds_three.ensures in
+    let b =
+    rw (c.literal.ensures, c.literal-2.ensures, c.literal-3.ensures) at c.adds_three.ensures in
     record {
       room = b.room;
       answers = λ table h.

@@ -11,7 +11,8 @@ returns-in_err-v c =
     passes_on c.from_residual.ensures.1 record {
       room = tt;
       answers = λ table h fresh.
-          let K = read_written c.in-Rea.is c.view.ensures c.view-2.ensures c.in-Wri.is table h.entries in
+          let K =
+          read_written c.in-Rea.is c.view.ensures c.view-2.ensures c.in-Wri.is table h.entries in
           let m = missing c.on_three.ensures h c.in_err-v.was in
           rw (K.0.1, K.1, m.0, m.1);
     }
@@ -20,11 +21,17 @@ returns-in_err-v c =
 pub returns : goal.returns
 unfolding computing
 returns c =
-    let b = rw (c.literal.ensures, c.literal-2.ensures, c.literal-3.ensures) at c.splits_two_one.ensures in
+    let b =
+    rw (
+      c.literal.ensures,
+      c.literal-2.ensures,
+      c.literal-3.ensures,
+    ) at c.splits_two_one.ensures in
     record {
       room = b.room;
       answers = λ table h fresh.
-          let K = read_written c.in-Rea.is c.view.ensures c.view-2.ensures c.in-Wri.is table h.entries in
+          let K =
+          read_written c.in-Rea.is c.view.ensures c.view-2.ensures c.in-Wri.is table h.entries in
           rw (K.0.1, K.1, found c.on_three.ensures h c.in_ok-v.was, b.adds);
     }
 
@@ -36,5 +43,7 @@ returns-in_default c = other_t refl (λ table h. c.view.ensures table h.entries)
 -- z is not wri(h,u,f,v)
 pub returns-in_default-view : goal.returns-in_default-view
 unfolding computing
-returns-in_default-view c = other_heap c.in-Rea.is (λ table h. c.view.ensures table h.entries) (λ table h. c.view-2.ensures table h.entries) refl
+returns-in_default-view c =
+    other_heap c.in-Rea.is (λ table h. c.view.ensures table h.entries)
+    (λ table h. c.view-2.ensures table h.entries) refl
     c.in_default-view.not-Wri

@@ -9,5 +9,7 @@ pub returns : goal.returns
 returns c =
     record {
       at_most = c.one.ensures.0;
-      is = ap (λ k. map unpack_literal (codes_of k)) c.one.ensures.1 ∙ ap (λ l. l ∷ []) (packed_back _ c.requires c.pack.ensures.0);
+      is =
+          ap (λ k. map unpack_literal (codes_of k)) c.one.ensures.1
+          ∙ ap (λ l. l ∷ []) (packed_back _ c.requires c.pack.ensures.0);
     }

@@ -10,5 +10,6 @@ returns c =
     record {
       at_most = c.two.ensures.0;
       is = ap (map unpack_literal) c.two.ensures.1
-          ∙ (λ i. packed_back _ s.0 c.pack.ensures.0 i ∷ packed_back _ s.1 c.pack-2.ensures.0 i ∷ []);
+          ∙ (λ i. packed_back _ s.0 c.pack.ensures.0 i ∷ packed_back _ s.1 c.pack-2.ensures.0 i
+          ∷ []);
     }

@@ -16,7 +16,8 @@ pub returns-then-has_sort : goal.returns-then-has_sort
 unfolding rule_fields
 returns-then-has_sort c =
     λ table E.
-    rw c.in-Cut.is (rw (sym (c.has_sort.ensures table E) ∙ c.if-has_sort.true) (c.has_sort-then-has_sort.ensures table E))
+    rw c.in-Cut.is (rw (sym (c.has_sort.ensures table E) ∙ c.if-has_sort.true)
+    (c.has_sort-then-has_sort.ensures table E))
 
 pub returns-else-has_sort : goal.returns-else-has_sort
 unfolding rule_fields
@@ -31,4 +32,5 @@ returns-in-Ler c = λ table E. rw c.in-Ler.is (c.has_sort-in-Ler.ensures table E
 
 pub returns-in_default : goal.returns-in_default
 unfolding rules rule_names
-returns-in_default c = λ table E. sym (others_unsorted table c.args.rule _ _ (c.in_default.not-Cut, (c.in_default.not-Ler, tt)))
+returns-in_default c = λ table E.
+    sym (others_unsorted table c.args.rule _ _ (c.in_default.not-Cut, (c.in_default.not-Ler, tt)))

@@ -20,16 +20,26 @@ asked : (k : goal.After-if_used) (table : Table) → length table ≡ k.args.n
 asked k table e =
     let s = k.args.step in
     let x = s.rule in
-    let h = third_made table (rule_fields x).t k.in-Term.t (subst (ThirdFits (rule_fields x).t) k.in-Term.is k.requires.third) in
+    let h =
+    third_made table (rule_fields x).t k.in-Term.t
+    (subst (ThirdFits (rule_fields x).t) k.in-Term.is k.requires.third) in
     let t = rw (k.is_term-2.ensures table e) at k.if_used.ensures in
     eight table x (step_fields s)
-    ∙ rw (k.in-Term.is, h, fourth_made table (rule_fields x).w, ← unset_t s k.requires, ← unset_w s k.requires, t)
+    ∙ rw (
+      k.in-Term.is,
+      h,
+      fourth_made table (rule_fields x).w,
+      ← unset_t s k.requires,
+      ← unset_w s k.requires,
+      t,
+    )
 
 -- t is made, and w decides
 pub returns-then-if_used : goal.returns-then-if_used
 returns-then-if_used c table e =
     let w = rw (c.is_term.ensures table e) at c.if_used-w_made.ensures in
-    sym (asked (goal.at.returns-then-if_used c).After-if_used table e ∙ rw c.if-if_used.true (sym w))
+    sym (asked (goal.at.returns-then-if_used c).After-if_used table e
+    ∙ rw c.if-if_used.true (sym w))
 
 -- t is not made
 pub returns-else-if_used : goal.returns-else-if_used

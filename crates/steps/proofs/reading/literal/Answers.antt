@@ -10,5 +10,7 @@ returns c =
     let e = c.view.ensures in
     record {
       small = literal_view_small _ _ e;
-      is = λ h. c.literal_at.ensures.literal unpack_literal ∙ ap Some (sym (ap literal_of e ∙ literal_of_view _));
+      is = λ h.
+          c.literal_at.ensures.literal unpack_literal
+          ∙ ap Some (sym (ap literal_of e ∙ literal_of_view _));
     }
