@@ -83,5 +83,5 @@ returns-then-ne c = unmet (compares (goal.at.returns-then-ne c).Joined-p) c.ne.e
 -- on the same terms
 pub returns : goal.returns
 returns c =
-    met (compares (goal.at.returns c).Joined-p) c.ne.ensures c.if-ne.false record
-    { room = tt; adds = refl }
+    met (compares (goal.at.returns c).Joined-p) c.ne.ensures c.if-ne.false
+    (record { room = tt; adds = refl })

@@ -1,12 +1,20 @@
 use mathlib.Core.Path.{refl, ◌∙◌}
 use Rattle.tableau.specs.declared.Operator.{Operator}
 use Rattle.tableau.specs.declared.Relation.{Relation}
-use Rattle.tableau.specs.Terms.{at}
-use Rattle.rules.proofs.Laws.{agree, computing, differ, found, is_img, is_not, missing}
+use Rattle.tableau.specs.Terms.{Table, at}
+use Rattle.table.specs.Held.{Searchable}
+use Rattle.rules.proofs.Laws.{Arguments3, agree, computing, differ, found, is_img, is_not, missing}
 use Rattle.rules.proofs.Laws.{no_arguments}
 use Rattle.rules.proofs.Rows.{other_p, passes_on}
 use Rattle.heap_rules.proofs.Made.{all_made, one_missing}
 use Rattle.heap_rules.proofs.images.img.Goals as goal
+use Rattle.heap_rules.proofs.images.img.Goals.{In-Img}
+
+-- t is img(h,s,f)
+image : (i : goal.In-Img) (table : Table)
+    → Searchable table i.args.terms.now i.args.chains.now
+    → Arguments3 Operator.Img (at table i.args.t.0) i.in-Img.h i.in-Img.s i.in-Img.f
+image i table h = is_img (at table _) _ _ _ ((i.view.ensures table h.entries).is ∙ i.in-Img.is)
 
 -- p is not u in r
 pub returns-in_default : goal.returns-in_default
@@ -35,9 +43,7 @@ returns-then-ne c =
     record {
       room = tt;
       answers = λ table h fresh.
-          let K =
-          is_img (at table c.args.t.0) _ _ _
-          ((c.view.ensures table h.entries).is ∙ c.in-Img.is) in
+          let K = image (goal.at.returns-then-ne c).In-Img table h in
           rw (c.in-In.is, K.1, differ c.ne.ensures c.if-ne.true);
     }
 
@@ -48,9 +54,7 @@ returns-in_err-access c =
     passes_on c.from_residual.ensures.1 record {
       room = tt;
       answers = λ table h fresh.
-          let K =
-          is_img (at table c.args.t.0) _ _ _
-          ((c.view.ensures table h.entries).is ∙ c.in-Img.is) in
+          let K = image (goal.at.returns-in_err-access c).In-Img table h in
           rw (c.in-In.is, K.1, agree c.ne.ensures c.if-ne.false)
           (one_missing c.find_access.ensures h c.in_err-access.was
           (λ d q. rw (d, q)) (λ k d q s. rw (d, q, s)) (λ k l d q s o. rw (d, q, s, o)));
@@ -63,9 +67,7 @@ returns-in_err-a c =
     passes_on c.from_residual-in_err-a.ensures.1 record {
       room = tt;
       answers = λ table h fresh.
-          let K =
-          is_img (at table c.args.t.0) _ _ _
-          ((c.view.ensures table h.entries).is ∙ c.in-Img.is) in
+          let K = image (goal.at.returns-in_err-a c).In-Img table h in
           let A = all_made c.find_access.ensures h c.in_ok-access.was in
           let m = missing c.on_none.ensures h c.in_err-a.was in
           rw (c.in-In.is, K.1, agree c.ne.ensures c.if-ne.false, A.0, A.1, A.2, m.0, m.1);
@@ -80,9 +82,7 @@ returns c =
     record {
       room = b.room;
       answers = λ table h fresh.
-          let K =
-          is_img (at table c.args.t.0) _ _ _
-          ((c.view.ensures table h.entries).is ∙ c.in-Img.is) in
+          let K = image (goal.at.returns c).In-Img table h in
           let A = all_made c.find_access.ensures h c.in_ok-access.was in
           rw (
             c.in-In.is,
