@@ -7,7 +7,7 @@ ghost use Rattle.background.specs.Closure.{JoinedMutual, Antisymmetric, denies};
 use class_order::Rows;
 use packing::LiteralView;
 use packing::literals::view;
-use partition::Partition;
+use partition::{Partition, together};
 
 // Joins the sides of a le literal whose right side is under its left one too. Says whether they
 // were apart.
@@ -36,7 +36,7 @@ fn denies_literal(blocks: &Partition, rows: &Rows, code: u32) -> bool
     ensures { result ≡ denies blocks.now rows.now (unpack_literal code) }
 {
     match view(code) {
-        LiteralView::Ne(a, b) => blocks.together(a, b),
+        LiteralView::Ne(a, b) => together(&blocks.blocks, a, b),
         LiteralView::Nl(a, b) => rows.terms_under(blocks, a, b),
         _ => false,
     }

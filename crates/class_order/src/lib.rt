@@ -18,12 +18,12 @@ use tableau::{Sort, TermNumber};
 const ROW: usize = 16;
 
 // All rows: ROW words for each of NUMBERS numbers.
-const WORDS: usize = 16384;
+pub const WORDS: usize = 16384;
 
 // Bit y of row x, ROW words from x * ROW on, says that block x is under block y.
 #[derive(Drop)]
 pub struct Rows {
-    words: [u64; WORDS],
+    pub words: [u64; WORDS],
     pub ghost valid: { Words words },
 }
 
@@ -127,7 +127,7 @@ impl Rows {
         ensures { Composed self.old self.new }
     {
         let mut pairs = Pairs::none();
-        plan(blocks, branch, &mut pairs);
+        plan(&blocks.blocks, branch, &mut pairs);
         for &pair in pairs.noted() {
             self.raise_pair(pair);
         }

@@ -123,7 +123,7 @@ fn hasten(blocks: &mut Partition, terms: &[u64; NUMBERS], n: usize) -> bool
     ensures { JoinedSome terms.now blocks.old blocks.new result }
 {
     let mut pairs = Pairs::none();
-    plan(blocks, terms, n, &mut pairs);
+    plan(&blocks.blocks, terms, n, &mut pairs);
     join_pairs(blocks, terms, pairs.noted())
 }
 

@@ -14,7 +14,6 @@ ghost use Rattle.packing.specs.Packing.{Small, AllSmall};
 use cells::Cells;
 use packing::term_codes::{fields, takes_terms, with_fields};
 use pairs::Pairs;
-use partition::Partition;
 use syntax::Arguments;
 use table::NUMBERS;
 use tableau::TermNumber;
@@ -127,11 +126,11 @@ impl<'a> Search<'a> {
         self.sizes.put(block, self.sizes.get(block) + 1);
     }
 
-    fn gather(&mut self, blocks: &Partition, n: usize)
+    fn gather(&mut self, blocks: &[u16; NUMBERS], n: usize)
         requires { n ≤ max_terms }
     {
         for x in 0..=n {
-            self.gather_number(x, blocks.block(TermNumber(x)).0);
+            self.gather_number(x, usize::from(blocks[x]));
         }
     }
 
@@ -298,7 +297,7 @@ impl<'a> Search<'a> {
 }
 
 // Notes the pairs. Which they are, and in which order, is free: whoever follows them tests each.
-pub fn plan(blocks: &Partition, terms: &[u64; NUMBERS], n: usize, pairs: &mut Pairs)
+pub fn plan(blocks: &[u16; NUMBERS], terms: &[u64; NUMBERS], n: usize, pairs: &mut Pairs)
     requires { n ≤ max_terms }
 {
     let mut search = Search::of(terms);

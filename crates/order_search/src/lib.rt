@@ -11,9 +11,8 @@ ghost use Rattle.std.specs.Prelude.{◌≤◌, ◌<◌};
 
 use cells::Cells;
 use packing::LiteralView;
-use packing::literals::{packed_right, view};
+use packing::literals::{packed_left, packed_right, view};
 use pairs::Pairs;
-use partition::Partition;
 use table::NUMBERS;
 
 // Each step takes a literal or a block off, so that these are enough.
@@ -25,7 +24,7 @@ const DONE: usize = 1023;
 // What a search knows, and how far it has come.
 #[derive(Drop)]
 struct Search<'a> {
-    blocks: &'a Partition,
+    blocks: &'a [u16; NUMBERS],
     branch: &'a [u32],
 
     // Of a block: the next le literal from it to look at, counted from 1; 0 where none is left.
@@ -52,7 +51,7 @@ struct Search<'a> {
 }
 
 impl<'a> Search<'a> {
-    fn of(blocks: &'a Partition, branch: &'a [u32]) -> Self {
+    fn of(blocks: &'a [u16; NUMBERS], branch: &'a [u32]) -> Self {
         Search {
             blocks,
             branch,
@@ -70,10 +69,10 @@ impl<'a> Search<'a> {
 
     // The block of a le literal's left side, from which it leads.
     fn left(&self, code: u32) -> Option<usize> {
-        let LiteralView::Le(a, _) = view(code) else {
+        let LiteralView::Le(..) = view(code) else {
             return None;
         };
-        Some(self.blocks.block(a).0)
+        Some(usize::from(self.blocks[packed_left(code).0]))
     }
 
     // Each le literal, by its number from 1.
@@ -171,7 +170,7 @@ impl<'a> Search<'a> {
         let after = self.next_edges.get(e);
         self.edges.put(x, after);
         if let Some(&code) = self.branch.get(e - 1) {
-            let y = self.blocks.block(packed_right(code)).0;
+            let y = usize::from(self.blocks[packed_right(code).0]);
             self.traverse(pairs, x, y);
         }
     }
@@ -198,7 +197,7 @@ impl<'a> Search<'a> {
 }
 
 // Notes the pairs. Which they are, and in which order, is free, as in `congruence_search`.
-pub fn plan(blocks: &Partition, branch: &[u32], pairs: &mut Pairs) {
+pub fn plan(blocks: &[u16; NUMBERS], branch: &[u32], pairs: &mut Pairs) {
     let mut search = Search::of(blocks, branch);
     search.link();
     for &code in branch {

@@ -10,7 +10,7 @@ use table::NUMBERS;
 
 // Room for what either search names: of the order, a pair from each literal and one from each
 // block; of congruent terms, fewer than there are terms.
-const PAIRS: usize = 2048;
+pub const PAIRS: usize = 2048;
 
 // The first `count` of an array, in the order in which they were noted.
 #[derive(Drop)]

@@ -1,6 +1,8 @@
 // Terms in blocks: two terms are put into one block where it follows that they are equal.
 #![tactic(auto)]
 
+ghost use Rattle.std.specs.Prelude.{◌≡◌, eqb, get_or};
+ghost use Rattle.packing.specs.Packing.{Small};
 ghost use Rattle.partition.specs.Array.{IsPartition, Renamed};
 
 use table::NUMBERS;
@@ -9,7 +11,7 @@ use tableau::TermNumber;
 // A partition of the numbers below NUMBERS: blocks[x] is the number that stands for the block of x.
 #[derive(Drop)]
 pub struct Partition {
-    blocks: [u16; NUMBERS],
+    pub blocks: [u16; NUMBERS],
     pub ghost valid: { IsPartition blocks },
 }
 
@@ -23,9 +25,16 @@ fn merge(blocks: &mut [u16; NUMBERS], from: u16, to: u16)
     }
 }
 
+// Are the terms in one block, by the numbers that stand for their blocks?
+pub fn together(blocks: &[u16; NUMBERS], a: TermNumber, b: TermNumber) -> bool
+    requires { Small a.0 × Small b.0 }
+    ensures { result ≡ eqb (get_or blocks.now a.0 0) (get_or blocks.now b.0 0) }
+{
+    blocks[a.0] == blocks[b.0]
+}
+
 impl Partition {
-    ghost use Rattle.std.specs.Prelude.{◌≡◌, eqb};
-    ghost use Rattle.packing.specs.Packing.{Small};
+    ghost use Rattle.std.specs.Prelude.{◌≡◌};
     ghost use Rattle.partition.specs.Blocks.{block_of, Joined, Singletons};
 
     // Every number in a block of its own.
@@ -46,14 +55,6 @@ impl Partition {
         ensures block { result.0 ≡ block_of self.now a.0 }
     {
         TermNumber(usize::from(self.blocks[a.0]))
-    }
-
-    // Are the terms in one block?
-    pub fn together(&self, a: TermNumber, b: TermNumber) -> bool
-        requires { Small a.0 × Small b.0 }
-        ensures { result ≡ eqb (block_of self.now a.0) (block_of self.now b.0) }
-    {
-        self.blocks[a.0] == self.blocks[b.0]
     }
 
     // Joins the blocks of a and b, and says whether they were apart. Which of its numbers stands
