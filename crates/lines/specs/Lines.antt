@@ -1,5 +1,7 @@
--- What reading a line of a file gives: the specification's own cut at LF and its own six fields of a line, with the word packed in one number.
-use Rattle.std.specs.Prelude.{Bool, ◌&&◌, List, [], ◌∷◌, ◌≡◌, ℕ, ◌+◌, ◌*◌, ◌<◌, ◌≤◌, eqb, leb, length, drop, get_or}
+-- What reading a line of a file gives: the specification's own cut at LF and its own six fields of
+-- a line, with the word packed in one number.
+use Rattle.std.specs.Prelude.{Bool, ◌&&◌, List, [], ◌∷◌, ◌≡◌, ℕ, ◌+◌, ◌*◌, ◌<◌, ◌≤◌, eqb, leb}
+use Rattle.std.specs.Prelude.{length, drop, get_or}
 use Rattle.std.specs.Prelude.{Option, None, Some, option_map}
 use Rattle.tableau.specs.Basics.{guard, Four, four}
 use Rattle.tableau.specs.File.{LF, comma, split, max_digits, Line, six_fields}
@@ -10,7 +12,8 @@ abbrev pub pack_word : List ℕ → ℕ
 pack_word [] = 0
 pack_word (b ∷ bs) = b + 256 * pack_word bs
 
--- FIELD 1 of any kind of file: one capital letter, by its byte. Which letters a file knows is its own.
+-- FIELD 1 of any kind of file: one capital letter, by its byte. Which letters a file knows is its
+-- own.
 abbrev pub is_capital : ℕ → Bool
 is_capital b = leb 65 b && leb b 90
 
@@ -39,7 +42,8 @@ line_fields next' l = record {
 abbrev pub line_read : ℕ → Option (Line ℕ) → Option LineFields
 line_read next' = option_map (line_fields next')
 
--- The first of a text's lines, with the position after its LF. No LF follows the last piece of a text that is cut at LF, which is no line.
+-- The first of a text's lines, with the position after its LF. No LF follows the last piece of a
+-- text that is cut at LF, which is no line.
 abbrev pub first_line : {A : Type 0} → A → (ℕ → List ℕ → A) → ℕ → List (List ℕ) → A
 first_line no_line read at [] = no_line
 first_line no_line read at (l ∷ []) = no_line
@@ -47,7 +51,8 @@ first_line no_line read at (l ∷ m ∷ ls) = read (at + length l + 1) l
 
 -- the line that begins at a position of the file
 unfoldable pub line_at : List ℕ → ℕ → Option LineFields
-line_at file at = first_line None (λ next' l. line_read next' (any_shape l)) at (split LF (drop at file))
+line_at file at =
+    first_line None (λ next' l. line_read next' (any_shape l)) at (split LF (drop at file))
 
 -- An LF stands at the position or behind it: the line that begins there has an end.
 pub record LFAhead (file : List ℕ) (at : ℕ) : Type 0 where

@@ -4,7 +4,8 @@
 
 ghost use Rattle.std.specs.Prelude.{◌≡◌, ◌<◌, ◌≤◌, ◌^◌};
 ghost use Rattle.lines.specs.Lines.{line_at, LFAhead, LinesEnd};
-ghost use Rattle.lines.specs.ByteSteps.{next_letter, first_digit, next_digit, LettersFit, most_digits, DigitsFit};
+ghost use Rattle.lines.specs.ByteSteps.{next_letter, first_digit, next_digit, LettersFit};
+ghost use Rattle.lines.specs.ByteSteps.{most_digits, DigitsFit};
 ghost use Rattle.lines.specs.ByteSteps.{LetterSteps, WordSteps, DigitsSteps, NumberSteps};
 
 // A position in the file.
@@ -13,8 +14,8 @@ pub struct Cursor {
     pub at: usize,
 }
 
-// The six fields of a line, its word packed in one number, and the position after its LF. The letter
-// is any capital: each kind of file says which it knows.
+// The six fields of a line, its word packed in one number, and the position after its LF. The
+// letter is any capital: each kind of file says which it knows.
 #[derive(Clone, Copy)]
 pub struct LineFields {
     pub letter: u8,

@@ -5,7 +5,8 @@ use Prim.Native.Nat.{ℕ}
 use lib.Dec.{eqb}
 use Rattle.tableau.specs.declared.Relation.{Relation}
 use Rattle.tableau.specs.Basics.{Four, every}
-use Rattle.tableau.specs.Fields.{Use, unused, place, name, side, clause, term, of, sides, clause_fields}
+use Rattle.tableau.specs.Fields.{Use, unused, place, name, side, clause, term, of, sides}
+use Rattle.tableau.specs.Fields.{clause_fields}
 use Rattle.tableau.specs.Reply.{zero_if_unused}
 use Rattle.syntax.specs.Syntax.{mask_of}
 use Rattle.syntax.proofs.Masks.{is_used, has, bits_of}
@@ -21,15 +22,19 @@ zero_if (of s) n = refl
 
 -- the four tests of a mask say what the check says
 module _ (f : Four Use) (used : ℕ) (e : used ≡ mask_of f) where
-  tests : (n : ℕ) → (zero_if_unused f.a n ≡ has used 1 || eqb n 0) × (zero_if_unused f.b n ≡ has used 2 || eqb n 0)
-      × (zero_if_unused f.c n ≡ has used 4 || eqb n 0) × (zero_if_unused f.d n ≡ has used 8 || eqb n 0)
+  tests : (n : ℕ)
+      → (zero_if_unused f.a n ≡ has used 1 || eqb n 0)
+      × (zero_if_unused f.b n ≡ has used 2 || eqb n 0)
+      × (zero_if_unused f.c n ≡ has used 4 || eqb n 0)
+      × (zero_if_unused f.d n ≡ has used 8 || eqb n 0)
   tests n =
       let k = bits_of f used e in
       (rw (k.0, zero_if), rw (k.1, zero_if), rw (k.2, zero_if), rw (k.3, zero_if))
 
   -- so do the four of a line
   pub every_field : (k : Four ℕ) → every zero_if_unused f k
-      ≡ (has used 1 || eqb k.a 0) && ((has used 2 || eqb k.b 0) && ((has used 4 || eqb k.c 0) && (has used 8 || eqb k.d 0)))
+      ≡ (has used 1 || eqb k.a 0) &&
+      ((has used 2 || eqb k.b 0) && ((has used 4 || eqb k.c 0) && (has used 8 || eqb k.d 0)))
   every_field k = rw ((tests k.a).0, (tests k.b).1, (tests k.c).2, (tests k.d).3)
 
 -- a literal uses two fields on an A line, three on a C line

@@ -15,8 +15,10 @@ use Rattle.syntax.specs.declared.Step.{Step}
 use Rattle.syntax.specs.Syntax.{word_in, fields_in, literal_in, step_fields, WellTaken}
 
 abbrev pub TermTakenAs : Word → Four ℕ → Result Term Reason → Type 0
-TermTakenAs w k (Ok e) = (every zero_if_unused (word_fields w) k ≡ true) × (word_in e ≡ w) × (fields_in e ≡ k)
-TermTakenAs w k (Err r) = (every zero_if_unused (word_fields w) k ≡ false) × (r ≡ Reason.UnusedField)
+TermTakenAs w k (Ok e) =
+    (every zero_if_unused (word_fields w) k ≡ true) × (word_in e ≡ w) × (fields_in e ≡ k)
+TermTakenAs w k (Err r) =
+    (every zero_if_unused (word_fields w) k ≡ false) × (r ≡ Reason.UnusedField)
 
 -- the fields of a line that holds a literal
 abbrev pub literal_fields : Letter → Relation → Four Use

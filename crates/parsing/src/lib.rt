@@ -1,4 +1,5 @@
-// A line taken apart by its word, once check 6 has passed: "A field that the word doesn't use holds `0`."
+// A line taken apart by its word, once check 6 has passed: "A field that the word doesn't use holds
+// `0`."
 #![tactic(auto)]
 
 ghost use Rattle.std.specs.Prelude.{◌||◌, not, ◌≡◌, eqb};

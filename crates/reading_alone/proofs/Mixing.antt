@@ -21,7 +21,9 @@ module _ (file : List ℕ) (at value : ℕ) where
   line_mixed f e =
       let p = line_pieces file at f e in
       ap (λ ks. mixed_lines ks value) p.cut
-      ∙ rw p.shaped (ap (λ (g : LineFields). mixed_lines (p.follower ∷ p.others) (mixed value g.word (numbers_of g))) (sym p.fields))
+      ∙ rw p.shaped
+      (ap (λ (g : LineFields). mixed_lines (p.follower ∷ p.others)
+      (mixed value g.word (numbers_of g))) (sym p.fields))
       ∙ ap (λ ks. mixed_lines ks (mixed value f.word (numbers_of f))) (sym p.rest)
 
   pub bad_mixed : at < length file → line_at file at ≡ None → mixed_from file at value ≡ None

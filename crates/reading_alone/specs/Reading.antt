@@ -1,5 +1,5 @@
--- What reading all lines of a file gives: the specification's own cut at LF and its own six fields of a line, and every word and number that is
--- read, mixed into one.
+-- What reading all lines of a file gives: the specification's own cut at LF and its own six fields
+-- of a line, and every word and number that is read, mixed into one.
 use Rattle.std.specs.Prelude.{List, [], ◌∷◌, ℕ, ◌-◌, ◌^◌}
 use Rattle.std.specs.Prelude.{Option, None, Some}
 use Rattle.std.specs.Int.Bits.{bit_xor}
@@ -20,7 +20,8 @@ at_end (b ∷ l) value = None
 unfoldable pub mixed_lines : List (List ℕ) → ℕ → Option ℕ
 mixed_lines [] value = None
 mixed_lines (l ∷ []) value = at_end l value
-mixed_lines (l ∷ m ∷ ls) value = then (any_shape l) λ L. mixed_lines (m ∷ ls) (mixed value (pack_word L.word) L.fields)
+mixed_lines (l ∷ m ∷ ls) value =
+    then (any_shape l) λ L. mixed_lines (m ∷ ls) (mixed value (pack_word L.word) L.fields)
 
 -- all bits set where a line has not its shape
 abbrev pub or_all_bits : Option ℕ → ℕ

@@ -32,7 +32,8 @@ fn mix_lines(file: &[u8]) -> Option<usize>
     if at < file.len() { None } else { Some(value) }
 }
 
-// The same for C: all bits are set where a line has not its shape, as in no mix of words and numbers.
+// The same for C: all bits are set where a line has not its shape, as in no mix of words and
+// numbers.
 #[tactic(auto, unfolding(crate::specs::Reading::read_file))]
 #[unsafe(no_mangle)]
 pub extern "C" fn read_lines(file: &[u8]) -> u64

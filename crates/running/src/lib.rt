@@ -1,2 +1,3 @@
-// No code: what the specification's run over a file says of a position in it and of the fields that a line was read as (specs/, proofs/).
+// No code: what the specification's run over a file says of a position in it and of the fields that
+// a line was read as (specs/, proofs/).
 #![tactic(auto)]

@@ -14,7 +14,7 @@ use Rattle.tableau.specs.Reply.{Reply, reply_numbers, decimal, yes_or_no, reply_
 use Rattle.tableau.specs.Claims.{AllBelow}
 use Rattle.tableau.proofs.Bools.{some_inj, then_inv, guard_inv}
 use Rattle.tableau.proofs.Checks.{lookup_agree}
-use Rattle.tableau.proofs.Pieces.{each_behind, pieces, free, AllFree, free_append, free_behind, split_behind}
+use Rattle.tableau.proofs.Pieces.{each_behind, pieces, free, free_append, free_behind, split_behind}
 use Rattle.tableau.proofs.Decimals.{number_decimal, decimal_of_number, comma_numbers_lem, decimals_free}
 use Rattle.statistics.specs.ReplyLines.{answers, reply_digits, numbers, seven_numbers, reply_fields, reply_shape}
 use Rattle.statistics.specs.Claims.{ShapeOfReply}

@@ -1,5 +1,6 @@
-// The letters of a checker file, and the words of T, A, C and S lines: what each stands for, and the
-// fields that it uses. A letter's words stand in one fixed byte string, in the order of its table.
+// The letters of a checker file, and the words of T, A, C and S lines: what each stands for, and
+// the fields that it uses. A letter's words stand in one fixed byte string, in the order of its
+// table.
 #![tactic(auto)]
 
 ghost use Rattle.std.specs.Prelude.{[], ◌∷◌, ◌≡◌, option_map, position, take, ◌==◌};
@@ -119,8 +120,8 @@ fn place_of(word: usize, texts: &[[u8; 4]]) -> Option<usize>
         .position(|[a, b, c, _]| word == pack(*a, *b, *c))
 }
 
-// The row of a packed word, by its place in a byte string of words: three bytes each, the third 0 in
-// a word of two letters, and a space.
+// The row of a packed word, by its place in a byte string of words: three bytes each, the third 0
+// in a word of two letters, and a space.
 pub fn row_of<T: Copy, const N: usize>(word: usize, words: &[u8], rows: &[T; N]) -> Option<T>
     ensures { result ≡ row_at word (words_of words.now) rows.now }
 {
@@ -152,7 +153,8 @@ pub fn rule_of(word: usize) -> Option<Row<Rule>>
 {
     row_of(
         word,
-        b"eqr eql ext cpe cpi cue cui dfe dfi sge sgi cut all nul sep img wit ref sym trn sub rep ler let lea rdh rdm cls emp bck cla fin ",
+        b"eqr eql ext cpe cpi cue cui dfe dfi sge sgi cut all nul sep img wit ref sym trn sub rep \
+          ler let lea rdh rdm cls emp bck cla fin ",
         &RULES,
     )
 }

@@ -1,4 +1,5 @@
--- Only the t of `rep` is a side, and only that of `cla` a clause number: a test over the table of rules.
+-- Only the t of `rep` is a side, and only that of `cla` a clause number: a test over the table of
+-- rules.
 use mathlib.Core.List.{[], ◌∷◌}
 use mathlib.Core.Path.{refl}
 use lib.Dec.{eqb}
@@ -22,6 +23,8 @@ pub returns-in_default : goal.returns-in_default
 unfolding rules rule_names rule_fields
 returns-in_default c = (
   eqb-true _ 0
-      (other_rule (λ y. eqb (kind_of (rule_fields y).t) 0) (Rule.Rep ∷ Rule.Cla ∷ []) refl c.args.rule (c.in_default.not-Rep, (c.in_default.not-Cla, tt))),
+      (other_rule (λ y. eqb (kind_of (rule_fields y).t) 0)
+      (Rule.Rep ∷ Rule.Cla ∷ []) refl c.args.rule
+      (c.in_default.not-Rep, (c.in_default.not-Cla, tt))),
   refl,
 )

@@ -9,10 +9,14 @@ pub returns-in_err-f : goal.returns-in_err-f
 returns-in_err-f c =
     let l = c.loop-at in
     let ahead = c.lines_end-end.ensures.ahead _ c.loop-at-test.true in
-    rw c.from_residual.ensures (sym (bad_mixed _ l.at l.value (ahead_here _ _ ahead) (sym c.in_err-f.ensures)) ∙ l.invariant)
+    rw c.from_residual.ensures
+    (sym (bad_mixed _ l.at l.value (ahead_here _ _ ahead) (sym c.in_err-f.ensures))
+    ∙ l.invariant)
 
 pub loop-at-smaller : goal.loop-at-smaller
-loop-at-smaller c = let h = line_here check_fields _ _ _ (sym c.in_ok-f.ensures) in omega (arith, h.longer, h.inside)
+loop-at-smaller c =
+    let h = line_here check_fields _ _ _ (sym c.in_ok-f.ensures) in
+    omega (arith, h.longer, h.inside)
 
 pub loop-at-preserved : goal.loop-at-preserved
 loop-at-preserved c =
@@ -23,7 +27,9 @@ loop-at-preserved c =
 pub returns-then-at-file : goal.returns-then-at-file
 returns-then-at-file c =
     let l = c.loop-at in
-    sym (bad_mixed _ l.at l.value c.if-at-file.true (no_line_behind _ _ l.at c.lines_end-end.ensures c.loop-at-test.false)) ∙ l.invariant
+    sym (bad_mixed _ l.at l.value c.if-at-file.true
+    (no_line_behind _ _ l.at c.lines_end-end.ensures c.loop-at-test.false)) ∙ l.invariant
 
 pub returns-else-at-file : goal.returns-else-at-file
-returns-else-at-file c = let l = c.loop-at in sym (end_mixed _ l.at l.value c.if-at-file.false) ∙ l.invariant
+returns-else-at-file c =
+    let l = c.loop-at in sym (end_mixed _ l.at l.value c.if-at-file.false) ∙ l.invariant

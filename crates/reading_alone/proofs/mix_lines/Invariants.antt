@@ -1,4 +1,5 @@
--- The loop's invariant: the lines from the position on, mixed into the value, give what all lines give. The measure is what is left of the file.
+-- The loop's invariant: the lines from the position on, mixed into the value, give what all lines
+-- give. The measure is what is left of the file.
 use mathlib.Core.Path.{◌≡◌}
 use Prim.Native.Nat.{◌-◌}
 use lib.ListN.{length}

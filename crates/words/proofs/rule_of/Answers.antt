@@ -1,4 +1,5 @@
--- The byte string has the words of the table, and the rows are those of the table: antt computes both.
+-- The byte string has the words of the table, and the rows are those of the table: antt computes
+-- both.
 use mathlib.Core.Path.{◌∙◌}
 use Rattle.tableau.specs.Basics.{bytes}
 use Rattle.tableau.specs.Fields.{arguments, rule_fields}
