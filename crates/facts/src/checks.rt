@@ -7,7 +7,7 @@ ghost use Rattle.facts.specs.Keys.{sizes_of, key_of, value_of, FactsHeld};
 ghost use Rattle.facts.specs.Reading.{SizesFit, ValuesFit, WordDone, FactDone};
 
 use crate::fields::{all_in_range, row_of, subject_part, unused_zero, value_part, word_of};
-use crate::keys::{has, pack_key};
+use crate::keys::{has, word_key};
 use crate::{Sizes, StoredFact};
 use evaluation::FactWord;
 use lines::LineFields;
@@ -22,7 +22,7 @@ fn key_of(word: FactWord, f: LineFields) -> u64
     ensures { result ≡ key_of word (numbers_of f) }
 {
     let (a, b, c, _) = row_of(word);
-    pack_key(
+    word_key(
         word,
         subject_part(a, f.a),
         subject_part(b, f.b),
@@ -47,7 +47,7 @@ fn allowed(word: FactWord, f: LineFields, facts: &[StoredFact]) -> bool
     match word {
         FactWord::Alc => f.a != 0,
         FactWord::Sub => f.a != f.b,
-        FactWord::Rgv => has(facts, pack_key(FactWord::Alc, f.b, 0, 0)),
+        FactWord::Rgv => has(facts, word_key(FactWord::Alc, f.b, 0, 0)),
         _ => true,
     }
 }
@@ -63,11 +63,12 @@ fn check_word(
     ensures { (g : Facts) → FactsHeld g facts.now → sizesGiven g ≡ sizes_of sizes
         → WordDone g f word result }
 {
-    if !unused_zero(word, f) {
+    let row = row_of(word);
+    if !unused_zero(row, f) {
         return Err(Reason::UnusedField);
     }
     let key = key_of(word, f);
-    if !all_in_range(sizes, word, f) || has(facts, key) || !allowed(word, f, facts) {
+    if !all_in_range(sizes, row, f) || has(facts, key) || !allowed(word, f, facts) {
         return Err(Reason::BadFact);
     }
     Ok(StoredFact {

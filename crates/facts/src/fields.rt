@@ -29,9 +29,12 @@ pub fn word_of(word: usize) -> Option<FactWord>
     words::row_of(word, b"siz alc typ dty sub rfv fnv clv rgv arv ", &WORDS)
 }
 
-// The table of D lines: what the four fields of a line hold.
+// What the four fields of a line hold.
+pub type FactRow = (FactField, FactField, FactField, FactField);
+
+// The table of D lines.
 #[tactic(auto, unfolding(evaluation::specs::Facts::fact_fields))]
-pub fn row_of(word: FactWord) -> (FactField, FactField, FactField, FactField)
+pub fn row_of(word: FactWord) -> FactRow
     ensures { four result.0 result.1 result.2 result.3 ≡ fact_fields word }
 {
     let none = FactField::Unused;
@@ -71,10 +74,10 @@ fn zero_unless_used(field: FactField, n: usize) -> bool
     }
 }
 
-pub fn unused_zero(word: FactWord, f: LineFields) -> bool
-    ensures { result ≡ every zero_unless_used (fact_fields word) (numbers_of f) }
+pub fn unused_zero(row: FactRow, f: LineFields) -> bool
+    ensures { result ≡ every zero_unless_used (four row.0 row.1 row.2 row.3) (numbers_of f) }
 {
-    let (a, b, c, d) = row_of(word);
+    let (a, b, c, d) = row;
     zero_unless_used(a, f.a)
         && zero_unless_used(b, f.b)
         && zero_unless_used(c, f.c)
@@ -103,10 +106,11 @@ fn in_range(sizes: Sizes, field: FactField, n: usize) -> bool
     }
 }
 
-pub fn all_in_range(sizes: Sizes, word: FactWord, f: LineFields) -> bool
-    ensures { result ≡ every (in_range (sizes_of sizes)) (fact_fields word) (numbers_of f) }
+pub fn all_in_range(sizes: Sizes, row: FactRow, f: LineFields) -> bool
+    ensures { result ≡ every (in_range (sizes_of sizes)) (four row.0 row.1 row.2 row.3)
+        (numbers_of f) }
 {
-    let (a, b, c, d) = row_of(word);
+    let (a, b, c, d) = row;
     in_range(sizes, a, f.a)
         && in_range(sizes, b, f.b)
         && in_range(sizes, c, f.c)

@@ -6,13 +6,22 @@ ghost use Rattle.facts.specs.Keys.{pack_key, has_key, value_at};
 use crate::StoredFact;
 use evaluation::FactWord;
 
-// The key of a word and a subject's numbers.
-#[tactic(auto, unfolding(crate::specs::Keys::pack_key, evaluation::specs::Facts::fact_index))]
-pub fn pack_key(word: FactWord, a: usize, b: usize, c: usize) -> u64
+// The key of a word's index and a subject's numbers.
+#[tactic(auto, unfolding(crate::specs::Keys::pack_key))]
+pub fn pack_key(index: usize, a: usize, b: usize, c: usize) -> u64
+    requires { (index < 16) × (a < 131072) × (b < 131072) × (c < 131072) }
+    ensures { result ≡ pack_key index a b c }
+{
+    (((a * 64 + b) * 16 + c) * 16 + index) as u64
+}
+
+// That of a word.
+#[tactic(auto, unfolding(evaluation::specs::Facts::fact_index))]
+pub fn word_key(word: FactWord, a: usize, b: usize, c: usize) -> u64
     requires { (a < 131072) × (b < 131072) × (c < 131072) }
     ensures { result ≡ pack_key (fact_index word) a b c }
 {
-    (((a * 64 + b) * 16 + c) * 16 + word as usize) as u64
+    pack_key(word as usize, a, b, c)
 }
 
 // Is the key that of a line?

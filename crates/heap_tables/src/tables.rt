@@ -5,7 +5,7 @@ ghost use Rattle.heap_tables.specs.Tables.{Above, IsUnder, Having, IsHaving, Tab
 use crate::scans::{members, scatter};
 use evaluation::FactWord;
 use facts::StoredFact;
-use facts::keys::pack_key;
+use facts::keys::word_key;
 use regions::{HeapTables, has};
 
 // The classes above a class, itself among them.
@@ -13,7 +13,7 @@ fn above(facts: &[StoredFact], class: usize) -> u64
     requires { class < 16 }
     ensures { Above facts.now class result }
 {
-    members(facts, pack_key(FactWord::Sub, class, 0, 0), 8) | 1 << class
+    members(facts, word_key(FactWord::Sub, class, 0, 0), 8) | 1 << class
 }
 
 fn read_under(facts: &[StoredFact]) -> [u64; 16]
@@ -45,11 +45,11 @@ fn read_having(typ: &[u8; 64], dty: &[u8; 16], under: &[u64; 16]) -> [u64; 16]
 pub fn read_tables(facts: &[StoredFact]) -> HeapTables
     ensures { TablesRead facts.now result }
 {
-    let all = members(facts, pack_key(FactWord::Alc, 0, 0, 0), 14);
+    let all = members(facts, word_key(FactWord::Alc, 0, 0, 0), 14);
     let mut typ = [0; 64];
-    scatter(facts, pack_key(FactWord::Typ, 0, 0, 0), 14, &mut typ);
+    scatter(facts, word_key(FactWord::Typ, 0, 0, 0), 14, &mut typ);
     let mut dty = [0; 16];
-    scatter(facts, pack_key(FactWord::Dty, 0, 0, 0), 14, &mut dty);
+    scatter(facts, word_key(FactWord::Dty, 0, 0, 0), 14, &mut dty);
     let under = read_under(facts);
     let having = read_having(&typ, &dty, &under);
     HeapTables {

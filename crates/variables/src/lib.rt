@@ -10,7 +10,7 @@ ghost use Rattle.variables.specs.Variables.{NumberRead, VariableRead};
 
 use evaluation::FactWord;
 use facts::StoredFact;
-use facts::keys::{pack_key, value_at};
+use facts::keys::{word_key, value_at};
 use heap_tables::scans::{members, scatter};
 use regions::ROW;
 use tableau::{Name, Sort, TermNumber};
@@ -21,7 +21,7 @@ fn single_value(facts: &[StoredFact], word: FactWord, name: Name) -> u64
     requires { name.0 < name_limit }
     ensures { result ≡ value_at facts.now (pack_key (fact_index word) name.0 0 0) }
 {
-    u64::from(value_at(facts, pack_key(word, name.0, 0, 0)))
+    u64::from(value_at(facts, word_key(word, name.0, 0, 0)))
 }
 
 // A region's mask, or the number of any other value; 0 for a heap value.
@@ -31,7 +31,7 @@ fn number_of(facts: &[StoredFact], sort: Sort, name: Name) -> u64
 {
     match sort {
         Sort::Reference => single_value(facts, FactWord::Rfv, name),
-        Sort::Region => members(facts, pack_key(FactWord::Rgv, name.0, 0, 0), 8),
+        Sort::Region => members(facts, word_key(FactWord::Rgv, name.0, 0, 0), 8),
         Sort::Heap => 0,
         Sort::Field => single_value(facts, FactWord::Fnv, name),
         Sort::Class => single_value(facts, FactWord::Clv, name),
@@ -53,7 +53,7 @@ pub fn read_variable(
     // a heap variable alone has a row
     if sort == Sort::Heap {
         let from = t.0 * ROW;
-        let key = pack_key(FactWord::Arv, name.0, 0, 0);
+        let key = word_key(FactWord::Arv, name.0, 0, 0);
         scatter(facts, key, 4, &mut values.rows[from..from + ROW]);
     }
     values.numbers[t.0] = number_of(facts, sort, name);

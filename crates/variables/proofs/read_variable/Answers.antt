@@ -17,7 +17,7 @@ use Rattle.variables.proofs.read_variable.Goals.{then-eq, else-eq}
 pub scatter-requires : goal.scatter-requires
 scatter-requires c =
     let size : length c.args.values.now.rows ≡ rows_length = search rules in
-    scannable FactWord.Arv c.args.name.0 _ 4 _ c.requires.0 c.pack_key-key.ensures (omega arith) (part_low c.args.values.now.rows c.args.t.0 c.requires.1 size)
+    scannable FactWord.Arv c.args.name.0 _ 4 _ c.requires.0 c.word_key-key.ensures (omega arith) (part_low c.args.values.now.rows c.args.t.0 c.requires.1 size)
 
 pub returns : goal.returns
 returns c =

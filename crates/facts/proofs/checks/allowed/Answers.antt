@@ -21,7 +21,7 @@ unfolding allowed fact_fields subject_of
 returns-in-Rgv c g H =
     let b = c.args.f.b in
     rw c.in-Rgv.is
-    (c.has.ensures ∙ ap (has_key c.args.facts.now) (c.pack_key.ensures ∙ allocated_key b)
+    (c.has.ensures ∙ ap (has_key c.args.facts.now) (c.word_key.ensures ∙ allocated_key b)
     ∙ held_said H FactWord.Alc (four b 0 0 0) (record { b = omega arith; c = omega arith; d = omega arith }))
 
 pub returns-in_default : goal.returns-in_default
