@@ -8,31 +8,28 @@ ghost use Rattle.table.specs.Held.{Entries};
 ghost use Rattle.line_checks.specs.Checks.{Ready, AssumptionDone};
 
 use crate::literal_line;
-use growth::{LineResult, Progress};
+use growth::{LineEffect, Progress};
 use lines::LineFields;
-use tableau::Letter;
-use terms::Assumption;
-use tree::{Alternative, Extent};
+use tableau::{Letter, Reason};
+use tree::{Alternative, TreeView};
 
 // Checks 4, 6, 8, 9 and 15.
 pub fn check(
     progress: Progress,
-    extent: Extent,
+    tree: TreeView,
     f: LineFields,
     terms: &[u64; table::NUMBERS],
-) -> LineResult
-    requires entries { (table : Table) × Entries table terms.now × (length table ≡ progress.counts.terms) }
-    requires ready { Ready progress extent × (lookup letters (f.letter ∷ []) ≡ Some Letter.A) × (in_order progress.letter Letter.A ≡ true) }
-    ensures { (table : Table) (C : Clauses) → Entries table terms.now → length table ≡ progress.counts.terms
-        → AssumptionDone table C progress extent f result }
+) -> Result<LineEffect, Reason>
+    requires entries { (table : Table) × Entries table terms.now
+        × (length table ≡ progress.counts.terms) }
+    requires ready { Ready progress tree.branch.now tree.waiting.now }
+    requires letter { (lookup letters (f.letter ∷ []) ≡ Some Letter.A)
+        × (in_order progress.letter Letter.A ≡ true) }
+    ensures { (table : Table) (C : Clauses) → Entries table terms.now
+        → length table ≡ progress.counts.terms
+        → AssumptionDone table C progress tree.entry.branch.now tree.entry.waiting.now f result }
 {
-    let line = progress.lines + 1;
-    let n = progress.counts.terms;
-    match literal_line::read(Letter::A, f, terms, n) {
-        Assumption::Refused(reason) => LineResult::Refused(reason, line),
-        Assumption::Assumed(code) => {
-            let growth = extent.extend(Alternative::one(code));
-            progress.after_literal().result(extent, growth)
-        }
-    }
+    let code = literal_line::read(Letter::A, f, terms, progress.counts.terms)?;
+    let change = tree.extend(Alternative::one(code))?;
+    Ok(progress.after_literal().changed(change))
 }

@@ -6,23 +6,22 @@ ghost use Rattle.terms.specs.Lines.{assumption_of, SmallCode};
 ghost use Rattle.line_checks.specs.Checks.{literal_read};
 
 use lines::LineFields;
-use parsing::LiteralTaken;
 use tableau::{Letter, Reason};
-use terms::{Assumption, assume_literal};
-use words::RelationFound;
+use terms::assume_literal;
 
 // Checks 4, 6, 8 and 9 of a line with the letter, and its literal, where n terms are made.
-pub fn read(letter: Letter, f: LineFields, terms: &[u64; table::NUMBERS], n: usize) -> Assumption
+pub fn read(
+    letter: Letter,
+    f: LineFields,
+    terms: &[u64; table::NUMBERS],
+    n: usize,
+) -> Result<u32, Reason>
     requires { (table : Table) × Entries table terms.now × (length table ≡ n) }
-    ensures value { (table : Table) → Entries table terms.now → length table ≡ n → result ≡ assumption_of (literal_read table letter f) }
+    ensures value { (table : Table) → Entries table terms.now → length table ≡ n
+        → result ≡ assumption_of (literal_read table letter f) }
     ensures small_code { SmallCode result }
 {
-    let word = f.word;
-    let RelationFound::Known(relation) = words::relation_of(word) else {
-        return Assumption::Refused(Reason::UnknownWord);
-    };
-    let LiteralTaken::Literal(literal) = parsing::literal_of(letter, relation, f) else {
-        return Assumption::Refused(Reason::UnusedField);
-    };
+    let relation = words::relation_of(f.word).ok_or(Reason::UnknownWord)?;
+    let literal = parsing::literal_of(letter, relation, f)?;
     assume_literal(terms, n, literal)
 }

@@ -1,6 +1,7 @@
 // An S line.
 ghost use Rattle.std.specs.Prelude.{[], ◌∷◌, ◌≡◌};
 ghost use Rattle.std.specs.Prelude.{Some};
+ghost use Rattle.tableau.specs.declared.Letter.{Letter};
 ghost use Rattle.tableau.specs.Basics.{lookup};
 ghost use Rattle.tableau.specs.File.{letters};
 ghost use Rattle.tableau.specs.Terms.{Table, Clauses};
@@ -8,84 +9,85 @@ ghost use Rattle.clauses.specs.Held.{ClausesHeld};
 ghost use Rattle.syntax.specs.Syntax.{WellTaken};
 ghost use Rattle.terms.specs.Arrays.{arrays, Held};
 ghost use Rattle.freshness.specs.Prefixes.{PrefixRows};
-ghost use Rattle.tree.specs.State.{IsBranch};
 ghost use Rattle.line_checks.specs.Checks.{Ready, StepTakes, LineDone};
 
 use clauses::span_of;
-use growth::{LineResult, Progress, grow};
+use growth::{LineEffect, Progress, grow, split_clause};
 use lines::LineFields;
-use parsing::StepTaken;
 use steps::{Inference, ask, infer};
 use syntax::Step;
-use tableau::{Letter, Reason};
-use tree::{Extent, Tree};
-use words::RuleFound;
+use tableau::Reason;
+use tree::TreeView;
 
 // Checks 8, 9 and 11 to 16 of a line that is taken apart, on an open tree.
 fn take(
     progress: Progress,
-    extent: Extent,
+    tree: TreeView,
     step: Step,
-    branch: &[u32; Tree::PLACES],
     terms: &[u64; table::NUMBERS],
     chains: &[u16; table::LINKS],
     rows: &[u64; mentions::WORDS],
     prefix: &mut [u64; freshness::PREFIX_WORDS],
     clauses: &[u32; clauses::WORDS],
-) -> LineResult
-    requires held { (table : Table) × Held table (arrays terms.now chains.now rows.now) progress.counts.terms }
-    requires ready { Ready progress extent × IsBranch branch.now extent.len × WellTaken step
+) -> Result<LineEffect, Reason>
+    requires held { (table : Table)
+        × Held table (arrays terms.now chains.now rows.now) progress.counts.terms }
+    requires ready { Ready progress tree.branch.now tree.waiting.now × WellTaken step
         × ((C : Clauses) × ClausesHeld C clauses.now progress.clauses) }
-    ensures { (table : Table) (C : Clauses) → Held table (arrays terms.now chains.now rows.now) progress.counts.terms
-        → ClausesHeld C clauses.now progress.clauses → PrefixRows table C branch.now prefix.old progress.noted
-        → StepTakes table C branch.now progress extent step clauses.now prefix.new result }
+    ensures { (table : Table) (C : Clauses)
+        → Held table (arrays terms.now chains.now rows.now) progress.counts.terms
+        → ClausesHeld C clauses.now progress.clauses
+        → PrefixRows table C tree.entry.branch.now prefix.old progress.noted
+        → StepTakes table C progress tree.entry.branch.now tree.entry.waiting.now step
+        clauses.now prefix.new result }
 {
-    let rule = step.rule;
     let n = progress.counts.terms;
-    let len = extent.len;
-    let noted = progress.noted;
-    let last = progress.clauses;
-    let asked = ask(step, branch, len, noted, terms, rows, prefix, n);
-    let inference = infer(step, asked, branch, len, last, terms, chains, n);
-    let next = progress.after_step(rule, asked.noted);
+    let asked = ask(step, tree.branch, progress.noted, terms, rows, prefix, n);
+    let inference = infer(
+        step,
+        asked.told,
+        tree.branch,
+        progress.clauses,
+        terms,
+        chains,
+        n,
+    )?;
+    let next = progress.after_step(step.rule, asked.noted);
     match inference {
-        Inference::ByRule(outcome) => next.result(extent, grow(extent, outcome)),
-        Inference::ByClause(k) => next.split(extent, span_of(clauses, k)),
+        Inference::ByRule(outcome) => Ok(next.grown(tree, grow(tree, outcome)?)),
+        Inference::ByClause(k) => {
+            Ok(next.changed(split_clause(tree, clauses, span_of(clauses, k))?))
+        }
     }
 }
 
 // Checks 4 to 6, then those above.
 pub fn check(
     progress: Progress,
-    extent: Extent,
+    tree: TreeView,
     f: LineFields,
-    branch: &[u32; Tree::PLACES],
     terms: &[u64; table::NUMBERS],
     chains: &[u16; table::LINKS],
     rows: &[u64; mentions::WORDS],
     prefix: &mut [u64; freshness::PREFIX_WORDS],
     clauses: &[u32; clauses::WORDS],
-) -> LineResult
-    requires held { (table : Table) × Held table (arrays terms.now chains.now rows.now) progress.counts.terms }
-    requires ready { Ready progress extent × IsBranch branch.now extent.len × (lookup letters (f.letter ∷ []) ≡ Some Letter.S)
+) -> Result<LineEffect, Reason>
+    requires held { (table : Table)
+        × Held table (arrays terms.now chains.now rows.now) progress.counts.terms }
+    requires ready { Ready progress tree.branch.now tree.waiting.now
         × ((C : Clauses) × ClausesHeld C clauses.now progress.clauses) }
-    ensures { (table : Table) (C : Clauses) → Held table (arrays terms.now chains.now rows.now) progress.counts.terms
-        → ClausesHeld C clauses.now progress.clauses → PrefixRows table C branch.now prefix.old progress.noted
-        → LineDone table C branch.now progress extent f (arrays terms.now chains.now rows.now)
-        clauses.now prefix.new result }
+    requires letter { lookup letters (f.letter ∷ []) ≡ Some Letter.S }
+    ensures { (table : Table) (C : Clauses)
+        → Held table (arrays terms.now chains.now rows.now) progress.counts.terms
+        → ClausesHeld C clauses.now progress.clauses
+        → PrefixRows table C tree.entry.branch.now prefix.old progress.noted
+        → LineDone table C progress tree.entry.branch.now tree.entry.waiting.now f
+        (arrays terms.now chains.now rows.now) clauses.now prefix.new result }
 {
-    let line = progress.lines + 1;
-    let word = f.word;
-    let RuleFound::Known(row) = words::rule_of(word) else {
-        return LineResult::Refused(Reason::UnknownWord, line);
-    };
+    let row = words::rule_of(f.word).ok_or(Reason::UnknownWord)?;
     if progress.closed {
-        return LineResult::Refused(Reason::TreeClosed, line);
+        return Err(Reason::TreeClosed);
     }
-    let StepTaken::Step(step) = parsing::step_of(row, f) else {
-        return LineResult::Refused(Reason::UnusedField, line);
-    };
-    take(
-        progress, extent, step, branch, terms, chains, rows, prefix, clauses,
-    )
+    let step = parsing::step_of(row, f)?;
+    take(progress, tree, step, terms, chains, rows, prefix, clauses)
 }

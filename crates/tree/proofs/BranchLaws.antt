@@ -19,8 +19,8 @@ code_on : (xs : List ℕ) (n i : ℕ) → n ≤ length xs → i < n
 code_on [] n i h l = absurd (omega arith)
 code_on (x ∷ xs) zero i h l = absurd (omega arith)
 code_on (x ∷ xs) (suc n) zero h l = (0, refl)
-code_on (x ∷ xs) (suc n) (suc i) h l = let k =
-    code_on xs n i (omega arith) (omega arith) in (suc k.0, k.1)
+code_on (x ∷ xs) (suc n) (suc i) h l =
+    let k = code_on xs n i (omega arith) (omega arith) in (suc k.0, k.1)
 
 pub on_branch_lem : (xs : List ℕ) (n i : ℕ) → IsBranch xs n → i < n
     → On (branch_of xs n) (unpack_literal (get_or xs i 0))

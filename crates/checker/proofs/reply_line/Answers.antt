@@ -1,6 +1,5 @@
 -- `reply_line` meets its contract: the line of the file's reply, and demand 3.
 use mathlib.Core.Path.{◌∙◌, ap, subst}
-use native.Mathlib.Omega.{arith}
 use Rattle.tableau.specs.Claims.{BeginsWithYes}
 use Rattle.tableau.specs.Reply.{reply_line}
 use Rattle.checker.proofs.Whole.{replied, line_no_heap}
@@ -8,6 +7,6 @@ use Rattle.checker.proofs.reply_line.Goals as goal
 
 pub returns : goal.returns
 returns c =
-    let r = replied _ _ c.check.ensures c.reply_of-answer.ensures in
-    let t = c.write_line-len.ensures.line_after ∙ ap reply_line r in
-    record { len_in_bounds = omega arith; result_value = t; no_heap = λ h. line_no_heap _ (subst BeginsWithYes t h) }
+    let r = replied _ _ c.check.ensures c.reply_of.ensures in
+    let t = c.line.ensures ∙ ap reply_line r in
+    record { result_value = t; no_heap = λ h. line_no_heap _ (subst BeginsWithYes t h) }

@@ -1,33 +1,34 @@
 -- The literal of the line, and check 15.
-use mathlib.Core.Path.{sym, subst, ◌∙◌, ap}
-use mathlib.Core.List.{List, [], ◌∷◌, map}
-use Prim.Native.Nat.{ℕ}
-use Rattle.tableau.specs.Tree.{grown}
-use Rattle.terms.specs.Lines.{SmallCode}
+use mathlib.Core.Path.{ap}
+use Rattle.std.proofs.lemmas.Result.{err_from_is_err_and}
 use Rattle.tree.specs.State.{codes_of}
-use Rattle.tree.specs.Change.{Gives}
-use Rattle.line_checks.proofs.AssumptionLines.{assumption_refused, assumption_grown}
+use Rattle.line_checks.proofs.AssumptionLines.{assumption_refused, assumption_full}
+use Rattle.line_checks.proofs.AssumptionLines.{assumption_added}
 use Rattle.line_checks.proofs.assumption_line.check.Goals as goal
 
 -- checks 4, 6, 8 and 9
-pub returns-in-Refused : goal.returns-in-Refused
-returns-in-Refused c table C E q =
-    let p = c.requires.ready in
-    assumption_refused table C _ _ c.args.f p.0 p.1 p.2 _ (sym c.in-Refused.is ∙ c.read.ensures.value table E q)
-
-pub one-requires : goal.one-requires
-one-requires c = subst SmallCode c.in-Assumed.is c.read.ensures.small_code
-
-pub after_literal-requires : goal.after_literal-requires
-after_literal-requires c = let p = c.requires.ready.0 in (p.counted, p.short)
+pub returns-in_err-code : goal.returns-in_err-code
+returns-in_err-code c table C E n =
+    let p = c.requires.letter in
+    let q = err_from_is_err_and c.from_residual.result c.from_residual.ensures.1 in
+    rw (q.1, q.2)
+    (assumption_refused table C _ _ _ c.args.f c.requires.ready p.0 p.1 _
+    (c.in_err-code.ensures.value table E n))
 
 -- check 15
-pub returns-in-Assumed : goal.returns-in-Assumed
-returns-in-Assumed c table C E q =
-    let p = c.requires.ready in
-    let G = subst (λ (ks : List ℕ). Gives c.args.extent (λ u τ. grown τ (map (map u) (ks ∷ []))) c.extend-growth.result) (ap codes_of c.one.ensures.1) c.extend-growth.ensures in
-    rw (c.result.ensures, c.after_literal.ensures)
-    (assumption_grown table C _ _ c.args.f p.0 p.1 p.2 _ E.few (sym c.in-Assumed.is ∙ c.read.ensures.value table E q) _ G)
+pub returns-in_err-change : goal.returns-in_err-change
+returns-in_err-change c table C E n =
+    let p = c.requires.letter in
+    let q = err_from_is_err_and c.from_residual-in_err-change.result c.from_residual-in_err-change.ensures.1 in
+    let S = rw (ap codes_of c.one.ensures.1) at c.in_err-change.ensures in
+    rw (q.1, q.2)
+    (assumption_full table C _ _ _ c.args.f c.requires.ready p.0 p.1 _ E.few
+    (c.in_ok-code.ensures.value table E n) S)
 
-pub read-requires : goal.read-requires
-read-requires c = c.requires.entries
+pub returns : goal.returns
+returns c table C E n =
+    let p = c.requires.letter in
+    let S = rw (ap codes_of c.one.ensures.1) at c.in_ok-change.ensures in
+    rw (c.changed.ensures, c.after_literal.ensures)
+    (assumption_added table C _ _ _ c.args.f c.requires.ready p.0 p.1 _ E.few
+    (c.in_ok-code.ensures.value table E n) S)

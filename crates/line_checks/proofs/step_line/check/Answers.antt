@@ -1,45 +1,46 @@
 -- Each return names the first of the checks 4 to 6 that the line breaks.
-use mathlib.Core.Path.{◌≡◌, subst}
+use mathlib.Core.Path.{◌≡◌, sym, ◌∙◌}
 use Rattle.std.specs.Prelude.{Some}
+use Rattle.std.proofs.lemmas.Result.{err_from_is_err_and}
 use Rattle.tableau.specs.Words.{rule_names}
-use Rattle.words.specs.Words.{lookup_packed, RuleKnown, RuleFits}
-use Rattle.parsing.specs.Taken.{StepTakenAs}
+use Rattle.words.specs.Words.{lookup_packed, rule_row, RuleFits}
+use Rattle.words.proofs.TableLaws.{known_rule, no_row}
+use Rattle.line_checks.proofs.Results.{none_or}
 use Rattle.line_checks.proofs.StepLines.{step_unknown, step_closed, step_unused, step_takes}
 use Rattle.line_checks.proofs.step_line.check.Goals as goal
-use Rattle.line_checks.proofs.step_line.check.Goals.{In-Known}
+use Rattle.line_checks.proofs.step_line.check.Goals.{In_ok-row}
 
-known : (c : goal.In-Known)
-    → (lookup_packed rule_names c.args.f.word ≡ Some c.in-Known.row.rule) × RuleFits c.in-Known.row
-known c = subst (RuleKnown _) c.in-Known.is c.rule_of.ensures
+known : (c : goal.In_ok-row) → (lookup_packed rule_names c.args.f.word ≡ Some c.in_ok-row.row.word)
+    × RuleFits c.in_ok-row.row
+known c = known_rule _ _ (sym c.in_ok-row.ensures.ok_part ∙ c.rule_of.ensures)
 
 -- check 4
-pub returns-in_default : goal.returns-in_default
-returns-in_default c table C H K P =
-    let p = c.requires.ready in
-    step_unknown table C _ _ p.0 c.args.f p.2 _ _ _ _ K (subst (RuleKnown _) c.in_default.is c.rule_of.ensures)
+pub returns-in_err-row : goal.returns-in_err-row
+returns-in_err-row c table C H K P =
+    let q = err_from_is_err_and c.from_residual.result c.from_residual.ensures.1 in
+    let k = c.in_err-row.ensures in
+    rw (q.1, q.2, none_or k.value k.ok_part)
+    (step_unknown table C _ _ _ c.requires.ready.0 c.args.f c.requires.letter _ _ _ K
+    (no_row rule_row _ (sym k.ok_part ∙ c.rule_of.ensures)))
 
 -- check 5
 pub returns-then-progress : goal.returns-then-progress
 returns-then-progress c table C H K P =
-    let p = c.requires.ready in
-    step_closed table C _ _ p.0 c.args.f p.2 _ _ _ _ K _ (known (goal.at.returns-then-progress c).In-Known).0 c.if-progress.true
+    step_closed table C _ _ _ c.requires.ready.0 c.args.f c.requires.letter _ _ _ K _
+    (known (goal.at.returns-then-progress c).In_ok-row).0 c.if-progress.true
 
 -- check 6
-pub returns-in_default-step_of : goal.returns-in_default-step_of
-returns-in_default-step_of c table C H K P =
-    let p = c.requires.ready in
-    step_unused table C _ _ p.0 c.args.f p.2 _ _ _ _ K _ (known (goal.at.returns-in_default-step_of c).In-Known).0 c.if-progress.false (subst (StepTakenAs _ _) c.in_default-step_of.is c.step_of.ensures)
-
-pub take-requires : goal.take-requires
-take-requires c =
-    let u = subst (StepTakenAs _ _) c.in-Step.is c.step_of.ensures in
-    record { held = c.requires.held; ready = (c.requires.ready.0, c.requires.ready.1, u.2, c.requires.ready.3) }
+pub returns-in_err-step : goal.returns-in_err-step
+returns-in_err-step c table C H K P =
+    let q = err_from_is_err_and c.from_residual-in_err-step.result c.from_residual-in_err-step.ensures.1 in
+    let u = c.in_err-step.ensures in
+    rw (q.1, q.2, u.1)
+    (step_unused table C _ _ _ c.requires.ready.0 c.args.f c.requires.letter _ _ _ K _
+    (known (goal.at.returns-in_err-step c).In_ok-row).0 c.if-progress.false u.0)
 
 pub returns : goal.returns
 returns c table C H K P =
-    let p = c.requires.ready in
-    let u = subst (StepTakenAs _ _) c.in-Step.is c.step_of.ensures in
-    step_takes table C _ _ p.0 c.args.f p.2 _ _ _ _ K _ (known (goal.at.returns c).In-Known).0 c.if-progress.false H _ u.0 u.1 _ (c.take.ensures table C H K P)
-
-pub step_of-requires : goal.step_of-requires
-step_of-requires c = (known (goal.at.step_of-requires c).In-Known).1
+    let u = c.in_ok-step.ensures in
+    step_takes table C _ _ _ c.requires.ready.0 c.args.f c.requires.letter _ _ _ K _
+    (known (goal.at.returns c).In_ok-row).0 c.if-progress.false H _ u.0 u.1 _
+    (c.take.ensures table C H K P)

@@ -1,64 +1,82 @@
 -- What the step asks of the whole branch, what it adds, what that makes of the tree.
 use mathlib.Core.Path.{sym, subst, ◌∙◌, ap}
 use Prim.Native.Nat.{◌≤◌}
-use Rattle.steps.specs.Inference.{RoomFor, inferred_in}
-use Rattle.line_checks.proofs.StepLines.{rows_kept, rows_split, step_taken, clause_taken}
+use Rattle.std.specs.Prelude.{Some}
+use Rattle.std.proofs.lemmas.Result.{err_from_is_err_and}
+use Rattle.tableau.specs.Tree.{passed}
+use Rattle.steps.specs.Inference.{RoomFor, added_in}
+use Rattle.line_checks.proofs.StepLines.{step_refused, step_full, step_taken, clause_grown}
 use Rattle.line_checks.proofs.step_line.take.Goals as goal
 use Rattle.line_checks.proofs.step_line.take.Goals.{In-ByClause}
 
-pub ask-asked-requires : goal.ask-asked-requires
-ask-asked-requires c =
-    let H = c.requires.held.1 in
-    record { entries = (c.requires.held.0, H.searchable.entries, H.count); branch = (c.requires.ready.1, c.requires.ready.0.noted) }
-
-pub infer-inference-requires : goal.infer-inference-requires
-infer-inference-requires c =
-    let H = c.requires.held.1 in
-    record { searchable = (c.requires.held.0, H.searchable, H.count); branch = (c.requires.ready.1, c.requires.ready.2) }
-
-pub after_step-next-requires : goal.after_step-next-requires
-after_step-next-requires c = let p = c.requires.ready.0 in (p.counted, p.short)
+pub returns-in_err-inference : goal.returns-in_err-inference
+returns-in_err-inference c table C H K P =
+    let q = err_from_is_err_and c.from_residual.result c.from_residual.ensures.1 in
+    let T = c.ask-asked.ensures.told table C H.searchable.entries H.mentioned H.count P in
+    rw (q.1, q.2)
+    (step_refused table C _ _ _ c.requires.ready.0 c.args.step c.ask-asked.result.noted _ _
+    (c.in_err-inference.ensures.result_value table C H.searchable H.count K.sequence K.last T.tells))
 
 -- the rule's outcome
 pub grow-requires : goal.grow-requires
-grow-requires c = (c.requires.ready.0.limits, subst (RoomFor _) c.in-ByRule.is c.infer-inference.ensures.room_for)
+grow-requires c =
+    let R = c.requires.ready.0 in
+    (R.branch, R.waiting, subst (RoomFor _) c.in-ByRule.is c.in_ok-inference.ensures.room_for)
 
-pub returns-in-ByRule : goal.returns-in-ByRule
-returns-in-ByRule c table C H K P =
-    let W = c.requires.ready.0 in
+pub returns-in_err-grow-in-ByRule : goal.returns-in_err-grow-in-ByRule
+returns-in_err-grow-in-ByRule c table C H K P =
+    let q = err_from_is_err_and c.from_residual-in_err-grow-in-ByRule.result c.from_residual-in_err-grow-in-ByRule.ensures.1 in
     let T = c.ask-asked.ensures.told table C H.searchable.entries H.mentioned H.count P in
-    let m = c.ask-asked.ensures.noted_le_len in
-    let said = sym (ap (inferred_in C) c.in-ByRule.is) ∙ c.infer-inference.ensures.result_value table C H.searchable H.count K.sequence K.last T.tells in
-    rw (c.result.ensures, c.after_step-next.ensures)
-    (record {
-      rows = rows_kept table C _ _ W _ c.args.step _ m _ T.rows c.grow.result;
-      taken = λ t w q b. step_taken table C _ _ W _ c.args.step _ m _ t w q b _ said _ c.grow.ensures;
-    })
+    let said = ap (λ i. passed (added_in C i)) (sym c.in-ByRule.is)
+    ∙ c.in_ok-inference.ensures.result_value table C H.searchable H.count K.sequence K.last T.tells in
+    rw (q.1, q.2)
+    (step_full table C _ _ _ c.requires.ready.0 c.args.step c.ask-asked.result.noted _ _ _ said
+    (c.in_err-grow-in-ByRule.ensures.result c.args.clauses.now))
+
+pub returns-in_ok-grow-in-ByRule : goal.returns-in_ok-grow-in-ByRule
+returns-in_ok-grow-in-ByRule c table C H K P =
+    let T = c.ask-asked.ensures.told table C H.searchable.entries H.mentioned H.count P in
+    let said = ap (λ i. passed (added_in C i)) (sym c.in-ByRule.is)
+    ∙ c.in_ok-inference.ensures.result_value table C H.searchable H.count K.sequence K.last T.tells in
+    let G = c.in_ok-grow-in-ByRule.ensures in
+    rw (c.grown.ensures, c.after_step-next.ensures)
+    (step_taken table C _ _ _ c.requires.ready.0 c.args.step _ _ _ _ said c.ask-asked.ensures.noted_le_len T.rows _ G.fits (G.result c.args.clauses.now))
 
 -- a clause
-named : (c : goal.In-ByClause) → (let k = c.in-ByClause.k in
-    (1 ≤ k.0) × (k.0 ≤ c.args.progress.clauses))
-named c = subst (RoomFor _) c.in-ByClause.is c.infer-inference.ensures.room_for
+named : (c : goal.In-ByClause)
+    → (let k = c.in-ByClause.k in (1 ≤ k.0) × (k.0 ≤ c.args.progress.clauses))
+named c = subst (RoomFor _) c.in-ByClause.is c.in_ok-inference.ensures.room_for
 
 pub span_of-requires : goal.span_of-requires
-span_of-requires c =
-    let K = c.requires.ready.3 in
-    (K.0, _, K.1, (named (goal.at.span_of-requires c).In-ByClause).0, (named (goal.at.span_of-requires c).In-ByClause).1)
+span_of-requires c = let K = c.requires.ready.2 in let n =
+    named (goal.at.span_of-requires c).In-ByClause in (K.0, _, K.1, n.0, n.1)
 
-pub split-requires : goal.split-requires
-split-requires c =
-    let K = c.requires.ready.3 in
-    let S = c.span_of.ensures K.0 _ K.1 (named (goal.at.split-requires c).In-ByClause).1 in
-    (c.requires.ready.0.limits, S.some, S.few)
+pub split_clause-requires : goal.split_clause-requires
+split_clause-requires c =
+    let R = c.requires.ready.0 in
+    let K = c.requires.ready.2 in
+    let S = c.span_of.ensures K.0 _ K.1 (named (goal.at.split_clause-requires c).In-ByClause).1 in
+    record { tree = (R.branch, R.waiting); span = (S.some, S.inside); literals = K.1.bounded }
 
-pub returns-in-ByClause : goal.returns-in-ByClause
-returns-in-ByClause c table C H K P =
-    let W = c.requires.ready.0 in
+pub returns-in_err-split_clause-in-ByClause : goal.returns-in_err-split_clause-in-ByClause
+returns-in_err-split_clause-in-ByClause c table C H K P =
+    let q = err_from_is_err_and c.from_residual-in_err-split_clause-in-ByClause.result c.from_residual-in_err-split_clause-in-ByClause.ensures.1 in
     let T = c.ask-asked.ensures.told table C H.searchable.entries H.mentioned H.count P in
-    let m = c.ask-asked.ensures.noted_le_len in
-    let said = sym (ap (inferred_in C) c.in-ByClause.is) ∙ c.infer-inference.ensures.result_value table C H.searchable H.count K.sequence K.last T.tells in
-    rw (c.split.ensures, c.after_step-next.ensures)
-    (record {
-      rows = rows_split table C _ _ W _ c.args.step _ m _ T.rows _;
-      taken = λ t w q b. clause_taken table C _ _ W _ c.args.step _ m _ t w q b _ _ (c.span_of.ensures C _ K (named (goal.at.returns-in-ByClause c).In-ByClause).1) K.bounded said;
-    })
+    let said = ap (λ i. passed (added_in C i)) (sym c.in-ByClause.is)
+    ∙ c.in_ok-inference.ensures.result_value table C H.searchable H.count K.sequence K.last T.tells in
+    let S = c.span_of.ensures C _ K
+    (named (goal.at.returns-in_err-split_clause-in-ByClause c).In-ByClause).1 in
+    rw (q.1, q.2)
+    (step_full table C _ _ _ c.requires.ready.0 c.args.step c.ask-asked.result.noted _ _ _ said
+    (clause_grown table C _ _ _ c.requires.ready.0 S c.in_err-split_clause-in-ByClause.ensures))
+
+pub returns-in_ok-split_clause-in-ByClause : goal.returns-in_ok-split_clause-in-ByClause
+returns-in_ok-split_clause-in-ByClause c table C H K P =
+    let T = c.ask-asked.ensures.told table C H.searchable.entries H.mentioned H.count P in
+    let said = ap (λ i. passed (added_in C i)) (sym c.in-ByClause.is)
+    ∙ c.in_ok-inference.ensures.result_value table C H.searchable H.count K.sequence K.last T.tells in
+    let S = c.span_of.ensures C _ K
+    (named (goal.at.returns-in_ok-split_clause-in-ByClause c).In-ByClause).1 in
+    let G = c.in_ok-split_clause-in-ByClause.ensures in
+    rw (c.changed.ensures, c.after_step-next.ensures)
+    (step_taken table C _ _ _ c.requires.ready.0 c.args.step _ _ _ _ said c.ask-asked.ensures.noted_le_len T.rows (Some _) G.fits (clause_grown table C _ _ _ c.requires.ready.0 S G))
