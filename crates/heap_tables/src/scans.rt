@@ -6,7 +6,7 @@ ghost use Rattle.heap_tables.specs.Scans.{Scannable, IsPlace, IsMembers, IsScatt
 use facts::StoredFact;
 
 // The p below the limit for which the key is base + p * 2 ^ shift.
-fn place_of(key: u64, base: u64, shift: u32, limit: usize) -> Option<usize>
+fn place_of(key: u64, base: u64, shift: u64, limit: usize) -> Option<usize>
     requires { Scannable base shift limit }
     ensures { IsPlace key base shift limit result }
 {
@@ -21,7 +21,7 @@ fn place_of(key: u64, base: u64, shift: u32, limit: usize) -> Option<usize>
 }
 
 // Bit x is set where some key is base + x * 2 ^ shift.
-pub fn members(facts: &[StoredFact], base: u64, shift: u32) -> u64
+pub fn members(facts: &[StoredFact], base: u64, shift: u64) -> u64
     requires { Scannable base shift 64 }
     ensures { IsMembers facts.now base shift result }
 {
@@ -36,7 +36,7 @@ pub fn members(facts: &[StoredFact], base: u64, shift: u32) -> u64
 
 // Byte p becomes the value of the first line whose key is base + p * 2 ^ shift, 0 where there is
 // none.
-pub fn scatter(facts: &[StoredFact], base: u64, shift: u32, out: &mut [u8])
+pub fn scatter(facts: &[StoredFact], base: u64, shift: u64, out: &mut [u8])
     requires { Scannable base shift (length out.old) }
     ensures { IsScattered facts.now base shift out.old out.new }
 {
