@@ -10,7 +10,7 @@ ghost use Rattle.variables.specs.Variables.{NumberRead, VariableRead};
 
 use evaluation::FactWord;
 use facts::StoredFact;
-use facts::keys::{word_key, value_at};
+use facts::keys::{value_at, word_key};
 use heap_tables::scans::{members, scatter};
 use regions::ROW;
 use tableau::{Name, Sort, TermNumber};

@@ -33,7 +33,7 @@ returns c =
             value = c.number_of.result;
             read = c.number_of.ensures;
             number = search rules;
-            row = rw heap (row_put a.facts.now a.name.0 _ a.values.now.rows _ a.t.0 c.requires.1 size w.pack_key-key.ensures w.scatter.ensures);
+            row = rw heap (row_put a.facts.now a.name.0 _ a.values.now.rows _ a.t.0 c.requires.1 size w.word_key-key.ensures w.scatter.ensures);
           })
       | else-eq w ↦
           let other : a.sort ≡ Sort.Heap → ⊥ = λ e. true≢false (sym (ap (λ s. sameb the_type s Sort.Heap) e) ∙ sym c.eq.ensures ∙ w.if-eq.false) in
