@@ -8,7 +8,8 @@ use native.Mathlib.Omega.{arith}
 use lib.ListN.{length, length-append}
 use Rattle.tableau.specs.Reply.{Reply, decimal, comma_numbers}
 use Rattle.statistics.specs.Fractions.{Fraction, ◌over◌, lowest}
-use Rattle.statistics.specs.Figures.{step_counts, square, sum, mean, variance, printed, figures, figure_numbers}
+use Rattle.statistics.specs.Figures.{step_counts, square, sum, mean, variance, printed, figures}
+use Rattle.statistics.specs.Figures.{figure_numbers}
 use Rattle.statistics.proofs.Variance.{printed_lowest, squares_below, variance_lowest}
 use Rattle.figures.specs.Totals.{most_replies, most_steps, TotalsOf, Small}
 
@@ -18,7 +19,8 @@ unfolding sum
 sum_more [] x = omega arith
 sum_more (y ∷ xs) x = let e = sum_more xs x in omega (arith, e)
 
-steps_more : (rs : List Reply) (r : Reply) → step_counts (rs ++ (r ∷ [])) ≡ step_counts rs ++ cond r.is_yes (r.steps ∷ []) []
+steps_more : (rs : List Reply) (r : Reply)
+    → step_counts (rs ++ (r ∷ [])) ≡ step_counts rs ++ cond r.is_yes (r.steps ∷ []) []
 unfolding step_counts
 steps_more [] r = which r.is_yes
   where
@@ -27,33 +29,46 @@ steps_more [] r = which r.is_yes
     which false = refl
 steps_more (q ∷ rs) r = which q.is_yes (steps_more rs r)
   where
-    which : (b : Bool) → step_counts (rs ++ (r ∷ [])) ≡ step_counts rs ++ cond r.is_yes (r.steps ∷ []) []
-        → cond b (q.steps ∷ step_counts (rs ++ (r ∷ []))) (step_counts (rs ++ (r ∷ []))) ≡ cond b (q.steps ∷ step_counts rs) (step_counts rs) ++ cond r.is_yes (r.steps ∷ []) []
+    which : (b : Bool)
+        → step_counts (rs ++ (r ∷ [])) ≡ step_counts rs ++ cond r.is_yes (r.steps ∷ []) []
+        → cond b (q.steps ∷ step_counts (rs ++ (r ∷ []))) (step_counts (rs ++ (r ∷ [])))
+        ≡ cond b (q.steps ∷ step_counts rs) (step_counts rs) ++ cond r.is_yes (r.steps ∷ []) []
     which true e = ap (λ xs. q.steps ∷ xs) e
     which false e = e
 
 module _ (rs : List Reply) (f a s q : ℕ) (r : Reply) (h : TotalsOf rs f a s q) where
-  pub totals_yes : r.is_yes ≡ true → TotalsOf (rs ++ (r ∷ [])) (f + 1) (a + 1) (s + r.steps) (q + square r.steps)
+  pub totals_yes : r.is_yes ≡ true
+      → TotalsOf (rs ++ (r ∷ [])) (f + 1) (a + 1) (s + r.steps) (q + square r.steps)
   totals_yes e =
-      let k : step_counts (rs ++ (r ∷ [])) ≡ step_counts rs ++ (r.steps ∷ []) = steps_more rs r ∙ rw e in
+      let k : step_counts (rs ++ (r ∷ [])) ≡ step_counts rs ++ (r.steps ∷ []) =
+      steps_more rs r ∙ rw e in
       record {
         files = rw h.files (sym (length-append rs (r ∷ [])));
         accepted = rw (k, h.accepted) (sym (length-append (step_counts rs) (r.steps ∷ [])));
         sum = rw (k, h.sum) (sym (sum_more (step_counts rs) r.steps));
-        squares = rw (k, h.squares, map-append square (step_counts rs) (r.steps ∷ [])) (sym (sum_more (map square (step_counts rs)) (square r.steps)));
+        squares =
+            rw (k, h.squares, map-append square (step_counts rs) (r.steps ∷ []))
+            (sym (sum_more (map square (step_counts rs)) (square r.steps)));
       }
 
   pub totals_no : r.is_yes ≡ false → TotalsOf (rs ++ (r ∷ [])) (f + 1) a s q
   totals_no e =
-      let k : step_counts (rs ++ (r ∷ [])) ≡ step_counts rs = steps_more rs r ∙ rw (e, append-nil) in
-      record { files = rw h.files (sym (length-append rs (r ∷ []))); accepted = rw k h.accepted; sum = rw k h.sum; squares = rw k h.squares }
+      let k : step_counts (rs ++ (r ∷ [])) ≡ step_counts rs =
+      steps_more rs r ∙ rw (e, append-nil) in
+      record {
+        files = rw h.files (sym (length-append rs (r ∷ [])));
+        accepted = rw k h.accepted;
+        sum = rw k h.sum;
+        squares = rw k h.squares;
+      }
 
 -- BOUNDS
 pub square_small : (x : ℕ) → x < most_steps + 1 → square x ≤ square most_steps
 square_small x h = let k : x ≤ most_steps = omega arith in mul-le-mul k k
 
 module _ (f a s q : ℕ) (h : Small f a s q) where
-  pub small_yes : f < most_replies → (x : ℕ) → x < most_steps + 1 → Small (f + 1) (a + 1) (s + x) (q + square x)
+  pub small_yes : f < most_replies → (x : ℕ) → x < most_steps + 1
+      → Small (f + 1) (a + 1) (s + x) (q + square x)
   small_yes l x k = record {
     files = omega (arith, l);
     accepted = omega (arith, h.accepted);
@@ -62,17 +77,26 @@ module _ (f a s q : ℕ) (h : Small f a s q) where
   }
 
   pub small_no : f < most_replies → Small (f + 1) a s q
-  small_no l = record { files = omega (arith, l); accepted = omega (arith, h.accepted); sum = h.sum; squares = h.squares }
+  small_no l = record {
+    files = omega (arith, l);
+    accepted = omega (arith, h.accepted);
+    sum = h.sum;
+    squares = h.squares;
+  }
 
   few : a ≤ most_replies
   few = le_trans h.accepted h.files
 
   -- 64 bits hold the products
   pub squares_fit : a * q < 2 ^ 64
-  squares_fit = let k : q ≤ square most_steps * most_replies = omega (arith, h.squares, few) in let p = mul-le-mul few k in omega (arith, p)
+  squares_fit =
+      let k : q ≤ square most_steps * most_replies = omega (arith, h.squares, few) in
+      let p = mul-le-mul few k in omega (arith, p)
 
   pub sum_fits : s * s < 2 ^ 64
-  sum_fits = let k : s ≤ most_steps * most_replies = omega (arith, h.sum, few) in let p = mul-le-mul k k in omega (arith, p)
+  sum_fits =
+      let k : s ≤ most_steps * most_replies = omega (arith, h.sum, few) in
+      let p = mul-le-mul k k in omega (arith, p)
 
   pub count_fits : a * a < 2 ^ 64
   count_fits = let p = mul-le-mul few few in omega (arith, p)
@@ -85,20 +109,39 @@ module _ (rs : List Reply) (f a s q : ℕ) (h : TotalsOf rs f a s q) where
   some_accepted : (a ≡ 0 → ⊥) → 0 < length (step_counts rs)
   some_accepted z = omega (arith, h.accepted, z)
 
-  pub mean_lowest : (a ≡ 0 → ⊥) → lowest (s over a) ≡ printed (length (step_counts rs)) (mean (step_counts rs))
+  pub mean_lowest : (a ≡ 0 → ⊥)
+      → lowest (s over a) ≡ printed (length (step_counts rs)) (mean (step_counts rs))
   unfolding mean
-  mean_lowest z = rw (printed_lowest (length (step_counts rs)) (mean (step_counts rs)) (some_accepted z), h.sum, h.accepted)
+  mean_lowest z =
+      rw (
+        printed_lowest (length (step_counts rs)) (mean (step_counts rs))
+            (some_accepted z),
+        h.sum,
+        h.accepted,
+      )
 
   pub sum_squared : (a ≡ 0 → ⊥) → s * s ≤ a * q
-  sum_squared z = rw (h.sum, h.accepted, h.squares) (squares_below (step_counts rs) (some_accepted z))
+  sum_squared z =
+      rw (h.sum, h.accepted, h.squares) (squares_below (step_counts rs) (some_accepted z))
 
   pub variance_from : (a ≡ 0 → ⊥)
-      → lowest (a * q - s * s over a * a) ≡ printed (length (step_counts rs)) (variance (step_counts rs))
+      → lowest (a * q - s * s over a * a)
+      ≡ printed (length (step_counts rs)) (variance (step_counts rs))
   variance_from z =
-      rw (printed_lowest (length (step_counts rs)) (variance (step_counts rs)) (some_accepted z), h.sum, h.accepted, h.squares) (variance_lowest (step_counts rs) (some_accepted z))
+      rw (
+        printed_lowest (length (step_counts rs)) (variance (step_counts rs))
+            (some_accepted z),
+        h.sum,
+        h.accepted,
+        h.squares,
+      ) (variance_lowest (step_counts rs)
+      (some_accepted z))
 
-  pub figure_numbers_lem : (m v : Fraction) → m ≡ printed (length (step_counts rs)) (mean (step_counts rs)) → v ≡ printed (length (step_counts rs)) (variance (step_counts rs))
-      → decimal f ++ comma_numbers (a ∷ m.numerator ∷ m.denominator ∷ v.numerator ∷ v.denominator ∷ [])
+  pub figure_numbers_lem : (m v : Fraction)
+      → m ≡ printed (length (step_counts rs)) (mean (step_counts rs))
+      → v ≡ printed (length (step_counts rs)) (variance (step_counts rs))
+      → decimal f
+      ++ comma_numbers (a ∷ m.numerator ∷ m.denominator ∷ v.numerator ∷ v.denominator ∷ [])
       ≡ decimal (figures rs).files ++ comma_numbers (figure_numbers (figures rs))
   unfolding figures
   figure_numbers_lem m v e k = rw (h.files, h.accepted, e, k)

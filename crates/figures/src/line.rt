@@ -19,7 +19,8 @@ fn refusal_line(refusal: Refusal) -> Text
 }
 
 fn totals_line(totals: Totals) -> Text
-    ensures { (rs : List specification.Reply) → TotalsIn rs totals → result ≡ decimal (figures rs).files ++ comma_numbers (figure_numbers (figures rs)) }
+    ensures { (rs : List specification.Reply) → TotalsIn rs totals
+        → result ≡ decimal (figures rs).files ++ comma_numbers (figure_numbers (figures rs)) }
 {
     let mean = totals.mean();
     let variance = totals.variance();

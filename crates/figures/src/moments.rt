@@ -2,7 +2,8 @@
 ghost use Rattle.std.specs.Prelude.{List, ◌≡◌, length};
 ghost use Rattle.tableau.specs.Reply as specification;
 ghost use Rattle.fractions.specs.Fraction.{fraction_record};
-ghost use Rattle.statistics.specs.Figures.{step_counts, mean as meanOf, variance as varianceOf, printed};
+ghost use Rattle.statistics.specs.Figures.{step_counts, mean as meanOf, variance as varianceOf};
+ghost use Rattle.statistics.specs.Figures.{printed};
 ghost use Rattle.figures.specs.Night.{TotalsIn};
 
 use crate::totals::Totals;
@@ -15,7 +16,8 @@ const NONE: Fraction = Fraction {
 
 impl Totals {
     pub fn mean(self) -> Fraction
-        ensures { (rs : List specification.Reply) → TotalsIn rs self → fraction_record result ≡ printed (length (step_counts rs)) (meanOf (step_counts rs)) }
+        ensures { (rs : List specification.Reply) → TotalsIn rs self
+            → fraction_record result ≡ printed (length (step_counts rs)) (meanOf (step_counts rs)) }
     {
         if self.accepted == 0 {
             return NONE;
@@ -30,7 +32,9 @@ impl Totals {
     // The mean of the squares less the square of the mean, over one denominator: with n numbers, n
     // times the sum of squares less the square of the sum, over n n.
     pub fn variance(self) -> Fraction
-        ensures { (rs : List specification.Reply) → TotalsIn rs self → fraction_record result ≡ printed (length (step_counts rs)) (varianceOf (step_counts rs)) }
+        ensures { (rs : List specification.Reply) → TotalsIn rs self
+            → fraction_record result
+            ≡ printed (length (step_counts rs)) (varianceOf (step_counts rs)) }
     {
         let n = self.accepted;
         if n == 0 {

@@ -30,7 +30,8 @@ impl Totals {
 
     fn add(&mut self, reply: Reply)
         requires { (self.old.files < most_replies) × (reply.steps < 10 ^ reply_digits) }
-        ensures { (rs : List specification.Reply) → TotalsIn rs self.old → TotalsIn (rs ++ (reply_record reply ∷ [])) self.new }
+        ensures { (rs : List specification.Reply) → TotalsIn rs self.old
+            → TotalsIn (rs ++ (reply_record reply ∷ [])) self.new }
     {
         self.files += 1;
         if reply.is_yes {

@@ -15,13 +15,14 @@ pub const SPACE: usize = 60001;
 
 // Reads until the input ends or space is full, however few bytes each read brings, and returns how
 // many came; or why a read failed, which cuts off what came before it. Nothing is said
-// of what a failed read leaves in space or in the reader. What space holds behind the bytes that came
-// is free too: nobody looks at it.
+// of what a failed read leaves in space or in the reader. What space holds behind the bytes that
+// came is free too: nobody looks at it.
 pub fn read_all<R: Read>(reader: &mut R, space: &mut [u8]) -> io::Result<usize>
     requires { max_bytes < length space.old }
     ensures same_room { length space.new ≡ length space.old }
     ensures fits { IfOk result (λ n. n ≤ length space.new) }
-    ensures brings { IfOk result (λ n. Brings (R.remaining reader.old) (R.remaining reader.new) n space.new) }
+    ensures brings { IfOk result
+        (λ n. Brings (R.remaining reader.old) (R.remaining reader.new) n space.new) }
 {
     let mut done = 0;
     while done < space.len() {
@@ -52,7 +53,8 @@ pub fn read_standard_input<R: Read>(
     requires { max_bytes < length space.old }
     ensures same_room { length space.new ≡ length space.old }
     ensures fits { IfOk result (λ n. n ≤ length space.new) }
-    ensures brings { IfOk result (λ n. Brings (R.remaining stdin.old) (R.remaining stdin.new) n space.new) }
+    ensures brings { IfOk result
+        (λ n. Brings (R.remaining stdin.old) (R.remaining stdin.new) n space.new) }
 {
     let input = read_all(stdin, space);
     if input.is_err() {

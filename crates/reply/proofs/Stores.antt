@@ -8,11 +8,13 @@ use lib.ListN.{length, take, drop, set, length-set}
 use lib.Seq.{take-suc-set, drop-cons, drop-set-lt, get_or-set_same}
 
 -- behind the first n
-pub stored_behind : (xs : List ℕ) (n v : ℕ) → n < length xs → take (n + 1) (set xs n v) ≡ take n xs ++ (v ∷ [])
+pub stored_behind : (xs : List ℕ) (n v : ℕ) → n < length xs
+    → take (n + 1) (set xs n v) ≡ take n xs ++ (v ∷ [])
 stored_behind xs n v h = rw add-one (take-suc-set xs n v h)
 
 -- before the last ones
-pub stored_before : (xs : List ℕ) (n v : ℕ) → n < length xs → drop n (set xs n v) ≡ v ∷ drop (n + 1) xs
+pub stored_before : (xs : List ℕ) (n v : ℕ) → n < length xs
+    → drop n (set xs n v) ≡ v ∷ drop (n + 1) xs
 stored_before xs n v h =
     let l : n < length (set xs n v) = simp length-set h in
     let g : n < suc n = omega arith in

@@ -1,7 +1,8 @@
 -- The room of a line.
 use Rattle.std.specs.Prelude.{ℕ}
 
--- "One line ended by LF": room for it, of which 151 bytes at most are written (`yes`, seven commas with a number each, LF)
+-- "One line ended by LF": room for it, of which 151 bytes at most are written (`yes`, seven commas
+-- with a number each, LF)
 abbrev pub line_bytes : ℕ
 line_bytes = 160
 

@@ -6,7 +6,12 @@ use Rattle.reply.specs.declared.Counts.{Counts}
 use Rattle.reply.specs.declared.Reply.{Reply}
 
 abbrev pub counts_of : Counts → specification.Counts
-counts_of c = record { terms = c.terms; assumptions = c.assumptions; steps = c.steps; closings = c.closings }
+counts_of c = record {
+  terms = c.terms;
+  assumptions = c.assumptions;
+  steps = c.steps;
+  closings = c.closings;
+}
 
 abbrev pub verdict_of : Result Counts Refusal → specification.Verdict
 verdict_of (Ok c) = specification.accept (counts_of c)

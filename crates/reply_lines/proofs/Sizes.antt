@@ -24,7 +24,8 @@ pub record Sizes (l : List ℕ) (r : Reply) : Type 0 where
   pub steps : r.steps < 10 ^ reply_digits
 
 -- a number has a digit, and its comma
-numbers_long : (ps : List (List ℕ)) (ns : List ℕ) → numbers ps ≡ Some ns → 2 * length ns ≤ bytes_of ps
+numbers_long : (ps : List (List ℕ)) (ns : List ℕ) → numbers ps ≡ Some ns
+    → 2 * length ns ≤ bytes_of ps
 unfolding numbers
 numbers_long [] ns e = let q = some_inj e in rw (← q) (omega arith)
 numbers_long (p ∷ ps) ns e =
@@ -52,6 +53,14 @@ sizes l r e = go (split comma l) (split_bytes comma l) e
         let k = then_inv (numbers ps) _ h.2 in
         let g = guard_inv (eqb (length k.0) 7) _ k.2 in
         record {
-          long = omega (arith, b, answer_long p h.1, numbers_long ps k.0 k.1, eqb-true (length k.0) 7 g.0);
+          long =
+              omega (
+                arith,
+                b,
+                answer_long p h.1,
+                numbers_long ps k.0 k.1,
+                eqb-true
+                    (length k.0) 7 g.0,
+              );
           steps = steps_below l r e;
         }

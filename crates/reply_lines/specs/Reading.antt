@@ -1,4 +1,5 @@
--- What reading a reply line gives: the specification's own shape of a line, and the position after its LF.
+-- What reading a reply line gives: the specification's own shape of a line, and the position after
+-- its LF.
 use Rattle.std.specs.Prelude.{List, [], ◌≡◌, ℕ, ◌-◌, length, drop}
 use Rattle.std.specs.Prelude.{Option, None, Some, option_map}
 use Rattle.tableau.specs.Basics.{then}
@@ -23,13 +24,17 @@ reply_form = record { count = number_count; digits = reply_digits }
 
 -- the numbers of a line are read, behind a word that is read
 abbrev pub numbers_after : ℕ → List ℕ → ℕ → Option FieldsAt
-numbers_after w file at = steps_at reply_form (before_number (number_count - 1) (record { letter = 0; word = w; numbers = [] })) file at
+numbers_after w file at =
+    steps_at reply_form
+    (before_number (number_count - 1) (record { letter = 0; word = w; numbers = [] })) file at
 
--- Numbers are read, and the position behind them: whatever word they stand behind, the line has it and these numbers, and ends before the position; or there is no line.
+-- Numbers are read, and the position behind them: whatever word they stand behind, the line has it
+-- and these numbers, and ends before the position; or there is no line.
 unfoldable pub NumbersHere : List ℕ → ℕ → Option (List ℕ × ℕ) → Type 0
 NumbersHere file at None = (w : ℕ) → numbers_after w file at ≡ None
 NumbersHere file at (Some r) = (length r.0 ≡ number_count)
-    × ((w : ℕ) → numbers_after w file at ≡ Some (record { fields = record { letter = 0; word = w; numbers = r.0 }; next = r.1 }))
+    × ((w : ℕ) → numbers_after w file at
+    ≡ Some (record { fields = record { letter = 0; word = w; numbers = r.0 }; next = r.1 }))
 
 -- a reply, and the position after its LF
 pub record ReplyAt : Type 0 where

@@ -7,7 +7,8 @@ ghost use Rattle.lines.specs.Lines.{LFAhead};
 ghost use Rattle.lines.specs.ByteSteps.{end_of};
 ghost use Rattle.words.specs.Words.{lookup_packed};
 ghost use Rattle.reply.specs.Verdict.{reply_record};
-ghost use Rattle.statistics.specs.ReplyLines.{answers, seven_numbers, contradictory_yes, any_count, contradictory_no, contradictory};
+ghost use Rattle.statistics.specs.ReplyLines.{answers, seven_numbers, contradictory_yes, any_count};
+ghost use Rattle.statistics.specs.ReplyLines.{contradictory_no, contradictory};
 ghost use Rattle.reply_lines.specs.Reading.{number_count, NumbersHere, read_as, reply_at};
 
 use lines::{read_number, read_word};

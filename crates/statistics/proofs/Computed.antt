@@ -6,7 +6,8 @@ use Rattle.tableau.specs.Reply.{refusal_of, run_lines, decimal_from, comma_numbe
 use Rattle.tableau.specs.Cases.{file_of}
 use Rattle.statistics.specs.ReplyLines.{answers, numbers, reply_shape, contradictory}
 use Rattle.statistics.specs.Fractions.{greatest_up_to, lowest}
-use Rattle.statistics.specs.Figures.{run_reply, replies_of, step_counts, sum, mean, variance, figures, figures_line}
+use Rattle.statistics.specs.Figures.{run_reply, replies_of, step_counts, sum, mean, variance}
+use Rattle.statistics.specs.Figures.{figures, figures_line}
 use Rattle.statistics.specs.Cases.{nights, UnendedRefused, AllFigures}
 
 pub all_figures : AllFigures nights

@@ -1,5 +1,6 @@
 -- 'Figures over a night's replies': a reply line, from its bytes to a reply.
-use Rattle.std.specs.Prelude.{Bool, true, false, ◌&&◌, ◌||◌, not, cond, List, [], ◌∷◌, ℕ, eqb, length, get_or}
+use Rattle.std.specs.Prelude.{Bool, true, false, ◌&&◌, ◌||◌, not, cond, List, [], ◌∷◌, ℕ, eqb}
+use Rattle.std.specs.Prelude.{length, get_or}
 use Rattle.std.specs.Prelude.{Option, None, Some}
 use Rattle.tableau.specs.Basics.{then, guard, Named, ◌↣◌, lookup}
 use Rattle.tableau.specs.File.{comma, split, number}
@@ -18,7 +19,8 @@ unfoldable pub numbers : List (List ℕ) → Option (List ℕ)
 numbers [] = Some []
 numbers (p ∷ ps) = then (number reply_digits p) λ n. then (numbers ps) λ ns. Some (n ∷ ns)
 
--- "reply lines in the form of Req 05", which adds the place to document 01's reply: seven numbers, in the reply's order
+-- "reply lines in the form of Req 05", which adds the place to document 01's reply: seven numbers,
+-- in the reply's order
 abbrev pub seven_numbers : Bool → List ℕ → Option Reply
 seven_numbers is_yes' ns =
     guard (eqb (length ns) 7)
@@ -36,7 +38,8 @@ seven_numbers is_yes' ns =
 
 abbrev pub reply_fields : List (List ℕ) → Option Reply
 reply_fields [] = None
-reply_fields (p ∷ ps) = then (lookup answers p) λ is_yes'. then (numbers ps) λ ns. seven_numbers is_yes' ns
+reply_fields (p ∷ ps) =
+    then (lookup answers p) λ is_yes'. then (numbers ps) λ ns. seven_numbers is_yes' ns
 
 -- the reply of a line, its LF taken off, if it is shaped as one
 unfoldable pub reply_shape : List ℕ → Option Reply
@@ -48,10 +51,13 @@ contradictory_yes r = not (eqb r.number 0) || (not (eqb r.line 0) || not (eqb r.
 
 -- "or a no with number 0, a nonzero count, or a place but not number 13"
 abbrev pub any_count : Reply → Bool
-any_count r = not (eqb r.terms 0) || (not (eqb r.assumptions 0) || (not (eqb r.steps 0) || not (eqb r.closings 0)))
+any_count r =
+    not (eqb r.terms 0) ||
+    (not (eqb r.assumptions 0) || (not (eqb r.steps 0) || not (eqb r.closings 0)))
 
 abbrev pub contradictory_no : Reply → Bool
-contradictory_no r = eqb r.number 0 || (any_count r || (not (eqb r.place 0) && not (eqb r.number 13)))
+contradictory_no r =
+    eqb r.number 0 || (any_count r || (not (eqb r.place 0) && not (eqb r.number 13)))
 
 unfoldable pub contradictory : Reply → Bool
 contradictory r = cond r.is_yes (contradictory_yes r) (contradictory_no r)

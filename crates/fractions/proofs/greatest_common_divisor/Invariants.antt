@@ -1,4 +1,5 @@
--- The loop's invariant: the dividend m and the divisor n have the common divisors of a and b. The measure is the divisor: a remainder is below it.
+-- The loop's invariant: the dividend m and the divisor n have the common divisors of a and b. The
+-- measure is the divisor: a remainder is below it.
 use mathlib.Core.Logic.{◌↔◌}
 use Prim.Native.Nat.{ℕ, ◌∣◌}
 use Rattle.fractions.proofs.greatest_common_divisor.Given as goal

@@ -1,6 +1,7 @@
 use mathlib.Core.Path.{refl}
 use lib.ListN.{length-set}
-use Rattle.reply_lines.proofs.Numbers.{numbers_start, numbers_end, number_bad, number_more, number_ahead}
+use Rattle.reply_lines.proofs.Numbers.{numbers_start, numbers_end, number_bad, number_more}
+use Rattle.reply_lines.proofs.Numbers.{number_ahead}
 use Rattle.reply_lines.proofs.read_numbers.Goals as goal
 
 pub loop-i-init : goal.loop-i-init
@@ -9,7 +10,9 @@ loop-i-init c = (numbers_start _ _ _, refl, λ h. c.requires)
 pub returns-in_err-values : goal.returns-in_err-values
 returns-in_err-values c =
     let l = c.loop-i in
-    rw c.from_residual.ensures (number_bad _ _ l.i l.next l.values l.invariant.0 c.loop-i-test.true (rw c.end_of.ensures at c.in_err-values.ensures))
+    rw c.from_residual.ensures
+    (number_bad _ _ l.i l.next l.values l.invariant.0 c.loop-i-test.true
+    (rw c.end_of.ensures at c.in_err-values.ensures))
 
 pub loop-i-preserved : goal.loop-i-preserved
 loop-i-preserved c =
@@ -21,4 +24,6 @@ loop-i-preserved c =
     )
 
 pub returns : goal.returns
-returns c = let l = c.loop-i in numbers_end _ _ l.i l.next l.values l.invariant.0 c.loop-i-test.false l.invariant.1
+returns c =
+    let l = c.loop-i in
+    numbers_end _ _ l.i l.next l.values l.invariant.0 c.loop-i-test.false l.invariant.1

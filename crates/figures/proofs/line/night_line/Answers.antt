@@ -6,7 +6,9 @@ use Rattle.figures.proofs.line.night_line.Goals as goal
 
 pub returns-in-Ok : goal.returns-in-Ok
 unfolding figures_line
-returns-in-Ok c replies h = let r = subst (ReadTo replies) c.in-Ok.is h in c.totals_line.ensures r.replies r.totals ∙ rw r.read
+returns-in-Ok c replies h =
+    let r = subst (ReadTo replies) c.in-Ok.is h in
+    c.totals_line.ensures r.replies r.totals ∙ rw r.read
 
 pub returns-in-Err : goal.returns-in-Err
 unfolding figures_line

@@ -8,4 +8,6 @@ pub returns : goal.returns
 returns c rs h =
     c.put_fields.ensures
     ∙ rw (c.put_decimal.ensures.put, c.new-text.ensures)
-    (figure_numbers_lem rs _ _ _ _ h (fraction_record c.mean-mean.result) (fraction_record c.variance-variance.result) (c.mean-mean.ensures rs h) (c.variance-variance.ensures rs h))
+    (figure_numbers_lem rs _ _ _ _ h (fraction_record c.mean-mean.result)
+    (fraction_record c.variance-variance.result) (c.mean-mean.ensures rs h)
+    (c.variance-variance.ensures rs h))

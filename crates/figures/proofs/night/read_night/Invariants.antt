@@ -1,4 +1,5 @@
--- The loop's invariant: the replies so far, by their totals. The measure is what is left of the night.
+-- The loop's invariant: the replies so far, by their totals. The measure is what is left of the
+-- night.
 use Prim.Native.Nat.{◌-◌}
 use lib.ListN.{length}
 use Rattle.figures.proofs.Lines.{SoFar}

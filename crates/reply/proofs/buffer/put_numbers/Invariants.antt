@@ -1,4 +1,5 @@
--- The loop's invariant: the bytes written, and behind them those of the numbers that are left, are the bytes of all.
+-- The loop's invariant: the bytes written, and behind them those of the numbers that are left, are
+-- the bytes of all.
 use Prim.Native.Nat.{◌*◌}
 use mathlib.Core.Path.{◌≡◌}
 use mathlib.Core.List.{◌++◌}
@@ -7,4 +8,5 @@ use Rattle.tableau.specs.Reply.{number_bytes}
 use Rattle.reply.proofs.buffer.put_numbers.Given as goal
 
 abbrev pub invariant-loop-i : goal.invariant-loop-i
-invariant-loop-i l = take (4 * l.i) l.buffer ++ number_bytes (drop l.i l.numbers) ≡ number_bytes l.numbers
+invariant-loop-i l =
+    take (4 * l.i) l.buffer ++ number_bytes (drop l.i l.numbers) ≡ number_bytes l.numbers

@@ -10,7 +10,13 @@ invariant_of-self c =
     let r = reply_record c.args.reply in
     record {
       small = small_yes _ _ _ _ c.args.self.now.small c.requires.0 _ c.requires.1;
-      of_some = ∥∥₁_map c.args.self.now.of_some (λ t. record { replies = t.replies ++ (r ∷ []); totals = totals_yes _ _ _ _ _ r t.totals c.if-reply.true });
+      of_some =
+          ∥∥₁_map c.args.self.now.of_some
+          (λ t. record {
+            replies = t.replies ++
+                (r ∷ []);
+            totals = totals_yes _ _ _ _ _ r t.totals c.if-reply.true;
+          });
     }
 
 pub invariant_of-self-else-reply : goal.invariant_of-self-else-reply
@@ -18,7 +24,13 @@ invariant_of-self-else-reply c =
     let r = reply_record c.args.reply in
     record {
       small = small_no _ _ _ _ c.args.self.now.small c.requires.0;
-      of_some = ∥∥₁_map c.args.self.now.of_some (λ t. record { replies = t.replies ++ (r ∷ []); totals = totals_no _ _ _ _ _ r t.totals c.if-reply.false });
+      of_some =
+          ∥∥₁_map c.args.self.now.of_some
+          (λ t. record {
+            replies = t.replies ++
+                (r ∷ []);
+            totals = totals_no _ _ _ _ _ r t.totals c.if-reply.false;
+          });
     }
 
 pub returns-then-reply : goal.returns-then-reply

@@ -12,7 +12,12 @@ no_replies = record { files = refl; accepted = refl; sum = refl; squares = refl 
 
 pub invariant_of-result : goal.invariant_of-result
 invariant_of-result c = record {
-  small = record { files = omega arith; accepted = omega arith; sum = omega arith; squares = omega arith };
+  small = record {
+    files = omega arith;
+    accepted = omega arith;
+    sum = omega arith;
+    squares = omega arith;
+  };
   of_some = ∣ record { replies = []; totals = no_replies } ∣₁;
 }
 

@@ -20,7 +20,8 @@ loop-rest-preserved c =
       simp length-set l.invariant.1,
       r.1,
       rw (e, stored_before l.digits l.pos (48 + l.rest % 10) (omega arith))
-          (sym (next_digit_lem l.rest (drop (l.pos + 1) l.digits) c.loop-rest-test.true) ∙ l.invariant.3),
+          (sym (next_digit_lem l.rest (drop (l.pos + 1) l.digits) c.loop-rest-test.true)
+          ∙ l.invariant.3),
     )
 
 pub returns : goal.returns
@@ -28,14 +29,17 @@ returns c =
     let a = c.args in
     let l = c.loop-rest in
     let digits = set l.digits l.pos (48 + l.rest) in
-    let fits : length (drop l.pos digits) ≤ number_digits - l.pos = simp (length-drop, length-set) (omega arith) in
+    let fits : length (drop l.pos digits) ≤ number_digits - l.pos =
+    simp (length-drop, length-set) (omega arith) in
     let text : take (number_digits - l.pos) (drop l.pos digits) ≡ decimal a.value =
     take_all (number_digits - l.pos) (drop l.pos digits) fits
     ∙ stored_before l.digits l.pos (48 + l.rest) (omega arith)
     ∙ sym (last_digit l.rest (drop (l.pos + 1) l.digits) (omega arith))
     ∙ l.invariant.3 in
     record {
-      upper_bound = rw c.put.ensures (simp (length-append, length-take, length-drop, length-set) (omega arith));
+      upper_bound =
+          rw c.put.ensures
+          (simp (length-append, length-take, length-drop, length-set) (omega arith));
       put = c.put.ensures ∙ ap (λ ds. a.self.now ++ ds) text;
     }
 
@@ -43,7 +47,8 @@ pub loop-rest-init : goal.loop-rest-init
 loop-rest-init c = (omega arith, refl, omega arith, refl)
 
 pub overflow_sub-pos-in-loop-rest : goal.overflow_sub-pos-in-loop-rest
-overflow_sub-pos-in-loop-rest c = omega (arith, room c.loop-rest.pos c.loop-rest.rest c.loop-rest-test.true c.loop-rest.invariant.2)
+overflow_sub-pos-in-loop-rest c =
+    let l = c.loop-rest in omega (arith, room l.pos l.rest c.loop-rest-test.true l.invariant.2)
 
 pub slice_bounds-put-end : goal.slice_bounds-put-end
 slice_bounds-put-end c = simp length-set (omega arith)

@@ -11,7 +11,10 @@ unfolding comma_numbers
 loop-value-preserved c =
     let l = c.loop-value in (
       omega (arith, c.put_field.ensures.upper_bound),
-      number_written (λ n. comma ∷ decimal n) comma_numbers (λ n ns. refl) c.args.values.now l.value-index l.self c.loop-value-test.true c.put_field.ensures.put ∙ l.invariant.1,
+      number_written (λ n. comma ∷ decimal n) comma_numbers
+          (λ n ns. refl) c.args.values.now l.value-index l.self c.loop-value-test.true
+          c.put_field.ensures.put
+          ∙ l.invariant.1,
     )
 
 pub returns : goal.returns
