@@ -3,17 +3,10 @@
 
 ghost use Rattle.std.specs.Prelude.{◌≡◌, length};
 ghost use Rattle.evaluation.specs.Evaluation as specification;
-ghost use Rattle.evaluation_reply.specs.Evaluation.{evaluation_record, source_number};
+ghost use Rattle.evaluation_reply.specs.Evaluation.{evaluation_record};
 
 use reply::Text;
 use tableau::Reason;
-
-// The file that is refused, by its number in the reply.
-#[derive(Clone, Copy, PartialEq, Eq)]
-pub enum Source {
-    Checker = 1,
-    Heap = 2,
-}
 
 // The refusal number, the file (1 checker, 2 heap, 0 without a refusal) and the line.
 #[derive(Clone, Copy)]
@@ -23,12 +16,13 @@ pub struct Evaluation {
     pub line: usize,
 }
 
-pub fn refused(reason: Reason, source: Source, line: usize) -> Evaluation
-    ensures { evaluation_record result ≡ specification.refusal reason (source_number source) line }
+// The file is any number here, as in the specification: an enum would take fewer.
+pub fn refused(reason: Reason, file: usize, line: usize) -> Evaluation
+    ensures { evaluation_record result ≡ specification.refusal reason file line }
 {
     Evaluation {
         number: reply::reason_number(reason),
-        file: source as usize,
+        file,
         line,
     }
 }

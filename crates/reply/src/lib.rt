@@ -42,6 +42,10 @@ impl Reply {
     // The reply buffer of a build host: seven numbers of four bytes.
     pub const BUFFER_BYTES: usize = 28;
 
+    // Room for the reply line, with some to spare: `yes`, seven commas with a number of up to 20
+    // digits each, LF.
+    pub const LINE_BYTES: usize = 160;
+
     // The numbers in the order in which both forms give them.
     fn numbers(self) -> [usize; 7]
         ensures { result ≡ reply_numbers (reply_record self) }

@@ -8,18 +8,14 @@ ghost use Rattle.reply.specs.Verdict.{reply_record};
 use crate::Reply;
 use std::marker::Model;
 
-// Room for the reply line, with some to spare: `yes`, seven commas with a number of up to 20 digits
-// each, LF.
-const LINE_BYTES: usize = 160;
-
 // A 64-bit number has no more.
 const DIGITS: usize = 20;
 
 // A line of text: the first `len` of its bytes.
 #[derive(Drop)]
 pub struct Text {
-    bytes: [u8; LINE_BYTES],
-    len: usize,
+    pub bytes: [u8; Reply::LINE_BYTES],
+    pub len: usize,
 }
 
 impl Model for Text {
@@ -35,7 +31,7 @@ impl Text {
         ensures { result ≡ [] }
     {
         Text {
-            bytes: [0; LINE_BYTES],
+            bytes: [0; Reply::LINE_BYTES],
             len: 0,
         }
     }
