@@ -22,7 +22,7 @@ use Rattle.clauses.specs.Held.{codes_at}
 use Rattle.tree.specs.declared.Change.{Change}
 use Rattle.tree.specs.declared.Alternative.{Alternative}
 use Rattle.tree.specs.declared.Begun.{Begun}
-use Rattle.tree.specs.State.{codes_of, AtMost, one_code, AreCodes, tree_in}
+use Rattle.tree.specs.State.{codes_of, AtMost, one_code, InLimits, tree_in}
 use Rattle.tree.specs.Change.{split_into, room_for, Splits, each_alone}
 use Rattle.tree.proofs.Waiting.{codes_length, begins_each}
 use Rattle.tree.proofs.Changes.{longest, split_refused, split_passed}
@@ -61,14 +61,14 @@ module _ (B W : List ℕ) (x : Outcome) (ks : List (List ℕ))
   grows_split (Ok c) (Ok o) post some h S =
       rw (some c o h)
       (record {
-        fits = (S []).fits;
+        fits = λ b w. (S []).fits;
         result = λ words. (S words).result unpack_literal
             ∙ sym (ap (grown (tree_in unpack_literal B W)) are);
       })
   grows_split (Ok c) (Err s) post some h S = absurd h
   grows_split (Err r) q post some h S =
       rw h (record {
-        fits = tt;
+        fits = λ b w. tt;
         result = λ words. (S words).result unpack_literal
             ∙ sym (ap (grown (tree_in unpack_literal B W)) are);
       })
@@ -78,7 +78,7 @@ longest_alone : (l : List ℕ) → longest (each_alone l) ≤ 1
 longest_alone [] = omega arith
 longest_alone (x ∷ l) = omega (arith, longest_alone l)
 
-module _ (words B W : List ℕ) (are : AreCodes B) (s : Span) (some : 1 ≤ s.count) where
+module _ (words B W : List ℕ) (are : InLimits B W) (s : Span) (some : 1 ≤ s.count) where
   abbrev rest : List ℕ
   rest = codes_at words (s.from + 1) (s.count - 1)
 

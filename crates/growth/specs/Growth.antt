@@ -8,7 +8,7 @@ use Rattle.packing.specs.Packing.{unpack_literal}
 use Rattle.clauses.specs.declared.Span.{Span}
 use Rattle.clauses.specs.Held.{codes_at}
 use Rattle.tree.specs.declared.Change.{Change}
-use Rattle.tree.specs.State.{tree_in}
+use Rattle.tree.specs.State.{AreCodes, AreWaiting, tree_in}
 use Rattle.tree.specs.Change.{Fits, SplitsAt, each_alone, status_after}
 use Rattle.rules.specs.declared.outcome.Outcome.{Outcome}
 use Rattle.rules.specs.Answer.{alternatives_of}
@@ -25,7 +25,7 @@ grown_by words B W (Err r) = refused r
 
 -- of an outcome: checks 15 and 16
 pub record Grows (B W : List ℕ) (x : Outcome) (r : Result (Option Change) Reason) : Type 0 where
-  pub fits : IfOk r (λ o. IfSome o (Fits B W))
+  pub fits : AreCodes B → AreWaiting W → IfOk r (λ o. IfSome o (Fits B W))
   pub result : (words : List ℕ) → grown_by words B W r
       ≡ grown (tree_in unpack_literal B W) (alternatives_of x)
 

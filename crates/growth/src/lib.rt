@@ -5,7 +5,7 @@ ghost use Rattle.std.specs.Prelude.{◌≡◌, ℕ, ◌+◌, ◌<◌, ◌≤◌,
 ghost use Rattle.tableau.specs.File.{max_bytes};
 ghost use Rattle.tableau.specs.Reply.{max_clause_lines};
 ghost use Rattle.packing.specs.Packing.{code_limit};
-ghost use Rattle.tree.specs.State.{AreCodes, AreWaiting};
+ghost use Rattle.tree.specs.State.{InLimits};
 ghost use Rattle.rules.specs.Answer.{Room};
 ghost use Rattle.reply.specs.Verdict.{verdict_of};
 ghost use Rattle.growth.specs.Growth.{closings_of, Grows, SplitsClause};
@@ -49,7 +49,7 @@ fn closings(rule: Rule) -> usize
 
 // What an outcome makes of the tree, with checks 15 and 16: a change, or none where it is closed.
 pub fn grow(tree: TreeView, outcome: Outcome) -> Result<Option<Change>, Reason>
-    requires { AreCodes tree.branch.now × AreWaiting tree.waiting.now × Room outcome }
+    requires { InLimits tree.branch.now tree.waiting.now × Room outcome }
     ensures { Grows tree.entry.branch.now tree.entry.waiting.now outcome result }
 {
     match outcome {
@@ -66,7 +66,7 @@ pub fn split_clause(
     literals: &[u32; clauses::WORDS],
     span: Span,
 ) -> Result<Change, Reason>
-    requires tree { AreCodes tree.branch.now × AreWaiting tree.waiting.now }
+    requires tree { InLimits tree.branch.now tree.waiting.now }
     requires span { (1 ≤ span.count) × (span.from + span.count ≤ max_clause_lines) }
     requires literals { (i : ℕ) → get_or literals.now i 0 < code_limit }
     ensures { SplitsClause literals.now tree.entry.branch.now tree.entry.waiting.now span result }

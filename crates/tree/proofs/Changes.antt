@@ -23,7 +23,7 @@ use Rattle.tree.specs.declared.Begun.{Begun}
 use Rattle.tree.specs.declared.Change.{Change}
 use Rattle.tree.specs.declared.Tree.{Tree}
 use Rattle.tree.specs.State.{AtMost, codes_of, AreCodes, HasRoom, AreWaiting, cut_of, unpacked}
-use Rattle.tree.specs.State.{waiting_of, tree_in, codes_in, waiting_in, Within}
+use Rattle.tree.specs.State.{InLimits, waiting_of, tree_in, codes_in, waiting_in, Within}
 use Rattle.tree.specs.Change.{begun_of, begun_count, changed, Fits, split_into, no_literals, Stored}
 use Rattle.tree.specs.Change.{room_for, opened, SplitsAt, Closes}
 use Rattle.tree.proofs.Branch.{taken_bounded}
@@ -80,7 +80,7 @@ has_room B W n m z =
     ]
 
 -- A STEP with the alternatives k and ks, on a branch B where W waits
-module _ (words B W : List ℕ) (are : AreCodes B) (k : List ℕ) (ks : List (List ℕ)) where
+module _ (words B W : List ℕ) (are : InLimits B W) (k : List ℕ) (ks : List (List ℕ)) where
   waiting_length : (f : ℕ → Literal) → length (map (map f) ks) + length (tree_in f B W).waiting
       ≡ length ks + length W
   waiting_length f =
@@ -91,7 +91,7 @@ module _ (words B W : List ℕ) (are : AreCodes B) (k : List ℕ) (ks : List (Li
 
   full : max_places < length B + longest (k ∷ ks) → Grows (Err Reason.BranchFull)
   unfolding grown
-  full r f = rw (length-map B f, over f (length B) (k ∷ ks) are.room r)
+  full r f = rw (length-map B f, over f (length B) (k ∷ ks) are.branch r)
 
   module _ (h : length B + longest (k ∷ ks) ≤ max_places) where
     crowded : max_waiting < length W + length ks → Grows (Err Reason.WaitingFull)

@@ -76,6 +76,11 @@ pub record AreWaiting (waiting : List ℕ) : Type 0 where
   pub room : length waiting ≤ max_waiting
   pub places : All HasRoom waiting
 
+-- the arrays have room for so many codes and packed alternatives
+pub record InLimits (B W : List ℕ) : Type 0 where
+  pub branch : length B ≤ max_places
+  pub waiting : length W ≤ max_waiting
+
 abbrev pub waiting_of : (ℕ → Literal) → ℕ → Waiting
 waiting_of f w = record { length = cut_of w; alternative = map f (codes_of (unpacked w)) }
 

@@ -10,7 +10,7 @@ ghost use Rattle.tableau.specs.Terms.{Literal};
 ghost use Rattle.tableau.specs.Tree.{max_places, max_waiting, root};
 ghost use Rattle.packing.specs.Packing.{code_limit};
 ghost use Rattle.tree.specs.State.{codes_of, AtMost, one_code, packed, cut_of, unpacked};
-ghost use Rattle.tree.specs.State.{AreCodes, HasPlace, IsAt, AreWaiting};
+ghost use Rattle.tree.specs.State.{AreCodes, HasPlace, IsAt, InLimits};
 ghost use Rattle.tree.specs.State.{codes_in, waiting_in, tree_of, Within};
 ghost use Rattle.tree.specs.Change.{no_literals, split_into, room_for, begun_of, begun_count};
 ghost use Rattle.tree.specs.Change.{MayBegin, Fits, Splits, Closes, Stored};
@@ -171,7 +171,7 @@ impl TreeView<'_> {
     // Checks 15 and 16 of a step: its longest alternative has so many literals, and so many
     // alternatives begin to wait.
     pub fn require_room(self, literals: usize, begun: usize) -> Result<(), Reason>
-        requires { AreCodes self.branch.now × AreWaiting self.waiting.now }
+        requires { InLimits self.branch.now self.waiting.now }
         ensures { result ≡ room_for self.entry.branch.now self.entry.waiting.now literals begun }
     {
         if Tree::PLACES - self.branch.len() < literals {
@@ -185,7 +185,7 @@ impl TreeView<'_> {
 
     // A step with one alternative.
     pub fn extend(self, a: Alternative) -> Result<Change, Reason>
-        requires tree { AreCodes self.branch.now × AreWaiting self.waiting.now }
+        requires tree { InLimits self.branch.now self.waiting.now }
         requires literals { AtMost 3 a }
         ensures { Splits self.entry.branch.now self.entry.waiting.now (codes_of a ∷ []) result }
     {
@@ -195,7 +195,7 @@ impl TreeView<'_> {
 
     // A step with two alternatives.
     pub fn split2(self, first: Alternative, second: Alternative) -> Result<Change, Reason>
-        requires tree { AreCodes self.branch.now × AreWaiting self.waiting.now }
+        requires tree { InLimits self.branch.now self.waiting.now }
         requires literals { AtMost 3 first × AtMost 2 second }
         ensures { Splits self.entry.branch.now self.entry.waiting.now
             (codes_of first ∷ codes_of second ∷ []) result }
@@ -212,7 +212,7 @@ impl TreeView<'_> {
         second: Alternative,
         third: Alternative,
     ) -> Result<Change, Reason>
-        requires tree { AreCodes self.branch.now × AreWaiting self.waiting.now }
+        requires tree { InLimits self.branch.now self.waiting.now }
         requires literals { AtMost 3 first × AtMost 2 second × AtMost 2 third }
         ensures { Splits self.entry.branch.now self.entry.waiting.now
             (codes_of first ∷ codes_of second ∷ codes_of third ∷ []) result }

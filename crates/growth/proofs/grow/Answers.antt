@@ -14,7 +14,7 @@ unfolding grown grow room_on_branch room_to_wait
 returns-in-Closes c =
     rw c.in-Closes.is
     (record {
-      fits = c.close.ensures.fits c.requires.0 c.requires.1;
+      fits = c.close.ensures.fits;
       result = λ words. ap passed (c.close.ensures.result unpack_literal words);
     })
 

@@ -20,8 +20,10 @@ returns-in_err-inference c table C H K P =
 -- the rule's outcome
 pub grow-requires : goal.grow-requires
 grow-requires c =
-    let R = c.requires.ready.0 in
-    (R.branch, R.waiting, subst (RoomFor _) c.in-ByRule.is c.in_ok-inference.ensures.room_for)
+    let R = c.requires.ready.0 in (
+      record { branch = R.branch.room; waiting = R.waiting.room },
+      subst (RoomFor _) c.in-ByRule.is c.in_ok-inference.ensures.room_for,
+    )
 
 pub returns-in_err-grow-in-ByRule : goal.returns-in_err-grow-in-ByRule
 returns-in_err-grow-in-ByRule c table C H K P =
@@ -39,8 +41,10 @@ returns-in_ok-grow-in-ByRule c table C H K P =
     let said = ap (λ i. passed (added_in C i)) (sym c.in-ByRule.is)
     ∙ c.in_ok-inference.ensures.result_value table C H.searchable H.count K.sequence K.last T.tells in
     let G = c.in_ok-grow-in-ByRule.ensures in
+    let R = c.requires.ready.0 in
     rw (c.grown.ensures, c.after_step-next.ensures)
-    (step_taken table C _ _ _ c.requires.ready.0 c.args.step _ _ _ _ said c.ask-asked.ensures.noted_le_len T.rows _ G.fits (G.result c.args.clauses.now))
+    (step_taken table C _ _ _ R c.args.step _ _ _ _ said c.ask-asked.ensures.noted_le_len T.rows _
+    (G.fits R.branch R.waiting) (G.result c.args.clauses.now))
 
 -- a clause
 named : (c : goal.In-ByClause)
@@ -56,7 +60,11 @@ split_clause-requires c =
     let R = c.requires.ready.0 in
     let K = c.requires.ready.2 in
     let S = c.span_of.ensures K.0 _ K.1 (named (goal.at.split_clause-requires c).In-ByClause).1 in
-    record { tree = (R.branch, R.waiting); span = (S.some, S.inside); literals = K.1.bounded }
+    record {
+      tree = record { branch = R.branch.room; waiting = R.waiting.room };
+      span = (S.some, S.inside);
+      literals = K.1.bounded;
+    }
 
 pub returns-in_err-split_clause-in-ByClause : goal.returns-in_err-split_clause-in-ByClause
 returns-in_err-split_clause-in-ByClause c table C H K P =

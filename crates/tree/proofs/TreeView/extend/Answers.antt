@@ -12,13 +12,13 @@ returns-in_err-require_room c words =
     let p = err_from_is_err_and c.from_residual.result c.from_residual.ensures.1 in
     let e = codes_count c.args.a c.requires.literals.count in
     rw (p.1, p.2)
-    (split_refused words _ _ c.requires.tree.0 _ [] _ _
+    (split_refused words _ _ c.requires.tree _ [] _ _
     (omega arith) refl c.in_err-require_room.ensures)
 
 pub returns : goal.returns
 returns c words =
     let e = codes_count c.args.a c.requires.literals.count in
     rw c.split.ensures
-    (split_passed words _ _ c.requires.tree.0 _ [] _ _
+    (split_passed words _ _ c.requires.tree _ [] _ _
     (omega arith) refl c.in_ok-require_room.ensures _ _ c.requires.literals refl
     (λ h. begins_none words _))

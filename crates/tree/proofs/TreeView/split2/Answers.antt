@@ -15,7 +15,7 @@ returns-in_err-require_room c words =
     let e = codes_count a.first c.requires.literals.0.count in
     let d = codes_count a.second (omega arith) in
     rw (p.1, p.2)
-    (split_refused words _ _ c.requires.tree.0 _ (codes_of a.second ∷ []) _ _
+    (split_refused words _ _ c.requires.tree _ (codes_of a.second ∷ []) _ _
     (omega arith) refl c.in_err-require_room.ensures)
 
 pub returns : goal.returns
@@ -24,6 +24,6 @@ returns c words =
     let e = codes_count a.first c.requires.literals.0.count in
     let d = codes_count a.second (omega arith) in
     rw (c.split.ensures, c.pack.ensures)
-    (split_passed words _ _ c.requires.tree.0 _ (codes_of a.second ∷ []) _ _
+    (split_passed words _ _ c.requires.tree _ (codes_of a.second ∷ []) _ _
     (omega arith) refl c.in_ok-require_room.ensures _ _ c.requires.literals.0 refl
     (λ h. begins_one _ a.second c.requires.literals.1 (omega arith) words))

@@ -16,7 +16,7 @@ returns-in_err-require_room c words =
     let d = codes_count a.second (omega arith) in
     let b = codes_count a.third (omega arith) in
     rw (p.1, p.2)
-    (split_refused words _ _ c.requires.tree.0 _ (codes_of a.second ∷ codes_of a.third ∷ []) _ _
+    (split_refused words _ _ c.requires.tree _ (codes_of a.second ∷ codes_of a.third ∷ []) _ _
     (omega arith) refl c.in_err-require_room.ensures)
 
 pub returns : goal.returns
@@ -26,7 +26,7 @@ returns c words =
     let d = codes_count a.second (omega arith) in
     let b = codes_count a.third (omega arith) in
     rw (c.split.ensures, c.pack.ensures, c.pack-2.ensures)
-    (split_passed words _ _ c.requires.tree.0 _ (codes_of a.second ∷ codes_of a.third ∷ []) _ _
+    (split_passed words _ _ c.requires.tree _ (codes_of a.second ∷ codes_of a.third ∷ []) _ _
     (omega arith) refl c.in_ok-require_room.ensures _ _ c.requires.literals.0 refl
     (λ h. begins_two words _ a.second a.third c.requires.literals.1
     (omega arith) c.requires.literals.2 (omega arith)))
