@@ -73,3 +73,20 @@ pub fn write_reply(stdout: Stdout, stderr: Stderr, program: &[u8], text: &Text) 
         );
     }
 }
+
+// Replies to standard input: with what `reply` makes of it on standard output, where it can be read.
+pub fn answer<R: Read, F: Fn(&[u8]) -> Text>(
+    stdin: &mut R,
+    stdout: Stdout,
+    stderr: Stderr,
+    program: &[u8],
+    space: &mut [u8],
+    reply: F,
+)
+    requires room { max_bytes < length space.old }
+    requires callable { F.IsAlwaysCallable reply }
+{
+    if let Ok(n) = read_standard_input(stdin, stderr, program, space) {
+        write_reply(stdout, stderr, program, &reply(&space[..n]));
+    }
+}

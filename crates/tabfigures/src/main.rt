@@ -6,15 +6,12 @@ use program_io::SPACE;
 
 fn main(rt: HostRuntime) {
     let mut space: [u8; SPACE] = [0; SPACE];
-    let read = program_io::read_standard_input(
+    program_io::answer(
         &mut rt.stdin(),
+        rt.stdout(),
         rt.stderr(),
         b"tabfigures",
         &mut space,
+        figures::figures,
     );
-    let Ok(n) = read else {
-        return;
-    };
-    let line = figures::figures(&space[..n]);
-    program_io::write_reply(rt.stdout(), rt.stderr(), b"tabfigures", &line);
 }
