@@ -42,7 +42,7 @@ impl Text {
         &self.bytes[..self.len]
     }
 
-    fn put(&mut self, text: &[u8])
+    pub fn put(&mut self, text: &[u8])
         requires { length self.old + length text.now ≤ line_bytes }
         ensures { self.new ≡ self.old ++ text.now }
     {

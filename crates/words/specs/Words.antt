@@ -1,5 +1,5 @@
 -- The letters and the word tables of the specification, looked up by a byte and by a packed word.
-use Rattle.std.specs.Prelude.{cond, List, [], ◌∷◌, ◌≡◌, ℕ, suc, eqb}
+use Rattle.std.specs.Prelude.{cond, List, [], ◌∷◌, ◌≡◌, ℕ, eqb}
 use Rattle.std.specs.Prelude.{Option, None, Some}
 use Rattle.tableau.specs.Basics.{bytes, Named}
 use Rattle.tableau.specs.declared.Word.{Word}
@@ -35,11 +35,6 @@ words_of (a ∷ []) = []
 words_of (a ∷ b ∷ []) = []
 words_of (a ∷ b ∷ c ∷ []) = []
 words_of (a ∷ b ∷ c ∷ s ∷ l) = pack_word (a ∷ b ∷ c ∷ []) ∷ words_of l
-
--- the index of the first number of a list that is w; where there is none, how many they are
-unfoldable pub index_of : ℕ → List ℕ → ℕ
-index_of w [] = 0
-index_of w (k ∷ ks) = cond (eqb w k) 0 (suc (index_of w ks))
 
 -- the row beside the first number of a list that is w
 unfoldable pub row_at : {T : Type 0} → ℕ → List ℕ → List T → Option T
