@@ -24,11 +24,12 @@ use Rattle.evaluation.proofs.StepPrefix.{first_part}
 use Rattle.packing.specs.Packing.{unpack_literal}
 use Rattle.terms.specs.Arrays.{Arrays}
 use Rattle.tree.specs.declared.Tree.{Tree}
-use Rattle.tree.specs.State.{tree_of}
+use Rattle.tree.specs.State.{codes_in, tree_of}
 use Rattle.running.specs.Running.{check_from}
 use Rattle.growth.specs.declared.Progress.{Progress}
 use Rattle.growth.specs.Progress.{status_of, state_at}
 use Rattle.file_run.specs.Reached.{Finished}
+use Rattle.evaluator.specs.declared.assumptions.Assumptions.{Assumptions}
 use Rattle.evaluator.specs.Assumptions.{AllAssumptions}
 use Rattle.evaluator.specs.Trial.{StateHeld}
 use Rattle.evaluator.proofs.Assumed.{Assumed, run_assumed}
@@ -69,16 +70,16 @@ module _ (file heap : List ℕ) where
       literals_are true τ ls e = let z : true ≡ false = cc in absurd (true≢false z)
       literals_are false τ ls e = (refl, ap (λ (s : Status). assumptions_of s) (sym e))
 
-      pub state_held : StateHeld state A.terms g.counts.terms t.branch t.len words g.clauses
-      state_held =
+      pub state_held : {a : Assumptions} → a.terms.now ≡ A.terms → a.count ≡ g.counts.terms → a.branch.now ≡ codes_in t → a.clauses.now ≡ words → a.last ≡ g.clauses → StateHeld state a
+      state_held {a} is_terms is_count is_branch is_clauses is_last =
           let l = literals_are g.closed (tree_of unpack_literal t) assumed.literals assumed.status in
           record {
-            entries = F.held.searchable.entries;
-            count = sym F.held.count;
+            entries = rw is_terms F.held.searchable.entries;
+            count = is_count ∙ sym F.held.count;
             well_formed = F.held.well_formed;
-            branch = F.within.branch;
-            literals = l.0;
-            checked = subst (AllAssumptions F.table) l.1 assumed.checked;
-            clauses = F.clauses_held;
+            room = rw is_branch F.within.branch.room;
+            literals = rw is_branch l.0;
+            checked = rw is_branch (subst (AllAssumptions F.table) l.1 assumed.checked);
+            clauses = rw (is_clauses, is_last) F.clauses_held;
             disjuncts' = assumed.disjuncts_checked;
           }

@@ -2,29 +2,30 @@
 use mathlib.Core.Path.{◌≡◌, refl, sym, ◌∙◌, ap, subst}
 use mathlib.Core.Bool.{Bool, true, false, Bool-set, true≢false}
 use mathlib.Core.List.{List, [], ◌∷◌}
-use Prim.Native.Nat.{ℕ, zero, suc, ◌+◌, ◌<◌, ◌≤◌}
+use Rattle.std.specs.Prelude.{Option, None, Some}
+use Prim.Native.Nat.{ℕ, suc, ◌+◌, ◌<◌, ◌≤◌}
 use native.Mathlib.Numerals.{add-one}
 use native.Mathlib.Omega.{arith}
 use lib.Dec.{leb}
-use lib.ListN.{length, take, length-map}
-use lib.Seq.{length-take-le}
+use lib.ListN.{length, length-map}
 use Rattle.packing.specs.Packing.{unpack_literal}
 use borrow.Author.Tests.{le-leb, lt-leb}
 use Rattle.tableau.specs.declared.Reason.{Reason}
 use Rattle.tableau.specs.Basics.{Four}
 use Rattle.tableau.specs.File.{LF, split, max_digits, max_bytes}
-use Rattle.tableau.specs.Terms.{last_clause, at}
+use Rattle.tableau.specs.Terms.{Literal, at}
 use Rattle.tableau.specs.Tree.{passed}
 use Rattle.tableau.specs.Reply.{State, RunEnd, stopped, ended}
 use Rattle.evaluation.specs.Facts.{Facts, sizes, is_nil, run_fact}
 use Rattle.evaluation.specs.Heaps.{is_order, heap_of, values_of}
-use Rattle.evaluation.specs.Evaluation.{is_true, first_false, first_false_clause, or_clause, assumptions_of, refusal, no_refusal, false_line, on_heap, after_facts, read_heap}
+use Rattle.evaluation.specs.Evaluation.{is_true, first_false, assumptions_of, refusal, no_refusal, false_line, on_heap, after_facts, read_heap}
 use Rattle.tableau.proofs.Checks.{lines_passed}
 use Rattle.evaluation.proofs.Passable.{Passable}
 use Rattle.evaluation.proofs.FilesRead.{FactPassed, fact_passed}
 use Rattle.evaluation.proofs.HeapSaid.{run_passable}
 use Rattle.running.specs.Running.{run_from}
 use Rattle.facts.specs.declared.Sizes.{Sizes}
+use Rattle.facts.specs.declared.StoredFact.{StoredFact}
 use Rattle.facts.specs.declared.reading.FactsRead.{FactsRead}
 use Rattle.facts.specs.Keys.{sizes_of, FactsHeld}
 use Rattle.facts.specs.Reading.{Finished}
@@ -32,9 +33,11 @@ use Rattle.regions.specs.declared.HeapTables.{HeapTables}
 use Rattle.heap_tables.specs.Tables.{TablesRead}
 use Rattle.heap_tables.specs.Order.{is_order_below}
 use Rattle.heap_tables.proofs.HeapLaws.{order_held, heap_held}
+use Rattle.term_values.specs.declared.TermValues.{TermValues}
 use Rattle.term_values.specs.Shown.{ShownBelow}
 use Rattle.term_values.specs.Literals.{Evaluable}
-use Rattle.evaluator.specs.Assumptions.{literals_of, FirstFalse, FirstFalseClause}
+use Rattle.evaluator.specs.declared.assumptions.Assumptions.{Assumptions}
+use Rattle.evaluator.specs.Assumptions.{literals_of, literal_at, clause_at, FirstFalse, FirstFalseClause}
 use Rattle.evaluator.specs.Values.{TermsShown}
 use Rattle.evaluator.specs.Trial.{StateHeld}
 
@@ -48,44 +51,40 @@ on_heap_lem σ g {b} e = same (is_order g) refl b e
     same true d false e = absurd (true≢false (sym d ∙ e))
     same false d true e = absurd (true≢false (sym e ∙ d))
 
-module _ {g : Facts} {keys values : List ℕ} {n : ℕ} (F : FactsHeld g keys values n) (p : Passable g) {s : Sizes} (z : sizes g ≡ sizes_of s) {tables : HeapTables}
-    (R : TablesRead (take n keys) (take n values) tables) where
+module _ {g : Facts} {held : List StoredFact} (F : FactsHeld g held) (p : Passable g) {s : Sizes} (z : sizes g ≡ sizes_of s) {tables : HeapTables} (R : TablesRead held tables) where
   pub order_is : {b t : Bool} → t ≡ is_order_below tables.under s.classes → t ≡ b → is_order g ≡ b
-  order_is q e = sym (order_held keys values n F tables R p) ∙ ap (λ (k : Four ℕ). is_order_below tables.under k.c) z ∙ sym q ∙ e
+  order_is q e = sym (order_held held F tables R p) ∙ ap (λ (k : Four ℕ). is_order_below tables.under k.c) z ∙ sym q ∙ e
 
-  module _ {σ : State} {terms codes words : List ℕ} {m len last : ℕ} (S : StateHeld σ terms m codes len words last) (ordered : is_order g ≡ true) {numbers rows : List ℕ}
-      (T : TermsShown terms keys values n tables numbers rows (m + 1)) where
+  module _ {σ : State} {a : Assumptions} (S : StateHeld σ a) (ordered : is_order g ≡ true) {values : TermValues} (T : TermsShown a.terms.now held tables values (a.count + 1)) where
     -- the arrays show the heap and the values
-    evaluable : Evaluable (heap_of g ordered) (values_of g ordered) σ.table tables numbers rows
+    evaluable : Evaluable (heap_of g ordered) (values_of g ordered) σ.table tables values.numbers values.rows
     evaluable =
-        let G = heap_held keys values n F tables R p ordered in
+        let G = heap_held held F tables R p ordered in
         let shown = T.shown g ordered σ.table F p G S.entries S.well_formed in
-        record { well_formed = S.well_formed; heap = G; shown = subst (ShownBelow (heap_of g ordered) (values_of g ordered) σ.table numbers rows) (add-one m ∙ ap suc S.count) shown }
+        record {
+          well_formed = S.well_formed;
+          heap = G;
+          shown = subst (ShownBelow (heap_of g ordered) (values_of g ordered) σ.table values.numbers values.rows) (add-one a.count ∙ ap suc S.count) shown;
+        }
+
+    abbrev test : Literal → Bool
+    test = is_true (values_of g ordered) (at σ.table)
 
     -- the line of the first false literal, and the last of the first clause with no true one
-    first_line : {line : ℕ} → FirstFalse (literals_of codes len) m terms numbers rows tables line
-        → line ≡ first_false (is_true (values_of g ordered) (at σ.table)) (length σ.table) (assumptions_of σ.status)
-    first_line L = L.is (heap_of g ordered) (values_of g ordered) σ.table S.entries S.checked evaluable
-        ∙ (λ i. first_false (is_true (values_of g ordered) (at σ.table)) (S.count i) (sym S.literals i))
+    first_line : {place : Option ℕ} → FirstFalse (literals_of a.branch.now) a.terms.now values tables place
+        → literal_at (length σ.table) place ≡ first_false (is_true (values_of g ordered) (at σ.table)) (length σ.table) (assumptions_of σ.status)
+    first_line L = L.is (heap_of g ordered) (values_of g ordered) σ.table S.entries S.checked evaluable (length σ.table) ∙ ap (first_false test (length σ.table)) (sym S.literals)
 
-    pub false_line_lem : {line : ℕ} → FirstFalse (literals_of codes len) m terms numbers rows tables line → (line ≡ 0 → ⊥) → line ≡ false_line σ g ordered
+    pub false_line_lem : {n : ℕ} → FirstFalse (literals_of a.branch.now) a.terms.now values tables (Some n) → a.count + n + 1 ≡ false_line σ g ordered
     unfolding false_line
-    false_line_lem {line} L z = first_line L ∙ some _ _ (λ e. z (first_line L ∙ e))
-      where
-        some : (i j : ℕ) → (i ≡ 0 → ⊥) → i ≡ or_clause i j
-        some zero j h = absurd (h refl)
-        some (suc i) j h = refl
+    false_line_lem {n} L = rw (← first_line L) (omega (arith, S.count))
 
-    length_is : length (assumptions_of σ.status) ≡ len
-    length_is = ap length S.literals ∙ length-map (take len codes) unpack_literal ∙ length-take-le len codes (omega (arith, S.branch.size, S.branch.room))
-
-    pub false_clause_line : FirstFalse (literals_of codes len) m terms numbers rows tables 0 → {line : ℕ} → FirstFalseClause σ.clauses (m + len) terms numbers rows tables line → line ≡ false_line σ g ordered
+    pub false_clause_line : FirstFalse (literals_of a.branch.now) a.terms.now values tables None → {end : Option ℕ} → FirstFalseClause σ.clauses a.terms.now values tables end
+        → clause_at (a.count + length a.branch.now) end ≡ false_line σ g ordered
     unfolding false_line
-    false_clause_line L {line} U =
-        let e : m + len ≡ length σ.table + length (assumptions_of σ.status) = omega (arith, S.count, length_is) in
-        subst (λ (b : ℕ). line ≡ first_false_clause (is_true (values_of g ordered) (at σ.table)) b σ.clauses 1 (last_clause σ.clauses)) e
-        (U.is (heap_of g ordered) (values_of g ordered) σ.table S.entries S.disjuncts' evaluable)
-        ∙ ap (λ (i : ℕ). or_clause i (first_false_clause (is_true (values_of g ordered) (at σ.table)) (length σ.table + length (assumptions_of σ.status)) σ.clauses 1 (last_clause σ.clauses))) (first_line L)
+    false_clause_line L {end} U =
+        let e : a.count + length a.branch.now ≡ length σ.table + length (assumptions_of σ.status) = omega (arith, S.count, ap length S.literals, length-map a.branch.now unpack_literal) in
+        rw (← first_line L, ← e) (U.is (heap_of g ordered) (values_of g ordered) σ.table S.entries S.disjuncts' evaluable (a.count + length a.branch.now))
 
 -- THE HEAP FILE: too long, with a line refused, without a line, or tried
 module _ (σ : State) (heap : List ℕ) where
@@ -99,16 +98,16 @@ module _ (σ : State) (heap : List ℕ) where
     pub heap_stops : (r : Reason) (i : ℕ) → run_from run_fact heap 0 0 (passed []) ≡ stopped r i → read_heap max_digits σ (leb (length heap) max_bytes) heap ≡ refusal r 2 i
     heap_stops r i q = heap_runs q
 
-    module _ {keys values : List ℕ} {e : FactsRead} (F : Finished heap keys values e) where
+    module _ {held : List StoredFact} {e : FactsRead} (F : Finished heap held e) where
       pub heap_empty : e.count ≡ 0 → read_heap max_digits σ (leb (length heap) max_bytes) heap ≡ refusal Reason.LetterOrder 2 1
-      heap_empty z = heap_runs F.runs ∙ none F.facts (sym F.held.count ∙ z)
+      heap_empty z = heap_runs F.runs ∙ none F.facts (sym F.count ∙ z)
         where
           none : (g : Facts) → length g ≡ 0 → after_facts σ (ended g e.count) ≡ refusal Reason.LetterOrder 2 1
           none [] z = refl
           none (x ∷ xs) z = absurd (omega (arith, z))
 
       some : (e.count ≡ 0 → ⊥) → is_nil F.facts ≡ false
-      some z = go F.facts F.held.count
+      some z = go F.facts F.count
         where
           go : (g : Facts) → e.count ≡ length g → is_nil g ≡ false
           go [] q = absurd (z q)
