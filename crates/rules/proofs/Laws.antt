@@ -4,7 +4,7 @@ use mathlib.Core.Path.{◌≡◌, refl, sym, ◌∙◌, ap, subst}
 use mathlib.Core.Bool.{Bool, true, false, not}
 use mathlib.Core.List.{List}
 use Rattle.std.specs.Prelude.{Option, None, Some, Result, Ok, Err, IsErrAnd}
-use Rattle.std.proofs.lemmas.Result.{IfOk-at_ok, err_from_is_err_and}
+use Rattle.std.proofs.lemmas.Result.{err_from_is_err_and}
 use Prim.Native.Nat.{ℕ, suc}
 use native.Mathlib.Omega.{arith}
 use borrow.Author.Tests.{eq-eqb, not-true, not-false}
@@ -26,7 +26,7 @@ use Rattle.tableau.proofs.Match.{same_operator_lem}
 use Rattle.packing.specs.declared.TermView.{TermView}
 use Rattle.packing.specs.declared.LiteralView.{LiteralView}
 use Rattle.packing.specs.Packing.{view_of, view_apply, literal_of, relation_of, left_of, right_of}
-use Rattle.packing.specs.Packing.{number, unpack_literal, pack_literal, PackableLiteral, Small}
+use Rattle.packing.specs.Packing.{number, unpack_literal, pack_literal, PackableLiteral}
 use Rattle.packing.specs.Packing.{SmallView}
 use Rattle.packing.proofs.PackingLaws.{literal_unpack_pack}
 use Rattle.packing.proofs.ViewLaws.{operator_tag}
@@ -227,16 +227,12 @@ missing_as None p q = (refl, (cc))
 missing_as (Some k) p q = ((cc), (cc))
 
 module _ {terms chains : List ℕ} {e : Term} {f : Result TermNumber Reason}
-    (F : Finds terms chains e f) where
-  pub found_small : {n : TermNumber} → f ≡ Ok n → Small n.0
-  found_small q = IfOk-at_ok (λ n. Small n.0) q F.small
+    (F : Finds terms chains e f) {table : Table} (S : SearchableBy terms chains table) where
+  pub found : {n : TermNumber} → f ≡ Ok n → number_of table e ≡ Some n.0
+  found q = found_as _ (F.is table S) q
 
-  module _ {table : Table} (S : SearchableBy terms chains table) where
-    pub found : {n : TermNumber} → f ≡ Ok n → number_of table e ≡ Some n.0
-    found q = found_as _ (F.is table S) q
-
-    pub missing : {d : Reason} → f ≡ Err d → (number_of table e ≡ None) × (d ≡ Reason.TermNotMade)
-    missing q = missing_as _ (F.is table S) q
+  pub missing : {d : Reason} → f ≡ Err d → (number_of table e ≡ None) × (d ≡ Reason.TermNotMade)
+  missing q = missing_as _ (F.is table S) q
 
 -- THE EXIT OF A `?`: the reason goes on to the caller
 pub passed_on : {A : Type 0} {r : Result A Reason} {d : Reason} → IsErrAnd r (λ e. e ≡ d)
