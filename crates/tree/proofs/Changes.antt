@@ -6,10 +6,12 @@ use mathlib.Core.List.{List, [], ◌∷◌, ◌++◌, map, map-append, append-ni
 use native.Mathlib.Decide.{dec_le}
 use native.Mathlib.Omega.{arith}
 use borrow.Author.Tests.{le-leb, lt-leb, le-ltb, lt-ltb}
-use lib.ListN.{length, take, get_or, length-map, length-append, length-take}
+use lib.ListN.{length, take, drop, get_or, length-map, length-append, length-take}
 use Rattle.std.specs.Prelude.{Some, None, Result, Ok, Err}
 use Rattle.std.proofs.lemmas.List.{length-take-le, reverse-append, reverse-reverse, length-reverse}
 use Rattle.std.proofs.lemmas.List.{take_all, take_min, take-map}
+use borrow.Rule.Slice.PartMut.{put_mid}
+use Rattle.std.proofs.lemmas.List.{get_or-drop}
 use lib.Seq.{take-take, take-append_seam, get_or-append_seam}
 use Rattle.std.proofs.lemmas.List.Elements.{All-append, All-take}
 use Rattle.std.proofs.lemmas.List.Sorted.{All-permutation, IsPermutation-reverse}
@@ -233,6 +235,16 @@ append_bounded [] k i p q = q i
 append_bounded (x ∷ b) k zero p q = p zero
 append_bounded (x ∷ b) k (suc i) p q = append_bounded b k i (λ j. p (suc j)) q
 
+pub put_bounded : (n m : ℕ) (xs ys : List ℕ) (a : Alternative) → AtMost 3 a → ys ≡ codes_of a
+    → ((k : ℕ) → get_or xs k 0 < code_limit) → (k : ℕ) → get_or (put_mid n m xs ys) k 0 < code_limit
+put_bounded n m xs ys a few e h k =
+    append_bounded (take n xs) (ys ++ drop m (drop n xs)) k
+    (λ j. taken_bounded xs n code_limit j (omega arith) h)
+    (λ j. append_bounded ys (drop m (drop n xs)) j
+    (λ i. rw e (taken_bounded (a.first ∷ a.second ∷ a.third ∷ []) a.count code_limit i (omega arith)
+    (λ l. three_bounded a.first a.second a.third l few.first few.second few.third)))
+    (λ i. rw (get_or-drop m (drop n xs) i 0, get_or-drop n xs (m + i) 0) (h (n + (m + i)))))
+
 module _ (words : List ℕ) (small : (i : ℕ) → get_or words i 0 < code_limit) (t : Tree)
     (w : Within t) (c : Change) (F : Fits (codes_in t) (waiting_in t) c) where
   cut_codes : take c.cut t.branch ≡ take c.cut (codes_in t)
@@ -287,8 +299,9 @@ module _ (words : List ℕ) (small : (i : ℕ) → get_or words i 0 < code_limit
   pub stored : (t' : Tree) → t'.len ≡ c.cut + c.adds.count → t'.count ≡ c.kept + begun_count c.begun
       → codes_in t' ≡ take c.cut t.branch ++ codes_of c.adds
       → waiting_in t' ≡ take c.kept t.waiting ++ reverse (begun_of words c.cut c.begun)
-      → Stored words t c t'
-  stored t' l n b v =
+      → ((k : ℕ) → get_or t'.branch k 0 < code_limit)
+      → ((k : ℕ) → HasRoom (get_or t'.waiting k 0)) → Stored words t c t'
+  stored t' l n b v cells stack =
       let b' = b ∙ ap (λ x. x ++ codes_of c.adds) cut_codes in
       let v' = v ∙ ap (λ x. x ++ reverse (begun_of words c.cut c.begun)) kept_waiting in
       record {
@@ -298,6 +311,8 @@ module _ (words : List ℕ) (small : (i : ℕ) → get_or words i 0 < code_limit
               count = omega (arith, F.waiting);
               branch = subst AreCodes (sym b') are_codes_after;
               waiting = subst AreWaiting (sym v') are_waiting_after;
+              cells = cells;
+              stack = stack;
             };
         branch = b';
         waiting = v';

@@ -101,7 +101,7 @@ each_map f (x ∷ l) = ap (λ k. (f x ∷ []) ∷ k) (each_map f l)
 
 module _ (words : List ℕ) (small : (i : ℕ) → get_or words i 0 < code_limit) (cut : ℕ)
     (h : cut < max_places) where
-  one_packed : (i : ℕ) → HasRoom (packed_one cut (get_or words i 0))
+  pub one_packed : (i : ℕ) → HasRoom (packed_one cut (get_or words i 0))
   one_packed i =
       room_packed cut (one_code (get_or words i 0)) (one_code_lem _ (small i)) (omega arith)
 

@@ -104,3 +104,6 @@ pub record Within (t : Tree) : Type 0 where
   pub count : t.count ≤ max_waiting
   pub branch : AreCodes (codes_in t)
   pub waiting : AreWaiting (waiting_in t)
+  -- what lies behind them in the arrays is of the same kind
+  pub cells : (k : ℕ) → get_or t.branch k 0 < code_limit
+  pub stack : (k : ℕ) → HasRoom (get_or t.waiting k 0)

@@ -10,7 +10,7 @@ ghost use Rattle.tableau.specs.Terms.{Literal};
 ghost use Rattle.tableau.specs.Tree.{max_places, max_waiting, root};
 ghost use Rattle.packing.specs.Packing.{code_limit};
 ghost use Rattle.tree.specs.State.{codes_of, AtMost, one_code, packed, cut_of, unpacked};
-ghost use Rattle.tree.specs.State.{AreCodes, HasPlace, IsAt, InLimits};
+ghost use Rattle.tree.specs.State.{AreCodes, HasPlace, IsAt, HasRoom, InLimits};
 ghost use Rattle.tree.specs.State.{codes_in, waiting_in, tree_of, Within};
 ghost use Rattle.tree.specs.Change.{no_literals, split_into, room_for, begun_of, begun_count};
 ghost use Rattle.tree.specs.Change.{MayBegin, Fits, Splits, Closes, Stored};
@@ -300,6 +300,8 @@ impl Tree {
         requires { AtMost 3 a × (len + a.count ≤ max_places) }
         ensures count { result ≡ len + a.count }
         ensures after { take result branch.new ≡ take len branch.old ++ codes_of a }
+        ensures cells { ((k : ℕ) → get_or branch.old k 0 < code_limit)
+            → (k : ℕ) → get_or branch.new k 0 < code_limit }
     {
         let end = len + a.count;
         branch[len..end].copy_from_slice(&[a.first, a.second, a.third][..a.count]);
@@ -319,6 +321,8 @@ impl Tree {
         ensures count { result ≡ kept + begun_count begun }
         ensures after { take result waiting.new
             ≡ take kept waiting.old ++ reverse (begun_of literals.now cut begun) }
+        ensures stack { ((k : ℕ) → HasRoom (get_or waiting.old k 0))
+            → (k : ℕ) → HasRoom (get_or waiting.new k 0) }
     {
         match begun {
             Begun::Nothing => kept,

@@ -1,8 +1,10 @@
 -- One more of the literals of a span is stored.
-use Rattle.std.proofs.Common.{◌≡◌, ap, ◌+◌, ◌-◌, ◌<◌, length, arith}
+use Rattle.std.proofs.Common.{◌≡◌, ap, subst, ◌+◌, ◌-◌, ◌<◌, length, arith}
 use Rattle.std.proofs.lemmas.List.{take_more_set, append_assoc}
-use Rattle.tree.specs.Change.{begun_count}
-use Rattle.tree.proofs.Waiting.{each_more}
+use Rattle.clauses.proofs.Arrays.{all_set}
+use Rattle.tree.specs.State.{HasRoom}
+use Rattle.tree.specs.Change.{begun_count, MayBegin}
+use Rattle.tree.proofs.Waiting.{each_more, one_packed}
 use Rattle.tree.proofs.Tree.push.Goals as goal
 
 pub loop-i-preserved : goal.loop-i-preserved
@@ -11,6 +13,7 @@ loop-i-preserved c =
     let i = c.loop-i.i in
     let end = c.in-Each.span.from + c.in-Each.span.count in
     let n : begun_count c.args.begun ≡ c.in-Each.span.count = ap begun_count c.in-Each.is in
+    let begins = subst (MayBegin c.args.cut) c.in-Each.is c.requires.room.1 in
     let room : c.loop-i.count < length c.loop-i.waiting = omega arith in
     record {
       from = omega arith;
@@ -25,6 +28,9 @@ loop-i-preserved c =
                 (omega arith),
             append_assoc,
           );
+      stack = λ h k. all_set HasRoom c.loop-i.waiting c.loop-i.count c.pack.result (v.stack h)
+          (rw (c.pack.ensures, c.one.ensures.1)
+          (one_packed c.args.literals.now c.requires.bounded c.args.cut begins.1 (i - 1))) k;
     }
 
 pub returns-after-loop-i-clause-count : goal.returns-after-loop-i-clause-count

@@ -1,7 +1,7 @@
 -- The invariant: those from i on are stored.
-use Rattle.std.proofs.Common.{◌≡◌, ◌++◌, map, ◌+◌, ◌-◌, ◌≤◌, take, reverse}
+use Rattle.std.proofs.Common.{◌≡◌, ◌++◌, map, ℕ, get_or, ◌+◌, ◌-◌, ◌≤◌, take, reverse}
 use Rattle.clauses.specs.Held.{codes_at}
-use Rattle.tree.specs.State.{packed_one}
+use Rattle.tree.specs.State.{packed_one, HasRoom}
 use Rattle.tree.proofs.Tree.push.Given as goal
 
 abbrev pub invariant-loop-i : goal.invariant-loop-i
@@ -11,4 +11,6 @@ invariant-loop-i l = record {
   waiting : take l.count l.waiting
       ≡ take l.kept l.initial.waiting ++ reverse
       (map (packed_one l.cut) (codes_at l.literals l.i (l.initial.i - l.i)));
+  stack : ((k : ℕ) → HasRoom (get_or l.initial.waiting k 0)) → (k : ℕ)
+      → HasRoom (get_or l.waiting k 0);
 }
