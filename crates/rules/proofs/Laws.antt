@@ -27,12 +27,10 @@ use Rattle.packing.specs.declared.TermView.{TermView}
 use Rattle.packing.specs.declared.LiteralView.{LiteralView}
 use Rattle.packing.specs.Packing.{view_of, view_apply, literal_of, relation_of, left_of, right_of}
 use Rattle.packing.specs.Packing.{number, unpack_literal, pack_literal, PackableLiteral}
-use Rattle.packing.specs.Packing.{SmallView}
 use Rattle.packing.proofs.PackingLaws.{literal_unpack_pack}
 use Rattle.packing.proofs.ViewLaws.{operator_tag}
 pub use Rattle.packing.proofs.ViewLaws.{is_not}
 use Rattle.packing.specs.contracts.TermView as term-view
-use Rattle.table.specs.Held.{ViewAt}
 use Rattle.rules.specs.Answer.{SearchableBy, Finds, made_as}
 
 -- The answer of a rule, computed: to unfold this is to unfold all that runs a row.
@@ -209,11 +207,6 @@ is_wri e a b c d q =
     let c' : number K.0.c ≡ c = cc K.2 in
     let d' : number K.0.d ≡ d = cc K.2 in
     K.1 ∙ (λ i. Some (four (a' i).0 (b' i).0 (c' i).0 (d' i).0))
-
--- the numbers that a view shows are small: some table has the term
-pub view_small : {A : Table → Type 0} {n : TermNo} {x y : TermView} → ((table : Table) × A table)
-    → ((table : Table) → A table → ViewAt table n x) → x ≡ y → SmallView y
-view_small w f e = subst SmallView e (f w.0 w.1).small
 
 -- A SEARCH: the number that it finds is the term's, and where it finds nothing the term has none
 found_as : {f : Result TermNumber Reason} {n : TermNumber} (m : Option TermNo) → f ≡ made_as m
