@@ -15,8 +15,8 @@ pub struct Cursor {
 }
 
 // The six fields of a line, its word packed in one number, and the position after its LF. The
-// letter is any capital: each kind of file says which it knows. That the numbers are small is no ghost
-// field: the specification's line_fields makes the fields of any line.
+// letter is any capital: each kind of file says which it knows. That the numbers are small is no
+// ghost field: the specification's line_fields makes the fields of any line.
 #[derive(Clone, Copy)]
 pub struct LineFields {
     pub letter: u8,
@@ -80,9 +80,9 @@ fn next_letter(value: usize, count: usize, x: u8) -> ByteStep
     }
 }
 
-// A word packed in one number, and the position after the comma that ends it. An LF is ahead, so the
-// loop goes by the bytes and not by the file's end. That one is ahead is a clause here and no ghost
-// field of a position: behind the LF that ends a line there may be none.
+// A word packed in one number, and the position after the comma that ends it. An LF is ahead, so
+// the loop goes by the bytes and not by the file's end. That one is ahead is a clause here and no
+// ghost field of a position: behind the LF that ends a line there may be none.
 pub fn read_word(file: &[u8], at: usize) -> Option<(usize, usize)>
     requires { LFAhead file.now at }
     ensures { WordSteps file.now at result }
