@@ -19,7 +19,7 @@ pub enum FactWord {
 
 // What a number of a D line counts: references, fields and classes, "all counted from 0", or names,
 // from 1.
-#[derive(Clone, Copy, PartialEq, Eq)]
+#[derive(Clone, Copy)]
 pub enum Domain {
     Reference,
     Field,
@@ -29,7 +29,7 @@ pub enum Domain {
 
 // What a field of a D line holds: nothing; a size, from 1 to a limit; a part of what the line
 // speaks of, its subject; the value that the line gives to the subject.
-#[derive(Clone, Copy, PartialEq, Eq)]
+#[derive(Clone, Copy)]
 pub enum FactField {
     Unused,
     Size(usize),

@@ -35,7 +35,7 @@ pub record Reached (file : List ℕ) (held : List StoredFact) (s : Sizes) (n at 
   pub facts : Facts
   pub count : n ≡ length facts
   pub size : length held ≡ facts_length
-  pub held' : FactsHeld facts (take n held)
+  pub kept : FactsHeld facts (take n held)
   pub sized : sizes facts ≡ sizes_of s
   pub fit : SizesFit (sizes_of s)
   pub lines : least_line * n ≤ at
@@ -52,7 +52,7 @@ reached_start k h = record {
   facts = [];
   count = refl;
   size = k;
-  held' = record { is = refl; fit = tt };
+  kept = record { is = refl; fit = tt };
   sized = refl;
   fit = record { a = omega arith; b = omega arith; c = omega arith };
   lines = omega arith;
@@ -108,7 +108,7 @@ module _ {file : List ℕ} {held : List StoredFact} {s : Sizes} {n at : ℕ} (R 
   bad h e = rw (add-one n) (R.runs ∙ bad_line fact_fields_lem file at h e n R.facts)
 
   pub finished : length file ≤ at → Finished file held (record { count = n; sizes = s })
-  finished h = record { facts = R.facts; count = R.count; room = omega (arith, R.lines, R.inside, R.short); held' = R.held'; sized = R.sized; runs = R.runs ∙ at_end_lem run_fact file at h n R.facts }
+  finished h = record { facts = R.facts; count = R.count; room = omega (arith, R.lines, R.inside, R.short); kept = R.kept; sized = R.sized; runs = R.runs ∙ at_end_lem run_fact file at h n R.facts }
 
   module _ (f : LineFields) (e : line_at file at ≡ Some f) where
     pub refused_line : (r : Reason) → FactDone R.facts f (Err r) → run_from run_fact file 0 0 (passed []) ≡ stopped r (n + 1)
@@ -126,7 +126,7 @@ module _ {file : List ℕ} {held : List StoredFact} {s : Sizes} {n at : ℕ} (R 
           facts = R.facts ++ (y ∷ []);
           count = rw (length-append R.facts (y ∷ [])) (ap (λ (k : ℕ). k + 1) R.count);
           size = length-set held n x ∙ R.size;
-          held' = held_more R.facts y held n x (omega (arith, R.size)) R.held' d.added.is (subject_fits (sizes R.facts) (rw R.sized R.fit) d.word (numbers_of f) d.added.ranges);
+          kept = held_more R.facts y held n x (omega (arith, R.size)) R.kept d.added.is (subject_fits (sizes R.facts) (rw R.sized R.fit) d.word (numbers_of f) d.added.ranges);
           sized = g.0;
           fit = g.1;
           lines = omega (arith, R.lines, l.longer);

@@ -81,7 +81,7 @@ pub record Finished (file : List ℕ) (held : List StoredFact) (e : FactsRead) :
   pub facts : Facts
   pub count : e.count ≡ length facts
   pub room : e.count ≤ facts_length
-  pub held' : FactsHeld facts (take e.count held)
+  pub kept : FactsHeld facts (take e.count held)
   pub sized : sizes facts ≡ sizes_of e.sizes
   pub runs : run_from run_fact file 0 0 (passed []) ≡ ended facts e.count
 

@@ -28,7 +28,7 @@ pub check_fact-requires : goal.check_fact-requires
 check_fact-requires c = ((line_here fact_fields_lem _ _ _ (is_line (goal.at.check_fact-requires c).In-Some)).small, c.loop-at.invariant.fit)
 
 pub returns-in-Err : goal.returns-in-Err
-returns-in-Err c = let R = c.loop-at.invariant in refused_line R _ (is_line (goal.at.returns-in-Err c).In-Some) _ (c.in-Err.ensures R.facts R.held' R.sized)
+returns-in-Err c = let R = c.loop-at.invariant in refused_line R _ (is_line (goal.at.returns-in-Err c).In-Some) _ (c.in-Err.ensures R.facts R.kept R.sized)
 
 pub loop-at-smaller-then-count-eq0 : goal.loop-at-smaller-then-count-eq0
 loop-at-smaller-then-count-eq0 c =
@@ -41,7 +41,7 @@ more_here c e =
     let R = c.loop-at.invariant in
     subst
     (λ (b : Bool). Reached c.args.file.now (set c.loop-at.facts c.loop-at.count c.in-Ok.fact) (sizes_after b c.in-Some.f c.loop-at.sizes) (c.loop-at.count + 1) c.in-Some.f.next.at) e
-    (more R _ (sym c.read_line.ensures ∙ c.in-Some.is) _ (c.in-Ok.ensures R.facts R.held' R.sized))
+    (more R _ (sym c.read_line.ensures ∙ c.in-Some.is) _ (c.in-Ok.ensures R.facts R.kept R.sized))
 
 pub loop-at-preserved-then-count-eq0 : goal.loop-at-preserved-then-count-eq0
 loop-at-preserved-then-count-eq0 c = more_here (goal.at.loop-at-preserved-then-count-eq0 c).In-Ok (eq-eqb _ 0 c.if-count-eq0.true)
