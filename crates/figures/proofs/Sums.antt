@@ -101,6 +101,12 @@ module _ (f a s q : ℕ) (h : Small f a s q) where
   pub count_fits : a * a < 2 ^ 64
   count_fits = let p = mul-le-mul few few in omega (arith, p)
 
+-- THE MEAN of the numbers with a count and a sum
+module _ (ns : List ℕ) (a s : ℕ) (h : a ≡ length ns) (k : s ≡ sum ns) where
+  pub mean_lowest : (a ≡ 0 → ⊥) → lowest (s over a) ≡ printed (length ns) (mean ns)
+  unfolding mean
+  mean_lowest z = rw (printed_lowest (length ns) (mean ns) (omega (arith, h, z)), k, h)
+
 -- THE FRACTIONS of the replies that are totalled
 module _ (rs : List Reply) (f a s q : ℕ) (h : TotalsOf rs f a s q) where
   pub none_accepted : a ≡ 0 → (x : Fraction) → 0 over 0 ≡ printed (length (step_counts rs)) x
@@ -108,17 +114,6 @@ module _ (rs : List Reply) (f a s q : ℕ) (h : TotalsOf rs f a s q) where
 
   some_accepted : (a ≡ 0 → ⊥) → 0 < length (step_counts rs)
   some_accepted z = omega (arith, h.accepted, z)
-
-  pub mean_lowest : (a ≡ 0 → ⊥)
-      → lowest (s over a) ≡ printed (length (step_counts rs)) (mean (step_counts rs))
-  unfolding mean
-  mean_lowest z =
-      rw (
-        printed_lowest (length (step_counts rs)) (mean (step_counts rs))
-            (some_accepted z),
-        h.sum,
-        h.accepted,
-      )
 
   pub sum_squared : (a ≡ 0 → ⊥) → s * s ≤ a * q
   sum_squared z =

@@ -5,6 +5,7 @@ ghost use Rattle.tableau.specs.Reply.{reason_number, decimal, comma_numbers};
 ghost use Rattle.statistics.specs.Figures.{figures, figure_numbers, figures_line};
 ghost use Rattle.figures.specs.Night.{TotalsIn, ReadTo};
 
+use crate::moments::mean;
 use crate::totals::Totals;
 use reply::Text;
 use tableau::Refusal;
@@ -22,7 +23,7 @@ fn totals_line(totals: Totals) -> Text
     ensures { (rs : List specification.Reply) → TotalsIn rs totals
         → result ≡ decimal (figures rs).files ++ comma_numbers (figure_numbers (figures rs)) }
 {
-    let mean = totals.mean();
+    let mean = mean(totals.accepted, totals.sum);
     let variance = totals.variance();
     let mut text = Text::new();
     text.put_decimal(totals.files);

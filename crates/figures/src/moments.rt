@@ -1,9 +1,9 @@
 // The mean and the variance of the S lines, from the totals.
-ghost use Rattle.std.specs.Prelude.{List, ◌≡◌, length};
+ghost use Rattle.std.specs.Prelude.{List, ◌≡◌, ℕ, length};
 ghost use Rattle.tableau.specs.Reply as specification;
 ghost use Rattle.fractions.specs.Fraction.{fraction_record};
 ghost use Rattle.statistics.specs.Figures.{step_counts, mean as meanOf, variance as varianceOf};
-ghost use Rattle.statistics.specs.Figures.{printed};
+ghost use Rattle.statistics.specs.Figures.{printed, sum as sumOf};
 ghost use Rattle.figures.specs.Night.{TotalsIn};
 
 use crate::totals::Totals;
@@ -14,21 +14,22 @@ const NONE: Fraction = Fraction {
     denominator: 0,
 };
 
-impl Totals {
-    pub fn mean(self) -> Fraction
-        ensures { (rs : List specification.Reply) → TotalsIn rs self
-            → fraction_record result ≡ printed (length (step_counts rs)) (meanOf (step_counts rs)) }
-    {
-        if self.accepted == 0 {
-            return NONE;
-        }
-        let mean = Fraction {
-            numerator: self.sum,
-            denominator: self.accepted,
-        };
-        mean.lowest()
+// Of any numbers with this count and this sum.
+pub fn mean(accepted: usize, sum: usize) -> Fraction
+    ensures { (ns : List ℕ) → accepted ≡ length ns → sum ≡ sumOf ns
+        → fraction_record result ≡ printed (length ns) (meanOf ns) }
+{
+    if accepted == 0 {
+        return NONE;
     }
+    let mean = Fraction {
+        numerator: sum,
+        denominator: accepted,
+    };
+    mean.lowest()
+}
 
+impl Totals {
     // The mean of the squares less the square of the mean, over one denominator: with n numbers, n
     // times the sum of squares less the square of the sum, over n n.
     pub fn variance(self) -> Fraction

@@ -9,5 +9,5 @@ returns c rs h =
     c.put_fields.ensures
     ∙ rw (c.put_decimal.ensures.put, c.new-text.ensures)
     (figure_numbers_lem rs _ _ _ _ h (fraction_record c.mean-mean.result)
-    (fraction_record c.variance-variance.result) (c.mean-mean.ensures rs h)
+    (fraction_record c.variance-variance.result) (c.mean-mean.ensures _ h.accepted h.sum)
     (c.variance-variance.ensures rs h))
