@@ -72,7 +72,7 @@ module _ {file : List ℕ} {A : Arrays} {words prefix : List ℕ} {t : Tree} {g 
   pub ready : at < length file → Ready g (codes_in t) (waiting_in t)
   ready h = record {
     branch = R.within.branch;
-    waiting = R.within.waiting;
+    waiting = R.within.waiting.room;
     counted = R.counted;
     short = omega (arith, R.lines, R.short, h);
     noted = R.noted;
@@ -123,13 +123,13 @@ module _ {file : List ℕ} {A : Arrays} {words prefix : List ℕ} {t : Tree} {g 
             clauses_held = D.held.clauses;
             rows = prefix_same
                 (ap (take x.progress.noted) S.branch
-                ∙ front_kept (codes_in t) x.change n.fits.cut x.progress.noted n.noted) D.held.rows;
+                ∙ front_kept (codes_in t) x.change (n.fits R.within.waiting).cut x.progress.noted n.noted) D.held.rows;
             within = S.within;
             counted = n.counted;
             noted = omega (
               arith,
               n.noted,
-              n.fits.cut,
+              (n.fits R.within.waiting).cut,
               ap (length {A = ℕ}) S.branch,
               length-append (take x.change.cut (codes_in t)) (codes_of x.change.adds),
               length-take x.change.cut (codes_in t),

@@ -13,6 +13,7 @@ use Rattle.tableau.specs.Reply.{State, Verdict, accept, refuse}
 use Rattle.packing.specs.Packing.{unpack_literal}
 use Rattle.tree.specs.declared.Begun.{Begun}
 use Rattle.tree.specs.declared.Change.{Change}
+use Rattle.tree.specs.State.{AreWaiting}
 use Rattle.tree.specs.Change.{Fits, changed, split_into, no_literals}
 use Rattle.reply.specs.declared.Counts.{Counts}
 use Rattle.reply.specs.Verdict.{counts_of}
@@ -112,7 +113,7 @@ state_after words table C B W (Err r) = refused r
 pub record Next (g : Progress) (B W : List ℕ) (e : LineEffect) : Type 0 where
   pub lines : e.progress.lines ≡ g.lines + 1
   pub counted : Counted e.progress
-  pub fits : Fits B W e.change
+  pub fits : AreWaiting W → Fits B W e.change
   pub noted : e.progress.noted ≤ e.change.cut
 
 -- the counts with the clauses

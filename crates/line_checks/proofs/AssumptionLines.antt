@@ -136,7 +136,7 @@ module _ (table : Table) (C : Clauses) (g : Progress) (B V : List ℕ) (f : Line
       arith,
       length-map (reverse V) (waiting_of unpack_literal),
       length-reverse V,
-      W.waiting.room,
+      W.waiting,
     )
 
     assumption_grown : (r : Result Change Reason) (words : List ℕ) → Splits B V ((code ∷ []) ∷ []) r
@@ -177,7 +177,7 @@ module _ (table : Table) (C : Clauses) (g : Progress) (B V : List ℕ) (f : Line
       kept = record { terms = refl; noted = omega arith; clauses = refl };
       done = λ words. record {
         follows = changed_next g (after_literal g) B V refl counted c
-            (S words).fits;
+            (λ v. (S words).fits);
         runs = assumption_grown (Ok c) words S;
       };
     }

@@ -126,7 +126,7 @@ module _ (table : Table) (C : Clauses) (g : Progress) (B V : List ℕ) (f : Line
                   closed = λ y. absurd (let x : ◌≡◌ {A = ℕ} 0 1 = cc in omega arith);
                   no_clause_yet = λ y. absurd (let x : ◌≡◌ {A = ℕ} 0 1 = cc in omega arith);
                 };
-                fits = unchanged_fits B V W.branch W.waiting;
+                fits = λ v. unchanged_fits B V W.branch v;
                 noted = omega arith;
               };
               runs = read_so (tree_in unpack_literal B V)

@@ -61,7 +61,7 @@ grown_state words table C B W g o (Some c) = rw o
 grown_state words table C B W g o None = refl
 
 module _ (g₀ g : Progress) (B W : List ℕ) (n : g.lines ≡ g₀.lines + 1) (w : Counted g) where
-  pub changed_next : (c : Change) → Fits B W c → Next g₀ B W (changed_to g c)
+  pub changed_next : (c : Change) → (AreWaiting W → Fits B W c) → Next g₀ B W (changed_to g c)
   changed_next c F = record {
     lines = n;
     counted =
@@ -78,10 +78,10 @@ module _ (g₀ g : Progress) (B W : List ℕ) (n : g.lines ≡ g₀.lines + 1) (
     noted = omega arith;
   }
 
-  pub grown_next : g.noted ≤ length B → AreCodes B → AreWaiting W → g.letter ≡ Letter.S
-      → (o : Option Change) → IfSome o (Fits B W) → Next g₀ B W (grown_to g B W o)
-  grown_next m b v s (Some c) F = changed_next c F
-  grown_next m b v s None F = record {
+  pub grown_next : g.noted ≤ length B → AreCodes B → g.letter ≡ Letter.S
+      → (o : Option Change) → (AreWaiting W → IfSome o (Fits B W)) → Next g₀ B W (grown_to g B W o)
+  grown_next m b s (Some c) F = changed_next c F
+  grown_next m b s None F = record {
     lines = n;
     counted =
         record {
@@ -93,6 +93,6 @@ module _ (g₀ g : Progress) (B W : List ℕ) (n : g.lines ≡ g₀.lines + 1) (
           closed = λ z. s;
           no_clause_yet = w.no_clause_yet;
         };
-    fits = unchanged_fits B W b v;
+    fits = λ v. unchanged_fits B W b v;
     noted = m;
   }

@@ -29,7 +29,7 @@ use Rattle.terms.specs.Arrays.{Arrays, Held}
 use Rattle.freshness.specs.Prefixes.{PrefixRows}
 use Rattle.freshness.proofs.PrefixLaws.{prefix_less}
 use Rattle.tree.specs.declared.Change.{Change}
-use Rattle.tree.specs.State.{tree_in}
+use Rattle.tree.specs.State.{AreWaiting, tree_in}
 use Rattle.tree.specs.Change.{Fits, opened, status_after, each_alone}
 use Rattle.tree.proofs.Waiting.{each_map}
 use Rattle.clauses.specs.declared.Span.{Span}
@@ -149,12 +149,12 @@ module _ (table : Table) (C : Clauses) (g : Progress) (B V : List ℕ) (W : Read
             record { terms = refl; clauses = refl; rows = prefix_less (omega arith) P }
         rows_kept None = record { terms = refl; clauses = refl; rows = P }
 
-        pub step_taken : (y : Option Change) → IfSome y (Fits B V)
+        pub step_taken : (y : Option Change) → (AreWaiting V → IfSome y (Fits B V))
             → passed (status_after unpack_literal words B V y) ≡ grown τ ks
             → StepTakes table C g B V x words prefix (Ok (grown_to after B V y))
         step_taken y F G = record {
           rows = rows_kept y;
-          follows = grown_next g after B V refl counted_after m W.branch W.waiting refl y F;
+          follows = grown_next g after B V refl counted_after m W.branch refl y F;
           runs = runs_by said ∙ ap (λ (n : Checked Status). n >>= with table C after) (sym G)
               ∙ sym (grown_state words table C B V after refl y);
         }

@@ -145,7 +145,7 @@ module _ (table : Table) (C : Clauses) (g : Progress) (B V : List ℕ) (f : Line
                   closed = λ z. absurd (let y : ◌≡◌ {A = ℕ} 0 1 = cc in omega arith);
                   no_clause_yet = λ z. c.no_clause_yet (before_assumption g.letter o);
                 };
-                fits = unchanged_fits B V W.branch W.waiting;
+                fits = λ v. unchanged_fits B V W.branch v;
                 noted = omega arith;
               };
               runs = runs_as (tree_in unpack_literal B V)

@@ -6,7 +6,7 @@ use Rattle.tableau.specs.declared.Refusal.{Refusal}
 use Rattle.tableau.specs.File.{max_bytes}
 use Rattle.tableau.specs.Words.{relations, infer}
 use Rattle.tableau.specs.Terms.{Table, Literal, Clauses}
-use Rattle.tableau.specs.Tree.{Checked, ◌>>=◌, require_some}
+use Rattle.tableau.specs.Tree.{Checked, ◌>>=◌, require_some, max_waiting}
 use Rattle.tableau.specs.Reply.{literal_line, run_open}
 use Rattle.syntax.specs.declared.Step.{Step}
 use Rattle.syntax.specs.Syntax.{step_fields}
@@ -18,7 +18,7 @@ use Rattle.packing.specs.Packing.{unpack_literal}
 use Rattle.clauses.specs.Held.{ClausesHeld}
 use Rattle.terms.specs.Arrays.{Arrays, Held}
 use Rattle.freshness.specs.Prefixes.{PrefixRows}
-use Rattle.tree.specs.State.{AreCodes, AreWaiting, tree_in}
+use Rattle.tree.specs.State.{AreCodes, tree_in}
 use Rattle.growth.specs.declared.Progress.{Progress}
 use Rattle.growth.specs.declared.LineEffect.{LineEffect}
 use Rattle.growth.specs.Progress.{state_at, Counted, state_after, Next}
@@ -27,7 +27,7 @@ use Rattle.running.specs.Running.{run_fields}
 -- Another line can be read, on a branch B where W waits; only literals on the branch have rows.
 pub record Ready (g : Progress) (B W : List ℕ) : Type 0 where
   pub branch : AreCodes B
-  pub waiting : AreWaiting W
+  pub waiting : length W ≤ max_waiting
   pub counted : Counted g
   pub short : g.lines < max_bytes
   pub noted : g.noted ≤ length B

@@ -69,7 +69,7 @@ done c =
     (rw c.view.ensures.branch R.rows))
 
 pub apply-requires-clause-fits : goal.apply-requires-clause-fits
-apply-requires-clause-fits c = (done (goal.at.apply-requires-clause-fits c).In_ok-effect).done.follows.fits
+apply-requires-clause-fits c = (done (goal.at.apply-requires-clause-fits c).In_ok-effect).done.follows.fits c.loop-at.invariant.within.waiting
 
 pub apply-requires-clause-literals : goal.apply-requires-clause-literals
 apply-requires-clause-literals c = (done (goal.at.apply-requires-clause-literals c).In_ok-effect).held.clauses.bounded

@@ -21,7 +21,7 @@ returns-in_err-inference c table C H K P =
 pub grow-requires : goal.grow-requires
 grow-requires c =
     let R = c.requires.ready.0 in (
-      record { branch = R.branch.room; waiting = R.waiting.room },
+      record { branch = R.branch.room; waiting = R.waiting },
       subst (RoomFor _) c.in-ByRule.is c.in_ok-inference.ensures.room_for,
     )
 
@@ -44,7 +44,7 @@ returns-in_ok-grow-in-ByRule c table C H K P =
     let R = c.requires.ready.0 in
     rw (c.grown.ensures, c.after_step-next.ensures)
     (step_taken table C _ _ _ R c.args.step _ _ _ _ said c.ask-asked.ensures.noted_le_len T.rows _
-    (G.fits R.branch R.waiting) (G.result c.args.clauses.now))
+    (λ v. G.fits R.branch v) (G.result c.args.clauses.now))
 
 -- a clause
 named : (c : goal.In-ByClause)
@@ -61,7 +61,7 @@ split_clause-requires c =
     let K = c.requires.ready.2 in
     let S = c.span_of.ensures K.0 _ K.1 (named (goal.at.split_clause-requires c).In-ByClause).1 in
     record {
-      tree = record { branch = R.branch.room; waiting = R.waiting.room };
+      tree = record { branch = R.branch.room; waiting = R.waiting };
       span = (S.some, S.inside);
       literals = K.1.bounded;
     }
@@ -87,4 +87,4 @@ returns-in_ok-split_clause-in-ByClause c table C H K P =
     (named (goal.at.returns-in_ok-split_clause-in-ByClause c).In-ByClause).1 in
     let G = c.in_ok-split_clause-in-ByClause.ensures in
     rw (c.changed.ensures, c.after_step-next.ensures)
-    (step_taken table C _ _ _ c.requires.ready.0 c.args.step _ _ _ _ said c.ask-asked.ensures.noted_le_len T.rows (Some _) G.fits (clause_grown table C _ _ _ c.requires.ready.0 S G))
+    (step_taken table C _ _ _ c.requires.ready.0 c.args.step _ _ _ _ said c.ask-asked.ensures.noted_le_len T.rows (Some _) (λ v. G.fits) (clause_grown table C _ _ _ c.requires.ready.0 S G))
