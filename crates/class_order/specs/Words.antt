@@ -1,6 +1,5 @@
 -- Rows of bits in an array: sixteen words for each of 1,024 numbers.
-use Rattle.std.specs.Prelude.{◌≡◌, Bool, true, false, List, ℕ, zero, suc, ◌+◌, ◌-◌, ◌^◌, ◌<◌}
-use Rattle.std.specs.Prelude.{length, get_or, set}
+use Rattle.std.specs.Prelude.{◌≡◌, Bool, true, false, List, ℕ, zero, suc, ◌+◌, ◌-◌, ◌^◌, ◌<◌, length, get_or, set}
 use Rattle.std.specs.Int.Bits.{bit_or}
 
 pub record Words (words : List ℕ) : Type 0 where

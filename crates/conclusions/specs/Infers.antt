@@ -1,6 +1,5 @@
 -- What a rule is given, and what it answers: checks 12 to 14.
-use Rattle.std.specs.Prelude.{◌≡◌, Bool, true, false, List, [], ℕ}
-use Rattle.std.specs.Prelude.{Option, None, Some, Result, IfOk}
+use Rattle.std.specs.Prelude.{◌≡◌, Bool, true, false, List, [], ℕ, Option, None, Some, Result, IfOk}
 use Rattle.tableau.specs.declared.Reason.{Reason}
 use Rattle.tableau.specs.declared.Rule.{Rule}
 use Rattle.tableau.specs.Fields.{PlaceField, ThirdField, TermField, unused, place, side, clause}

@@ -1,6 +1,5 @@
 // The rules that close: cls, emp and bck.
-ghost use Rattle.std.specs.Prelude.{◌≡◌};
-ghost use Rattle.std.specs.Prelude.{None, Some};
+ghost use Rattle.std.specs.Prelude.{◌≡◌, None, Some};
 ghost use Rattle.tableau.specs.declared.Rule.{Rule};
 ghost use Rattle.tableau.specs.Terms.{Table};
 ghost use Rattle.packing.specs.Packing.{literal_of, SmallLiteral};

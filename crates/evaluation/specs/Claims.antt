@@ -1,6 +1,5 @@
 -- What is claimed of an evaluator: it equals the meaning, no accepted file's assumptions evaluate to all true, and files within a limit of digits keep their replies.
-use Rattle.std.specs.Prelude.{◌≡◌, true, List, [], ◌∷◌, ◌++◌, ℕ, suc, ◌<◌, length}
-use Rattle.std.specs.Prelude.{Option, None, Some}
+use Rattle.std.specs.Prelude.{◌≡◌, true, List, [], ◌∷◌, ◌++◌, ℕ, suc, ◌<◌, length, Option, None, Some}
 use Rattle.tableau.specs.Basics.{Four, lookup}
 use Rattle.tableau.specs.File.{Line, letters, shape, split, LF}
 use Rattle.tableau.specs.Terms.{ClauseNo, Literal, clause_of, at}

@@ -1,7 +1,6 @@
 -- "a heap file of six-field D lines": the words, what their fields hold, the checks of a line.
-use Rattle.std.specs.Prelude.{Bool, true, false, ◌&&◌, not, cond, List, [], ◌∷◌, ◌++◌, ℕ, eqb, leb, ltb}
+use Rattle.std.specs.Prelude.{Bool, true, false, ◌&&◌, not, cond, List, [], ◌∷◌, ◌++◌, ℕ, eqb, leb, ltb, Option, None, Some}
 use Rattle.std.specs.Bool.{beq}
-use Rattle.std.specs.Prelude.{Option, None, Some}
 use Rattle.tableau.specs.declared.Reason.{Reason}
 use Rattle.tableau.specs.Basics.{is_some, Four, four, every, bytes, same_bytes, Named, ◌↣◌, lookup}
 use Rattle.tableau.specs.File.{max_digits, Line, shape_within}

@@ -4,8 +4,7 @@
 // when they are asked for; the caller keeps the number of those that still hold.
 #![tactic(auto)]
 
-ghost use Rattle.std.specs.Prelude.{◌≡◌, true, List, [], ◌∷◌, ◌++◌, map, ℕ, ◌+◌, ◌%◌, ◌<◌, ◌≤◌};
-ghost use Rattle.std.specs.Prelude.{length, option_map};
+ghost use Rattle.std.specs.Prelude.{◌≡◌, true, List, [], ◌∷◌, ◌++◌, map, ℕ, ◌+◌, ◌%◌, ◌<◌, ◌≤◌, length, option_map};
 ghost use Rattle.tableau.specs.Terms.{Table, Clauses, at, mentioned_in, first_place, max_terms};
 ghost use Rattle.tableau.specs.Tree.{max_places};
 ghost use Rattle.tableau.specs.Steps.{is_rfv, freshness};

@@ -1,7 +1,6 @@
 -- How far a file is read: the specification's state that it stands for, what a line makes of it,
 -- and the verdict where the file ends.
-use Rattle.std.specs.Prelude.{◌≡◌, Bool, true, false, Option, Some, None, Result, Ok, Err, List, ℕ}
-use Rattle.std.specs.Prelude.{◌+◌, ◌≤◌, min}
+use Rattle.std.specs.Prelude.{◌≡◌, Bool, true, false, Option, Some, None, Result, Ok, Err, List, ℕ, ◌+◌, ◌≤◌, min}
 use Rattle.tableau.specs.declared.Letter.{Letter}
 use Rattle.tableau.specs.declared.Reason.{Reason}
 use Rattle.tableau.specs.declared.Rule.{Rule}

@@ -1,6 +1,5 @@
 // A C line.
-ghost use Rattle.std.specs.Prelude.{true, [], ◌∷◌, ◌≡◌, length};
-ghost use Rattle.std.specs.Prelude.{Some};
+ghost use Rattle.std.specs.Prelude.{true, [], ◌∷◌, ◌≡◌, length, Some};
 ghost use Rattle.tableau.specs.Basics.{lookup};
 ghost use Rattle.tableau.specs.File.{letters, in_order};
 ghost use Rattle.tableau.specs.Terms.{Table, Clauses};

@@ -1,9 +1,7 @@
 -- A line read in one pass: what a step makes of one byte and the fields read so far, and what the
 -- steps over a line come to.
-use Rattle.std.specs.Prelude.{Bool, true, false, cond, ◌&&◌, ◌||◌, ◌≡◌, ℕ, zero, suc, ◌+◌, ◌*◌, ◌-◌}
-use Rattle.std.specs.Prelude.{◌^◌, ◌<◌, ◌≤◌, eqb, leb, drop, get_or}
+use Rattle.std.specs.Prelude.{Bool, true, false, cond, ◌&&◌, ◌||◌, ◌≡◌, ℕ, zero, suc, ◌+◌, ◌*◌, ◌-◌, ◌^◌, ◌<◌, ◌≤◌, eqb, leb, drop, get_or, Option, None, Some, option_map}
 use mathlib.Core.List.{List, [], ◌∷◌, ◌++◌, foldl, Mem}
-use Rattle.std.specs.Prelude.{Option, None, Some, option_map}
 use Rattle.tableau.specs.declared.Reason.{Reason}
 use Rattle.tableau.specs.Basics.{then, is_some, bytes, Named, lookup}
 use Rattle.tableau.specs.File.{LF, comma, is_small, is_word, is_digit, max_digits, Line, shape}

@@ -1,8 +1,6 @@
 -- What reading a line of a file gives: the specification's own cut at LF and its own six fields of
 -- a line, with the word packed in one number.
-use Rattle.std.specs.Prelude.{Bool, ◌&&◌, List, [], ◌∷◌, ◌≡◌, ℕ, ◌+◌, ◌*◌, ◌<◌, ◌≤◌, eqb, leb}
-use Rattle.std.specs.Prelude.{length, drop, get_or}
-use Rattle.std.specs.Prelude.{Option, None, Some, option_map}
+use Rattle.std.specs.Prelude.{Bool, ◌&&◌, List, [], ◌∷◌, ◌≡◌, ℕ, ◌+◌, ◌*◌, ◌<◌, ◌≤◌, eqb, leb, length, drop, get_or, Option, None, Some, option_map}
 use Rattle.tableau.specs.Basics.{guard, Four, four}
 use Rattle.tableau.specs.File.{LF, comma, split, max_digits, Line, six_fields}
 use Rattle.lines.specs.declared.LineFields.{LineFields}

@@ -1,7 +1,6 @@
 -- What reading all lines of a file gives: the specification's own cut at LF and its own six fields
 -- of a line, and every word and number that is read, mixed into one.
-use Rattle.std.specs.Prelude.{List, [], ◌∷◌, ℕ, ◌-◌, ◌^◌}
-use Rattle.std.specs.Prelude.{Option, None, Some}
+use Rattle.std.specs.Prelude.{List, [], ◌∷◌, ℕ, ◌-◌, ◌^◌, Option, None, Some}
 use Rattle.std.specs.Int.Bits.{bit_xor}
 use Rattle.tableau.specs.Basics.{then, Four}
 use Rattle.tableau.specs.File.{LF, split}

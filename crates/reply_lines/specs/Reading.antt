@@ -1,7 +1,6 @@
 -- What reading a reply line gives: the specification's own shape of a line, and the position after
 -- its LF.
-use Rattle.std.specs.Prelude.{List, [], ◌≡◌, ℕ, ◌-◌, length, drop}
-use Rattle.std.specs.Prelude.{Option, None, Some, option_map}
+use Rattle.std.specs.Prelude.{List, [], ◌≡◌, ℕ, ◌-◌, length, drop, Option, None, Some, option_map}
 use Rattle.tableau.specs.Basics.{then}
 use Rattle.tableau.specs.File.{LF, split}
 use Rattle.tableau.specs.Reply.{Reply}

@@ -1,7 +1,6 @@
 -- What an outcome of the code says, and the contract of a rule's function: the outcome is the
 -- answer of the specification (checks 12, 13 and 14 of a step).
-use Rattle.std.specs.Prelude.{◌≡◌, false, List, [], ◌∷◌, map, ℕ}
-use Rattle.std.specs.Prelude.{Option, None, Some, Result, Ok, Err, IfOk}
+use Rattle.std.specs.Prelude.{◌≡◌, false, List, [], ◌∷◌, map, ℕ, Option, None, Some, Result, Ok, Err, IfOk}
 use Rattle.tableau.specs.declared.Freshness.{Freshness}
 use Rattle.tableau.specs.declared.Reason.{Reason}
 use Rattle.tableau.specs.declared.Relation.{Relation}

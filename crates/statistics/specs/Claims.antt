@@ -1,7 +1,6 @@
 -- What is claimed of the figures: the fractions that are printed are those in lowest terms, and no
 -- reply line of the checker is refused.
-use Rattle.std.specs.Prelude.{◌≡◌, List, [], ◌∷◌, ◌++◌, map, ◌↔◌, ℕ, ◌^◌, ◌<◌, ◌≤◌, length}
-use Rattle.std.specs.Prelude.{Some}
+use Rattle.std.specs.Prelude.{◌≡◌, List, [], ◌∷◌, ◌++◌, map, ◌↔◌, ℕ, ◌^◌, ◌<◌, ◌≤◌, length, Some}
 use Rattle.tableau.specs.Basics.{bytes}
 use Rattle.tableau.specs.File.{LF, max_bytes}
 use Rattle.tableau.specs.Tree.{passed}

@@ -1,7 +1,6 @@
 -- 'Figures over a night's replies': the replies of a night, the figures over them, and the line
 -- that is printed.
-use Rattle.std.specs.Prelude.{Bool, true, false, not, cond, List, [], ◌∷◌, ◌++◌, map, ℕ, zero, suc}
-use Rattle.std.specs.Prelude.{◌+◌, ◌*◌, ◌-◌, leb, length}
+use Rattle.std.specs.Prelude.{Bool, true, false, not, cond, List, [], ◌∷◌, ◌++◌, map, ℕ, zero, suc, ◌+◌, ◌*◌, ◌-◌, leb, length}
 use Rattle.tableau.specs.declared.Reason.{Reason}
 use Rattle.tableau.specs.File.{LF, split, max_bytes}
 use Rattle.tableau.specs.Tree.{Checked, passed, ◌>>=◌, ◌>>◌, require, require_some}

@@ -1,7 +1,5 @@
 -- 'Figures over a night's replies': a reply line, from its bytes to a reply.
-use Rattle.std.specs.Prelude.{Bool, true, false, ◌&&◌, ◌||◌, not, cond, List, [], ◌∷◌, ℕ, eqb}
-use Rattle.std.specs.Prelude.{length, get_or}
-use Rattle.std.specs.Prelude.{Option, None, Some}
+use Rattle.std.specs.Prelude.{Bool, true, false, ◌&&◌, ◌||◌, not, cond, List, [], ◌∷◌, ℕ, eqb, length, get_or, Option, None, Some}
 use Rattle.tableau.specs.Basics.{then, guard, Named, ◌↣◌, lookup}
 use Rattle.tableau.specs.File.{comma, split, number}
 use Rattle.tableau.specs.Reply.{Reply}

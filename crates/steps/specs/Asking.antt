@@ -1,6 +1,5 @@
 -- What is known of a step after check 8, and what it asks of the whole branch.
-use Rattle.std.specs.Prelude.{◌≡◌, Bool, true, false, ◌||◌, List, [], ◌∷◌, map, ℕ}
-use Rattle.std.specs.Prelude.{Option}
+use Rattle.std.specs.Prelude.{◌≡◌, Bool, true, false, ◌||◌, List, [], ◌∷◌, map, ℕ, Option}
 use Rattle.tableau.specs.declared.Rule.{Rule}
 use Rattle.tableau.specs.Fields.{rule_uses}
 use Rattle.tableau.specs.Terms.{Table, Literal, Clauses}

@@ -1,6 +1,5 @@
 -- What a step adds, as the specification has it.
-use Rattle.std.specs.Prelude.{List, [], ◌∷◌, map, ℕ, ◌≤◌}
-use Rattle.std.specs.Prelude.{Result, Ok, Err}
+use Rattle.std.specs.Prelude.{List, [], ◌∷◌, map, ℕ, ◌≤◌, Result, Ok, Err}
 use Rattle.tableau.specs.declared.Reason.{Reason}
 use Rattle.tableau.specs.Terms.{Literal, Clauses, clause_of}
 use Rattle.tableau.specs.Tree.{Checked, refused, passed}

@@ -1,6 +1,5 @@
 -- What the code reads off the branch.
-use Rattle.std.specs.Prelude.{◌≡◌, List, map, ℕ, ◌≤◌}
-use Rattle.std.specs.Prelude.{Some}
+use Rattle.std.specs.Prelude.{◌≡◌, List, map, ℕ, ◌≤◌, Some}
 use Rattle.tableau.specs.Tree.{literal_at}
 use Rattle.packing.specs.declared.LiteralView.{LiteralView}
 use Rattle.packing.specs.Packing.{literal_of, unpack_literal, SmallLiteral}

@@ -1,6 +1,5 @@
 -- What the arrays hold: the specification's table of terms, and the chains by which a term is searched for.
-use Rattle.std.specs.Prelude.{◌≡◌, Bool, true, false, cond, List, ℕ, zero, suc, ◌+◌, ◌*◌, ◌/◌, ◌%◌, ◌<◌, ◌≤◌, eqb, length, get_or}
-use Rattle.std.specs.Prelude.{Option, None, Some, option_map, IfSome}
+use Rattle.std.specs.Prelude.{◌≡◌, Bool, true, false, cond, List, ℕ, zero, suc, ◌+◌, ◌*◌, ◌/◌, ◌%◌, ◌<◌, ◌≤◌, eqb, length, get_or, Option, None, Some, option_map, IfSome}
 use Rattle.tableau.specs.declared.TermNumber.{TermNumber}
 use Rattle.tableau.specs.Terms.{TermNo, Table, Term, at, number_of, max_terms}
 use Rattle.packing.specs.declared.TermView.{TermView}

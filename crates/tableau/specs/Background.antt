@@ -1,7 +1,5 @@
 -- Document 02, 'Let the checker close on equalities by itself': `bck`. The equalities and the order of classes that follow from a branch, and when it closes.
-use Rattle.std.specs.Prelude.{◌≡◌, true, List, ℕ}
-use Rattle.std.specs.Prelude.{Some}
-use Rattle.std.specs.Prelude.{slice_get}
+use Rattle.std.specs.Prelude.{◌≡◌, true, List, ℕ, Some, slice_get}
 use Rattle.tableau.specs.declared.Sort.{Sort}
 use Rattle.tableau.specs.declared.Operator.{Operator}
 use Rattle.tableau.specs.declared.Relation.{Relation}

@@ -1,6 +1,5 @@
 -- What the files of the specification share: optional values, the four number fields of a line, quoted text as bytes.
-use Rattle.std.specs.Prelude.{Bool, true, false, ◌&&◌, List, [], ◌∷◌, ℕ, eqb}
-use Rattle.std.specs.Prelude.{Option, None, Some}
+use Rattle.std.specs.Prelude.{Bool, true, false, ◌&&◌, List, [], ◌∷◌, ℕ, eqb, Option, None, Some}
 use Prim.Native.Char.{code}
 use Prim.Native.String.{String}
 

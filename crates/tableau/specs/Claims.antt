@@ -1,6 +1,5 @@
 -- What is claimed of a checker: a file's assumed literals and clauses, the demands, the counts, the place, what files within a limit of digits keep.
-use Rattle.std.specs.Prelude.{◌≡◌, Bool, true, false, ◌&&◌, ◌||◌, cond, List, [], ◌∷◌, ◌++◌, ◌⊎◌, ℕ, zero, suc, ◌+◌, ◌<◌, ◌≤◌, eqb, length, take, drop}
-use Rattle.std.specs.Prelude.{Option, None, Some}
+use Rattle.std.specs.Prelude.{◌≡◌, Bool, true, false, ◌&&◌, ◌||◌, cond, List, [], ◌∷◌, ◌++◌, ◌⊎◌, ℕ, zero, suc, ◌+◌, ◌<◌, ◌≤◌, eqb, length, take, drop, Option, None, Some}
 use Rattle.tableau.specs.declared.Letter.{Letter}
 use Rattle.tableau.specs.Basics.{is_some, Four, bytes, same_bytes}
 use Rattle.tableau.specs.File.{Line, same_letter, digits, shape, letters, split, LF, comma}

@@ -1,8 +1,6 @@
 -- What a step makes of a tree, worked out from the codes of its branch and the packed alternatives
 -- that wait.
-use Rattle.std.specs.Prelude.{◌≡◌, Option, Some, None, Result, Ok, Err, IfOk, IfSome, List, [], ◌∷◌}
-use Rattle.std.specs.Prelude.{◌++◌, map, ℕ, ◌+◌, ◌≤◌, ◌<◌, length, take, reverse, if◌then◌else◌}
-use Rattle.std.specs.Prelude.{nat_lt, ⊤}
+use Rattle.std.specs.Prelude.{◌≡◌, Option, Some, None, Result, Ok, Err, IfOk, IfSome, List, [], ◌∷◌, ◌++◌, map, ℕ, ◌+◌, ◌≤◌, ◌<◌, length, take, reverse, if◌then◌else◌, nat_lt, ⊤}
 use Rattle.tableau.specs.declared.Reason.{Reason}
 use Rattle.tableau.specs.Terms.{Literal}
 use Rattle.tableau.specs.Tree as specification

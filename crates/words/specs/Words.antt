@@ -1,6 +1,5 @@
 -- The letters and the word tables of the specification, looked up by a byte and by a packed word.
-use Rattle.std.specs.Prelude.{cond, List, [], ◌∷◌, ◌≡◌, ℕ, eqb}
-use Rattle.std.specs.Prelude.{Option, None, Some}
+use Rattle.std.specs.Prelude.{cond, List, [], ◌∷◌, ◌≡◌, ℕ, eqb, Option, None, Some}
 use Rattle.tableau.specs.Basics.{bytes, Named}
 use Rattle.tableau.specs.declared.Word.{Word}
 use Rattle.tableau.specs.declared.Rule.{Rule}
