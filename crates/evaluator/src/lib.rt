@@ -14,12 +14,15 @@ ghost use Rattle.evaluation_reply.specs.Evaluation.{evaluation_record};
 
 use assumptions::Assumptions;
 use checker::FILE_BYTES;
-use evaluation_reply::{Evaluation, Source, refused};
+use evaluation_reply::{Evaluation, refused};
 use file_run::{Ran, Run};
 use reply::Text;
 use step_prefix::steps_at;
 use tableau::{Reason, Refusal};
 use tree::Tree;
+
+// The number of the checker file in a reply, as the specification has it; `trial` has the other.
+const CHECKER_FILE: usize = 1;
 
 // The reply to both files. It equals the meaning; so, if the checker accepts the file, it is never
 // 0,0,0.
@@ -29,7 +32,7 @@ pub fn evaluate(file: &[u8], heap: &[u8]) -> Evaluation
     ensures fact { (reply_to file.now).is_yes ≡ true → evaluation_record result ≡ specification.no_refusal 0 → ⊥ }
 {
     if FILE_BYTES < file.len() {
-        return refused(Reason::TooLong, Source::Checker, 0);
+        return refused(Reason::TooLong, CHECKER_FILE, 0);
     }
     let mut terms = [0; table::NUMBERS];
     let mut chains = [0; table::LINKS];
@@ -48,7 +51,7 @@ pub fn evaluate(file: &[u8], heap: &[u8]) -> Evaluation
         &mut prefix,
         &mut clauses,
     ) {
-        Err(Refusal { reason, line }) => refused(reason, Source::Checker, line),
+        Err(Refusal { reason, line }) => refused(reason, CHECKER_FILE, line),
         Ok(Ran { tree, progress }) => {
             let assumptions = Assumptions {
                 terms: &terms,

@@ -14,7 +14,7 @@ ghost use Rattle.evaluator.specs.Trial.{StateHeld};
 use crate::assumptions::Assumptions;
 use crate::values::term_values;
 use checker::FILE_BYTES;
-use evaluation_reply::{Evaluation, Source, no_refusal, refused};
+use evaluation_reply::{Evaluation, no_refusal, refused};
 use facts::reading::read_facts;
 use facts::{FACTS, Sizes, StoredFact};
 use heap_tables::order::is_order;
@@ -22,6 +22,9 @@ use heap_tables::tables::read_tables;
 use table::NUMBERS;
 use tableau::{Reason, Refusal};
 use term_values::{ROWS, TermValues};
+
+// The number of the heap file in a reply.
+const HEAP_FILE: usize = 2;
 
 impl Assumptions<'_> {
     // All lines passed, and there is one at least: check 20, then the assumptions.
@@ -35,7 +38,7 @@ impl Assumptions<'_> {
     {
         let tables = read_tables(facts);
         if !is_order(&tables, sizes.classes) {
-            return refused(Reason::NotAnOrder, Source::Heap, 0);
+            return refused(Reason::NotAnOrder, HEAP_FILE, 0);
         }
         let mut values = TermValues {
             numbers: [0; NUMBERS],
@@ -60,12 +63,12 @@ impl Assumptions<'_> {
             ≡ read_heap max_digits σ (leb (length heap.now) max_bytes) heap.now }
     {
         if FILE_BYTES < heap.len() {
-            return refused(Reason::TooLong, Source::Heap, 0);
+            return refused(Reason::TooLong, HEAP_FILE, 0);
         }
         let mut facts = [StoredFact { key: 0, value: 0 }; FACTS];
         match read_facts(heap, &mut facts) {
-            Err(Refusal { reason, line }) => refused(reason, Source::Heap, line),
-            Ok(read) if read.count == 0 => refused(Reason::LetterOrder, Source::Heap, 1),
+            Err(Refusal { reason, line }) => refused(reason, HEAP_FILE, line),
+            Ok(read) if read.count == 0 => refused(Reason::LetterOrder, HEAP_FILE, 1),
             Ok(read) => self.try_heap(&facts[..read.count], read.sizes),
         }
     }
