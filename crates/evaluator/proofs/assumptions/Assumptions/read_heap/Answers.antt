@@ -10,10 +10,10 @@ use Rattle.evaluator.proofs.assumptions.Assumptions.read_heap.Goals as goal
 pub try_heap-requires-clause-facts_held : goal.try_heap-requires-clause-facts_held
 try_heap-requires-clause-facts_held c =
     let F = c.in-Ok.ensures in
-    (F.facts, F.held', heap_passable c.requires.0 c.args.heap.now (omega (arith, c.if-heap-gt-FILE_BYTES.false)) F c.if-read-eq0.false, F.sized)
+    (F.facts, F.kept, heap_passable c.requires.0 c.args.heap.now (omega (arith, c.if-heap-gt-FILE_BYTES.false)) F c.if-read-eq0.false, F.sized)
 
 pub returns-in-Ok-2 : goal.returns-in-Ok-2
 returns-in-Ok-2 c σ S =
     let F = c.in-Ok.ensures in
     let short : length c.args.heap.now ≤ max_bytes = omega (arith, c.if-heap-gt-FILE_BYTES.false) in
-    c.try_heap.ensures σ F.facts S F.held' (heap_passable σ c.args.heap.now short F c.if-read-eq0.false) F.sized ∙ sym (heap_tried σ c.args.heap.now short F c.if-read-eq0.false)
+    c.try_heap.ensures σ F.facts S F.kept (heap_passable σ c.args.heap.now short F c.if-read-eq0.false) F.sized ∙ sym (heap_tried σ c.args.heap.now short F c.if-read-eq0.false)
