@@ -71,7 +71,7 @@ def none_as_number():
     """A comment that says which number stands for nothing, above a function."""
     found = []
     for path, text, _ in sources():
-        for m in re.finditer(r'((?:^ *//[^\n]*\n)+) *(?:pub )?fn (\w+)[^\n]*', text, re.M):
+        for m in re.finditer(r'((?:^ *//[^\n]*\n)+)(?: *#\[[^\n]*\n)* *(?:pub )?fn (\w+)[^\n]*', text, re.M):
             if re.search(r'\b0 where|; 0 (if|where|for)|where none is, how many', m.group(1)):
                 found.append(f'{path}: {m.group(2)}')
     return found
