@@ -1,6 +1,6 @@
 -- Packing loses nothing, and what a packed number is computes from its code.
 use mathlib.Core.Path.{◌≡◌, refl, sym, ◌∙◌, ap, ap₂}
-use Prim.Native.Nat.{ℕ, ◌+◌, ◌*◌, ◌/◌, ◌%◌, ◌<◌, ◌≤◌}
+use Prim.Native.Nat.{ℕ, zero, suc, ◌+◌, ◌*◌, ◌/◌, ◌%◌, ◌<◌, ◌≤◌}
 use native.Mathlib.Omega.{arith}
 use lib.ListN.{get_or-eq_default}
 use Rattle.tableau.specs.declared.Sort.{Sort}
@@ -13,6 +13,15 @@ use Rattle.packing.specs.Packing.{word_code, coded_words, word_at, word_sort, wo
 use Rattle.tableau.specs.declared.TermNumber.{TermNumber}
 use Rattle.packing.specs.declared.TermView.{TermView}
 use Rattle.packing.specs.declared.LiteralView.{LiteralView}
+
+-- a number that is none of the first k is at least k
+abbrev Excluded : ℕ → ℕ → Type 0
+Excluded zero n = Unit {0}
+Excluded (suc k) n = Excluded k n × (n ≡ k → ⊥)
+
+pub past : (k n : ℕ) → Excluded k n → k ≤ n
+past zero n h = omega arith
+past (suc k) n h = let l : k ≤ n = past k n h.0 in omega arith
 
 -- a code past the others is that of a class variable
 pub view_coded_last : (p : ℕ) → 16 ≤ p / 8 % 32 → TermView.Variable Sort.Class (name_of (unpack_fields p).a) ≡ view_of (unpack_term p)
