@@ -113,11 +113,17 @@ background_unasked disjunction h = refl
 background_unasked background h = refl
 
 -- THE RULES THAT ASK are `ext`, `wit` and `bck`
-others_unasked : (x : Rule) → NoneOf x (Rule.Ext ∷ Rule.Wit ∷ Rule.Bck ∷ []) → asks_branch x ≡ false
+pub others_unasked : (x : Rule) → NoneOf x (Rule.Ext ∷ Rule.Wit ∷ Rule.Bck ∷ [])
+    → asks_branch x ≡ false
 unfolding rules rule_names rule any_fresh
 others_unasked x o =
     not-true _ (other_rule (λ y. not (asks_branch y))
     (Rule.Ext ∷ Rule.Wit ∷ Rule.Bck ∷ []) refl x o)
+
+pub others_not_background : (x : Rule) → NoneOf x (Rule.Bck ∷ []) → is_background x ≡ false
+unfolding rules rule_names rule
+others_not_background x o =
+    not-true _ (other_rule (λ y. not (is_background y)) (Rule.Bck ∷ []) refl x o)
 
 fresh_no_background : {x : Rule} → (x ≡ Rule.Ext) ⊎ (x ≡ Rule.Wit) → is_background x ≡ false
 unfolding rule

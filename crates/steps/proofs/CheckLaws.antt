@@ -74,6 +74,15 @@ module _ (table : Table) where
   third_made term t h = refl
   third_made (of s) t h = refl
 
+  -- a side or a clause number is no term
+  pub third_unmade : (f : ThirdField) (n : ℕ) → 1 ≤ kind_of f
+      → term_or_name table (third_use f) n ≡ true
+  third_unmade unused n h = absurd (omega arith)
+  third_unmade side n h = refl
+  third_unmade clause n h = refl
+  third_unmade term n h = absurd (omega arith)
+  third_unmade (of s) n h = absurd (omega arith)
+
   pub fourth_made : (f : TermField) (n : ℕ)
       → term_or_name table (term_use f) n ≡ (not (is_used (term_use f)) || is_term table n)
   fourth_made unused n = refl
