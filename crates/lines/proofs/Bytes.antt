@@ -11,7 +11,7 @@ use native.Mathlib.Numerals.{add-one}
 use native.Mathlib.Omega.{arith}
 use lib.Dec.{eqb, leb, lit<}
 use lib.ListN.{drop, get_or}
-use borrow.Author.Tests.{ne_eqb, eqb-false, leb-true, leb-false}
+use borrow.Author.Tests.{eq-eqb, ne_eqb, eqb-false, leb-true, leb-false}
 use Rattle.tableau.specs.declared.Reason.{Reason}
 use Rattle.tableau.specs.File.{LF, comma, is_small, is_digit, max_digits}
 use Rattle.tableau.specs.Tree.{refused, passed}
@@ -108,6 +108,16 @@ no_more Fits true false = tt
 no_more Fits false c = tt
 
 -- THE WORD.
+pub is_whole : (n : ℕ) → 2 ≤ n → n ≤ 3 → eqb n 2 || eqb n 3 ≡ true
+is_whole n h₁ h₂ = which (eqb n 2) refl
+  where
+    which : (b : Bool) → eqb n 2 ≡ b → b || eqb n 3 ≡ true
+    which true e = refl
+    which false e = eq-eqb n 3 (omega (arith, eqb-false n 2 e))
+
+pub is_short : (n : ℕ) → n < 2 → eqb n 2 || eqb n 3 ≡ false
+is_short n h = rw (ne_eqb n 2 (λ e. omega arith), ne_eqb n 3 (λ e. omega arith))
+
 letter_fits : (value count unit x : ℕ) → value < 256 ^ count → unit ≡ 256 ^ count → x < 256
     → value + unit * x < 256 ^ (count + 1)
 letter_fits value count unit x small e h =

@@ -3,7 +3,9 @@ use mathlib.Core.Bool.{Bool, true, false}
 use mathlib.Core.List.{List, [], ◌∷◌, ◌++◌, foldl}
 use Rattle.std.specs.Prelude.{Option, None, Some}
 use mathlib.Core.Path.{◌≡◌, refl, sym, ap, ◌∙◌}
-use Prim.Native.Nat.{ℕ, zero, suc, ◌+◌, ◌≤◌, ◌<◌}
+use mathlib.Core.Logic.{⊎_elim}
+use Prim.Native.Nat.{ℕ, zero, suc, ◌+◌, ◌-◌, ◌≤◌, ◌<◌}
+use native.Mathlib.Nat.{eq-or-lt_of_le}
 use native.Mathlib.Numerals.{add-one}
 use native.Mathlib.Omega.{arith}
 use lib.Dec.{eqb}
@@ -156,3 +158,15 @@ a_byte F r file i due a =
 pub no_line_at : (F : Form) (file : List ℕ) (i : ℕ) → steps_at F bad file i ≡ None
 unfolding steps_at
 no_line_at F file i = steps_bad F (drop i file) i
+
+-- THE LAST LF, looked for from the end.
+unfoldable pub NoneBehind : List ℕ → ℕ → Type 0
+NoneBehind file end = (i : ℕ) → end ≤ i → i < length file → get_or file i 0 ≡ LF → ⊥
+
+pub none_before_lem : (file : List ℕ) (end : ℕ) → NoneBehind file end
+    → (get_or file (end - 1) 0 ≡ LF → ⊥) → NoneBehind file (end - 1)
+unfolding NoneBehind
+none_before_lem file end none h i l k q = ⊎_elim
+    (λ (e : end - 1 ≡ i). h (ap (λ (n : ℕ). get_or file n 0) e ∙ q))
+    (λ (e : end - 1 < i). none i (omega arith) k q)
+    (eq-or-lt_of_le l)
