@@ -5,7 +5,7 @@ use mathlib.Core.Bool.{Bool, true, false, not}
 use mathlib.Core.List.{List}
 use Rattle.std.specs.Prelude.{Option, None, Some, Result, Ok, Err, IsErrAnd}
 use Rattle.std.proofs.lemmas.Result.{err_from_is_err_and}
-use Prim.Native.Nat.{ℕ, suc}
+use Prim.Native.Nat.{ℕ, suc, ◌≤◌}
 use native.Mathlib.Omega.{arith}
 use borrow.Author.Tests.{eq-eqb, not-true, not-false}
 use denote.Enum.Declared as Declared
@@ -26,11 +26,14 @@ use Rattle.tableau.proofs.Match.{same_operator_lem}
 use Rattle.packing.specs.declared.TermView.{TermView}
 use Rattle.packing.specs.declared.LiteralView.{LiteralView}
 use Rattle.packing.specs.Packing.{view_of, view_apply, literal_of, relation_of, left_of, right_of}
-use Rattle.packing.specs.Packing.{number, unpack_literal, pack_literal, PackableLiteral}
+use Rattle.packing.specs.Packing.{number, unpack_literal, pack_literal, PackableLiteral, SmallView}
 use Rattle.packing.proofs.PackingLaws.{literal_unpack_pack}
 use Rattle.packing.proofs.ViewLaws.{operator_tag}
 pub use Rattle.packing.proofs.ViewLaws.{is_not}
 use Rattle.packing.specs.contracts.TermView as term-view
+use Rattle.table.specs.Held.{ViewAt}
+use Rattle.tree.specs.declared.Alternative.{Alternative}
+use Rattle.tree.specs.State.{AtMost}
 use Rattle.rules.specs.Answer.{SearchableBy, Finds, made_as}
 
 -- The answer of a rule, computed: to unfold this is to unfold all that runs a row.
@@ -208,6 +211,11 @@ is_wri e a b c d q =
     let d' : number K.0.d ≡ d = cc K.2 in
     K.1 ∙ (λ i. Some (four (a' i).0 (b' i).0 (c' i).0 (d' i).0))
 
+-- the numbers that a view shows are small: some table has the term
+pub view_small : {A : Table → Type 0} {n : TermNo} {x y : TermView} → ((table : Table) × A table)
+    → ((table : Table) → A table → ViewAt table n x) → x ≡ y → SmallView y
+view_small w f e = subst SmallView e (f w.0 w.1).small
+
 -- A SEARCH: the number that it finds is the term's, and where it finds nothing the term has none
 found_as : {f : Result TermNumber Reason} {n : TermNumber} (m : Option TermNo) → f ≡ made_as m
     → f ≡ Ok n → m ≡ Some n.0
@@ -231,6 +239,11 @@ module _ {terms chains : List ℕ} {e : Term} {f : Result TermNumber Reason}
 pub passed_on : {A : Type 0} {r : Result A Reason} {d : Reason} → IsErrAnd r (λ e. e ≡ d)
     → r ≡ Err d
 passed_on {r} h = let p = err_from_is_err_and r h in cc
+
+-- AN ALTERNATIVE of at most m codes has at most n
+pub at_most_lem : (n : ℕ) {m : ℕ} {a : Alternative} → m ≤ n → AtMost m a → AtMost n a
+at_most_lem n h k =
+    record { count = omega arith; first = k.first; second = k.second; third = k.third }
 
 -- a packed literal is read back
 pub packed_back : (l : Literal) {p : ℕ} → PackableLiteral l → p ≡ pack_literal l

@@ -90,7 +90,7 @@ pub codes_length : (words : List ℕ) (i n : ℕ) → length (codes_at words i n
 codes_length words i zero = refl
 codes_length words i (suc n) = ap suc (codes_length words (suc i) n)
 
-one_code_lem : (code : ℕ) → code < code_limit → AtMost 2 (one_code code)
+pub one_code_lem : (code : ℕ) → code < code_limit → AtMost 2 (one_code code)
 one_code_lem code small =
     record { count = omega arith; first = small; second = omega arith; third = omega arith }
 
