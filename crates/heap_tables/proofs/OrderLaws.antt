@@ -1,5 +1,5 @@
 -- The test of an order by rows of bits.
-use Rattle.std.proofs.Common.{◌≡◌, ℕ, length, subst, zero-add, ◌+◌, ◌-◌, ◌*◌, ◌/◌, ◌%◌, ◌^◌, ◌<◌, ◌≤◌, Bool, true, false, not, ◌&&◌, eqb, List, get_or, sym, refl, ap, ◌∙◌, inl, inr, mod-lt, arith, pow_pos, shl_exact, eq-eqb, eqb-true}
+use Rattle.std.proofs.Common.{◌≡◌, ℕ, length, subst, zero-add, ◌⊎◌, eq-or-lt_of_le, ◌+◌, ◌-◌, ◌*◌, ◌/◌, ◌%◌, ◌^◌, ◌<◌, ◌≤◌, Bool, true, false, not, ◌&&◌, eqb, List, get_or, sym, refl, ap, ◌∙◌, inl, inr, mod-lt, arith, pow_pos, shl_exact, eq-eqb, eqb-true}
 use mathlib.Core.Bool.{beq}
 use Rattle.std.specs.Bool.{MatchBool}
 use Rattle.std.specs.List.{AllWithin, HoldsAt, range_with_len}
@@ -82,6 +82,22 @@ module _ (under : List ℕ) (n b c : ℕ) where
       ap (λ (k : ℕ). eqb (bit_and k (1 * 2 ^ n % 2 ^ 64 - 1)) 0) d ∙ within_test n (get_or under c 0) (get_or under b 0) l
       ∙ sym (ap (λ (p : Bool). implies p rest) (sym e ∙ s)
       ∙ ap (λ (p : Bool). implies p (eqb b c) and each n (λ x. implies (is_below under n c x.0) (is_below under n b x.0))) (sym f ∙ r))
+
+-- A test that holds of the classes below i
+pub record HoldsBelow (test : ℕ → Bool) (i : ℕ) : Type 0 where
+  pub below : (k : ℕ) → k < i → test k ≡ true
+
+pub holds_start : (test : ℕ → Bool) → HoldsBelow test 0
+holds_start test = record { below = λ k l. absurd (omega arith) }
+
+pub holds_more : (test : ℕ → Bool) (i : ℕ) (t : Bool) → HoldsBelow test i → t ≡ test i → t ≡ true
+    → HoldsBelow test (i + 1)
+holds_more test i t H e s =
+    record { below = λ k l. at k (eq-or-lt_of_le (let z : k ≤ i = omega arith in z)) }
+  where
+    at : (k : ℕ) → (k ≡ i) ⊎ (k < i) → test k ≡ true
+    at k (inl z) = ap test z ∙ sym e ∙ s
+    at k (inr m) = H.below k m
 
 -- TESTS OF ALL CLASSES
 abbrev pub AllPass : ℕ → (ℕ → Bool) → Bool → Type 0
