@@ -1,7 +1,8 @@
 -- The arguments of a view.
 use mathlib.Core.Path.{◌≡◌, refl, subst}
-use mathlib.Core.List.{List}
-use Prim.Native.Nat.{ℕ}
+use mathlib.Core.List.{List, [], ◌∷◌}
+use Prim.Native.Nat.{ℕ, ◌≤◌, ◌<◌}
+use native.Mathlib.Omega.{arith}
 use Rattle.tableau.specs.declared.TermNumber.{TermNumber}
 use Rattle.tableau.specs.declared.Operator.{Operator}
 use Rattle.tableau.specs.Basics.{Four}
@@ -16,6 +17,10 @@ use Rattle.term_values.specs.Values.{view_arguments, AllBelow, RowComputed}
 -- of a view that an arm knows
 pub arguments_of_lem : (n : ℕ) {view w : TermView} → view ≡ w → AllBelow n (view_arguments view) → AllBelow n (view_arguments w)
 arguments_of_lem n e l = subst (λ (x : TermView). AllBelow n (view_arguments x)) e l
+
+pub below_more : (m n : ℕ) → m ≤ n → (k : List TermNo) → AllBelow m k → AllBelow n k
+below_more m n l [] b = tt
+below_more m n l (x ∷ k) b = ((let o : x < n = omega (arith, b.0) in o), below_more m n l k b.1)
 
 -- a row that is not written
 pub row_kept : (numbers rows : List ℕ) (t : TermNo) (view : TermView) → ((h x f v : TermNumber) → view ≡ TermView.Wri h x f v → ⊥)
