@@ -1,3 +1,4 @@
+pub mod Arrays
 pub mod Branch
 pub mod BranchLaws
 pub mod Waiting
