@@ -120,8 +120,18 @@ unfolding keeps_order_from
 from_tests under n b true m = sym (each_in n _ (λ d. m d.0 d.1))
 from_tests under n b false m = sym (each_false n (λ d. keeps_order under n b d.0) (m.0, m.1) m.2)
 
+-- by one test that fails, and by the tests of all classes
+module _ (under : List ℕ) (n b : ℕ) where
+  pub from_false : (c : ℕ) (t : Bool) → c < n → t ≡ keeps_order under n b c → t ≡ false
+      → false ≡ keeps_order_from under n b
+  from_false c t l e s = from_tests under n b false (c, l, sym e ∙ s)
+
+  pub from_true : (c : ℕ) → HoldsBelow (keeps_order under n b) c → n ≤ c
+      → true ≡ keeps_order_from under n b
+  from_true c H l = from_tests under n b true (λ k m. H.below k (omega arith))
+
 module _ (under : List ℕ) (n : ℕ) where
-  order_true : ((b : ℕ) → b < n → keeps_order_from under n b ≡ true) → true ≡ is_order_below under n
+  pub order_true : ((b : ℕ) → b < n → keeps_order_from under n b ≡ true) → true ≡ is_order_below under n
   unfolding keeps_order keeps_order_from is_order_below is_transitive is_antisymmetric
   order_true H = sym (and_i
       (each_in n _ λ b. each_in n _ λ c. each_in n _ λ d. implies_in (relation under n b c) _ λ p. implies_in (relation under n c d) _ λ q.
@@ -133,7 +143,7 @@ module _ (under : List ℕ) (n : ℕ) where
           → implies (relation under n c b) (eqb b.0 c.0) and each n (λ d. implies (relation under n c d) (relation under n b d)) ≡ true
       at b c p = implied (relation under n b c) _ (each_out n (λ d. keeps_order under n b.0 d.0) (H b.0 b.1) c) p
 
-  order_false : (b : ℕ) → b < n → keeps_order_from under n b ≡ false → false ≡ is_order_below under n
+  pub order_false : (b : ℕ) → b < n → keeps_order_from under n b ≡ false → false ≡ is_order_below under n
   unfolding keeps_order keeps_order_from is_order_below is_transitive is_antisymmetric
   order_false b l e = elim (dec (is_order_below under n)) [ inl t ↦ clash (holds t) e | inr t ↦ sym t ]
     where
