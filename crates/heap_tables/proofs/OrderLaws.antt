@@ -131,7 +131,8 @@ module _ (under : List ℕ) (n b : ℕ) where
   from_true c H l = from_tests under n b true (λ k m. H.below k (omega arith))
 
 module _ (under : List ℕ) (n : ℕ) where
-  pub order_true : ((b : ℕ) → b < n → keeps_order_from under n b ≡ true) → true ≡ is_order_below under n
+  pub order_true : ((b : ℕ) → b < n → keeps_order_from under n b ≡ true)
+      → true ≡ is_order_below under n
   unfolding keeps_order keeps_order_from is_order_below is_transitive is_antisymmetric
   order_true H = sym (and_i
       (each_in n _ λ b. each_in n _ λ c. each_in n _ λ d. implies_in (relation under n b c) _ λ p. implies_in (relation under n c d) _ λ q.
@@ -143,7 +144,8 @@ module _ (under : List ℕ) (n : ℕ) where
           → implies (relation under n c b) (eqb b.0 c.0) and each n (λ d. implies (relation under n c d) (relation under n b d)) ≡ true
       at b c p = implied (relation under n b c) _ (each_out n (λ d. keeps_order under n b.0 d.0) (H b.0 b.1) c) p
 
-  pub order_false : (b : ℕ) → b < n → keeps_order_from under n b ≡ false → false ≡ is_order_below under n
+  pub order_false : (b : ℕ) → b < n → keeps_order_from under n b ≡ false
+      → false ≡ is_order_below under n
   unfolding keeps_order keeps_order_from is_order_below is_transitive is_antisymmetric
   order_false b l e = elim (dec (is_order_below under n)) [ inl t ↦ clash (holds t) e | inr t ↦ sym t ]
     where
