@@ -10,8 +10,6 @@ use lib.ListN.{length, take, drop, get_or, length-map, length-append, length-tak
 use Rattle.std.specs.Prelude.{Some, None, Result, Ok, Err}
 use Rattle.std.proofs.lemmas.List.{length-take-le, reverse-append, reverse-reverse, length-reverse}
 use Rattle.std.proofs.lemmas.List.{take_all, take_min, take-map}
-use borrow.Rule.Slice.PartMut.{put_mid}
-use Rattle.std.proofs.lemmas.List.{get_or-drop}
 use lib.Seq.{take-take, take-append_seam, get_or-append_seam}
 use Rattle.std.proofs.lemmas.List.Elements.{All-append, All-take}
 use Rattle.std.proofs.lemmas.List.Sorted.{All-permutation, IsPermutation-reverse}
@@ -234,16 +232,6 @@ append_bounded : (b k : List ℕ) (i : ℕ) → ((j : ℕ) → get_or b j 0 < co
 append_bounded [] k i p q = q i
 append_bounded (x ∷ b) k zero p q = p zero
 append_bounded (x ∷ b) k (suc i) p q = append_bounded b k i (λ j. p (suc j)) q
-
-pub put_bounded : (n m : ℕ) (xs ys : List ℕ) (a : Alternative) → AtMost 3 a → ys ≡ codes_of a
-    → ((k : ℕ) → get_or xs k 0 < code_limit) → (k : ℕ) → get_or (put_mid n m xs ys) k 0 < code_limit
-put_bounded n m xs ys a few e h k =
-    append_bounded (take n xs) (ys ++ drop m (drop n xs)) k
-    (λ j. taken_bounded xs n code_limit j (omega arith) h)
-    (λ j. append_bounded ys (drop m (drop n xs)) j
-    (λ i. rw e (taken_bounded (a.first ∷ a.second ∷ a.third ∷ []) a.count code_limit i (omega arith)
-    (λ l. three_bounded a.first a.second a.third l few.first few.second few.third)))
-    (λ i. rw (get_or-drop m (drop n xs) i 0, get_or-drop n xs (m + i) 0) (h (n + (m + i)))))
 
 module _ (words : List ℕ) (small : (i : ℕ) → get_or words i 0 < code_limit) (t : Tree)
     (w : Within t) (c : Change) (F : Fits (codes_in t) (waiting_in t) c) where

@@ -302,9 +302,20 @@ impl Tree {
         ensures cells { ((k : ℕ) → get_or branch.old k 0 < code_limit)
             → (k : ℕ) → get_or branch.new k 0 < code_limit }
     {
-        let end = len + a.count;
-        branch[len..end].copy_from_slice(&[a.first, a.second, a.third][..a.count]);
-        end
+        match a.count {
+            0 => {}
+            1 => branch[len] = a.first,
+            2 => {
+                branch[len] = a.first;
+                branch[len + 1] = a.second;
+            }
+            _ => {
+                branch[len] = a.first;
+                branch[len + 1] = a.second;
+                branch[len + 2] = a.third;
+            }
+        }
+        len + a.count
     }
 
     // What begins to wait where the branch has `cut` literals. The result is the new count.
