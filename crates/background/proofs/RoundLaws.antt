@@ -1,6 +1,7 @@
 -- The rounds, and the answer.
 use Rattle.std.proofs.Common.{◌≡◌, refl, sym, ◌∙◌, ap, subst, Bool, true, false, true≢false, List}
-use Rattle.std.proofs.Common.{[], ◌∷◌, inl, inr, ℕ, suc, ◌+◌, ◌≤◌, arith, length, map, Some, None}
+use Rattle.std.proofs.Common.{[], ◌∷◌, inl, inr, ℕ, suc, ◌+◌, ◌≤◌, arith, length, map, Option}
+use Rattle.std.proofs.Common.{Some, None}
 use Rattle.std.proofs.Common.{eqb-true, eq-eqb}
 use mathlib.Core.Bool.{false≢true}
 use Rattle.tableau.specs.declared.Sort.{Sort}
@@ -23,7 +24,7 @@ use Rattle.class_order.specs.Rows.{Filled}
 use Rattle.class_order.proofs.BranchLaws.{sides_small}
 use Rattle.class_order.proofs.FillLaws.{class_in_table}
 use Rattle.background.specs.Closure.{JoinedLiterals, UnderFollows, AllMutual, Antisymmetric}
-use Rattle.background.specs.Closure.{Saturated, denies, Rounded}
+use Rattle.background.specs.Closure.{Saturated, denies, Ordered, Rounded}
 use Rattle.background.proofs.OrderLaws.{list_any-map}
 use Rattle.background.proofs.SaturatedLaws.{equal_follows, path_follows, under_follows}
 use Rattle.background.proofs.SaturatedLaws.{follows_there}
@@ -104,6 +105,16 @@ module _ (old mid new : Partition) (rows : Rows) (terms xs : List ℕ) (n : ℕ)
               ∙ sym (list_any-map (denies new rows) unpack_literal xs),
         );
       }
+
+-- what the order's part answers is what the round does
+pub round_ordered : (old mid new : Partition) (terms xs : List ℕ) (n : ℕ) (q : Bool)
+    → JoinedLiterals old mid (map unpack_literal xs) q × CongruentIf false mid terms n
+    → (r : Option Bool) → Ordered mid new terms n xs r
+    → Rounded old new terms n (map unpack_literal xs) r
+round_ordered old mid new terms xs n q L None O =
+    round_mutual old mid new O.rows terms xs n q true L O.filled O.change refl
+round_ordered old mid new terms xs n q L (Some s) O =
+    round_saturated old mid new O.rows terms xs n q false L O.filled O.change s refl O.answer
 
 -- ALL ROUNDS so far
 abbrev pub SoundOver : List ℕ → ℕ → List Literal → Partition → Type 0

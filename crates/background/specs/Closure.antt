@@ -1,11 +1,11 @@
 -- What the blocks and rows come to: how literals and rounds change them, and what they say where
 -- nothing changes any more.
-use Rattle.std.specs.Prelude.{◌≡◌, Bool, true, false, List, ℕ, ◌+◌, ◌≤◌, eqb, length, Option, None, Some, is_none}
+use Rattle.std.specs.Prelude.{◌≡◌, Bool, true, false, List, ℕ, ◌+◌, ◌≤◌, eqb, length, map, Option, None, Some, is_none, IfSome}
 use Rattle.std.specs.List.{list_any}
 use Rattle.tableau.specs.declared.Relation.{Relation}
 use Rattle.tableau.specs.Terms.{TermNo, Table, Literal, literal}
 use Rattle.tableau.specs.Background.{On, Follows}
-use Rattle.packing.specs.Packing.{Small}
+use Rattle.packing.specs.Packing.{unpack_literal, Small}
 use Rattle.table.specs.Held.{Entries}
 use Rattle.partition.specs.declared.Partition.{Partition}
 use Rattle.partition.specs.Blocks.{block_of, Sound, one_if, roots, Coarsened}
@@ -81,6 +81,15 @@ SaturatedIf None blocks terms n B = Unit {0}
 SaturatedIf (Some r) blocks terms n B =
     (rows : Rows) × ((table : Table) → Entries table terms → length table ≡ n
     → Saturated table B blocks rows) × (r ≡ list_any (denies blocks rows) B)
+
+-- the order's part of a round, by some rows
+pub record Ordered (old new : Partition) (terms : List ℕ) (n : ℕ) (codes : List ℕ)
+    (r : Option Bool) : Type 0 where
+  pub rows : Rows
+  pub filled : (table : Table) → Entries table terms → length table ≡ n
+      → Filled table old rows (map unpack_literal codes)
+  pub change : Antisymmetric rows old new (map unpack_literal codes) (is_none r)
+  pub answer : IfSome r (λ s. s ≡ list_any (λ code. denies new rows (unpack_literal code)) codes)
 
 pub record Rounded (old new : Partition) (terms : List ℕ) (n : ℕ) (B : List Literal)
     (r : Option Bool) : Type 0 where

@@ -10,7 +10,7 @@ ghost use Rattle.tableau.specs.Saturation as specification;
 ghost use Rattle.tableau.specs.Terms.{Table};
 ghost use Rattle.packing.specs.Packing.{unpack_literal};
 ghost use Rattle.table.specs.Held.{Entries};
-ghost use Rattle.background.specs.Closure.{Rounded};
+ghost use Rattle.background.specs.Closure.{Ordered, Rounded};
 
 use class_order::Rows;
 use congruence::join_congruent;
@@ -18,6 +18,27 @@ use literals::join_literals;
 use order::{antisymmetry, contradicts};
 use partition::Partition;
 use table::NUMBERS;
+
+// The order's part of a round: None where it joined blocks; else it says whether the branch
+// contradicts itself. A function of its own, since its rows are large and nothing before them may
+// be done in vain: where terms were joined, there are no rows yet.
+fn by_order(
+    blocks: &mut Partition,
+    terms: &[u64; NUMBERS],
+    n: usize,
+    branch: &[u32],
+) -> Option<bool>
+    requires { (table : Table) × Entries table terms.now × (length table ≡ n) }
+    ensures { Ordered blocks.old blocks.new terms.now n branch.now result }
+{
+    let mut rows = Rows::empty();
+    rows.fill(blocks, terms, n, branch);
+    if antisymmetry(blocks, &rows, branch) {
+        None
+    } else {
+        Some(contradicts(blocks, &rows, branch))
+    }
+}
 
 // One round: None where it joined blocks; else there are none left to join, and it says whether the
 // branch contradicts itself. The eq literals are joined in each round, though only the first finds
@@ -39,13 +60,7 @@ fn round(
     if join_congruent(blocks, terms, n, again) {
         return None;
     }
-    let mut rows = Rows::empty();
-    rows.fill(blocks, terms, n, branch);
-    if antisymmetry(blocks, &rows, branch) {
-        None
-    } else {
-        Some(contradicts(blocks, &rows, branch))
-    }
+    by_order(blocks, terms, n, branch)
 }
 
 // Does the branch contradict itself, over the table of the n packed terms?
