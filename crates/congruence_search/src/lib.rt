@@ -73,7 +73,9 @@ struct Search<'a> {
     ghost counts: { (front ≤ 1024) × (waiting ≤ 1024) × (entered ≤ 4096) },
 }
 
-fn hash(signature: u64) -> usize {
+fn hash(signature: u64) -> usize
+    ensures { Small result }
+{
     table::hash(signature, LOW_FACTOR, HIGH_FACTOR)
 }
 
