@@ -42,6 +42,11 @@ unfoldable pub value_at : List StoredFact → ℕ → ℕ
 value_at [] k = 0
 value_at (x ∷ xs) k = cond (k == x.key) x.value (value_at xs k)
 
+-- a search for the key finds in a part of a list what it finds in all of it
+pub record SameFound (k : ℕ) (facts part : List StoredFact) : Type 0 where
+  pub has : has_key part k ≡ has_key facts k
+  pub value : value_at part k ≡ value_at facts k
+
 abbrev pub facts_length : ℕ
 facts_length = 4616
 

@@ -1,7 +1,7 @@
 // The key of a line, and the search for one among those of the lines so far.
 ghost use Rattle.std.specs.Prelude.{◌≡◌, ◌<◌};
 ghost use Rattle.evaluation.specs.Facts.{fact_index};
-ghost use Rattle.facts.specs.Keys.{pack_key, has_key, value_at};
+ghost use Rattle.facts.specs.Keys.{pack_key, has_key, value_at, SameFound};
 
 use crate::StoredFact;
 use evaluation::FactWord;
@@ -24,11 +24,33 @@ pub fn word_key(word: FactWord, a: usize, b: usize, c: usize) -> u64
     pack_key(word as usize, a, b, c)
 }
 
+// The facts behind the first ones with another key. Four are compared before it is asked whether
+// there are more: a search takes most of the time of a heap file.
+#[tactic(auto, unfolding(crate::specs::Keys::value_at))]
+fn skip_others(facts: &[StoredFact], key: u64) -> &[StoredFact]
+    ensures { SameFound key facts.now result.now }
+{
+    let mut rest = facts;
+    while let [a, b, c, d, behind @ ..] = rest {
+        if key == a.key || key == b.key || key == c.key || key == d.key {
+            break;
+        }
+        rest = behind;
+    }
+    rest
+}
+
+fn among(facts: &[StoredFact], key: u64) -> bool
+    ensures { result ≡ has_key facts.now key }
+{
+    facts.iter().any(|fact| key == fact.key)
+}
+
 // Is the key that of a line?
 pub fn has(facts: &[StoredFact], key: u64) -> bool
     ensures { result ≡ has_key facts.now key }
 {
-    facts.iter().any(|fact| key == fact.key)
+    among(skip_others(facts, key), key)
 }
 
 // The value of the first line with the key, 0 where there is none.
@@ -36,7 +58,7 @@ pub fn has(facts: &[StoredFact], key: u64) -> bool
 pub fn value_at(facts: &[StoredFact], key: u64) -> u8
     ensures { result ≡ value_at facts.now key }
 {
-    for fact in facts {
+    for fact in skip_others(facts, key) {
         if key == fact.key {
             return fact.value;
         }

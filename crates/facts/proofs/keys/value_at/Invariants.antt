@@ -4,4 +4,5 @@ use Rattle.facts.specs.Keys.{value_at}
 use Rattle.facts.proofs.keys.value_at.Given as goal
 
 abbrev pub invariant-loop-fact : goal.invariant-loop-fact
-invariant-loop-fact l = value_at (drop l.fact-index l.facts) l.key ≡ value_at l.facts l.key
+invariant-loop-fact l =
+    value_at (drop l.fact-index l.fact-items) l.key ≡ value_at l.facts l.key
