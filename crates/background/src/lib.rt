@@ -20,8 +20,8 @@ use partition::Partition;
 use table::NUMBERS;
 
 // The order's part of a round: None where it joined blocks; else it says whether the branch
-// contradicts itself. A function of its own, since its rows are large and nothing before them may
-// be done in vain: where terms were joined, there are no rows yet.
+// contradicts itself. It is a function of its own so that its rows, which are large, are cleared
+// only where no terms were joined before.
 fn by_order(
     blocks: &mut Partition,
     terms: &[u64; NUMBERS],

@@ -24,8 +24,8 @@ pub fn word_key(word: FactWord, a: usize, b: usize, c: usize) -> u64
     pack_key(word as usize, a, b, c)
 }
 
-// The facts behind the first ones with another key. Four are compared before it is asked whether
-// there are more: a search takes most of the time of a heap file.
+// The facts behind some of the first, which have another key: four are compared before it is asked
+// whether there are more, since searches take most of the time of a heap file.
 #[tactic(auto, unfolding(crate::specs::Keys::value_at))]
 fn skip_others(facts: &[StoredFact], key: u64) -> &[StoredFact]
     ensures { SameFound key facts.now result.now }
@@ -40,6 +40,7 @@ fn skip_others(facts: &[StoredFact], key: u64) -> &[StoredFact]
     rest
 }
 
+// Is the key that of a fact, one looked at after the other?
 fn among(facts: &[StoredFact], key: u64) -> bool
     ensures { result ≡ has_key facts.now key }
 {
