@@ -1,6 +1,6 @@
 -- A law of lists that no contract is about.
 use Prim.Native.Nat.{ℕ, zero, suc, min}
-use mathlib.Core.Path.{◌≡◌, refl, ap}
+use mathlib.Core.Path.{◌≡◌, ap}
 use mathlib.Core.List.{List, [], ◌∷◌}
 use native.Mathlib.Nat.{zero-min, min-zero, suc-min-suc}
 use lib.ListN.{take}

@@ -6,7 +6,7 @@ use mathlib.Core.List.{List, [], ◌∷◌, ◌++◌, map, map-append, append-ni
 use native.Mathlib.Decide.{dec_le}
 use native.Mathlib.Omega.{arith}
 use borrow.Author.Tests.{le-leb, lt-leb, le-ltb, lt-ltb}
-use lib.ListN.{length, take, drop, get_or, length-map, length-append, length-take}
+use lib.ListN.{length, take, get_or, length-map, length-append, length-take}
 use Rattle.std.specs.Prelude.{Some, None, Result, Ok, Err}
 use Rattle.std.proofs.lemmas.List.{length-take-le, reverse-append, reverse-reverse, length-reverse}
 use Rattle.std.proofs.lemmas.List.{take_all, take_min, take-map}
@@ -25,7 +25,7 @@ use Rattle.tree.specs.declared.Tree.{Tree}
 use Rattle.tree.specs.State.{AtMost, codes_of, AreCodes, HasRoom, AreWaiting, cut_of, unpacked}
 use Rattle.tree.specs.State.{InLimits, waiting_of, tree_in, codes_in, waiting_in, Within}
 use Rattle.tree.specs.Change.{begun_of, begun_count, changed, Fits, split_into, no_literals, Stored}
-use Rattle.tree.specs.Change.{room_for, opened, SplitsAt, Closes}
+use Rattle.tree.specs.Change.{room_for, opened, ReadsCodes, SplitsAt, Closes}
 use Rattle.tree.proofs.Branch.{taken_bounded}
 use Rattle.tree.proofs.Waiting.{wait, Begins, unpacked_holds, begun_length, begun_room}
 
@@ -233,8 +233,8 @@ append_bounded [] k i p q = q i
 append_bounded (x ∷ b) k zero p q = p zero
 append_bounded (x ∷ b) k (suc i) p q = append_bounded b k i (λ j. p (suc j)) q
 
-module _ (words : List ℕ) (small : (i : ℕ) → get_or words i 0 < code_limit) (t : Tree)
-    (w : Within t) (c : Change) (F : Fits (codes_in t) (waiting_in t) c) where
+module _ (words : List ℕ) (t : Tree) (w : Within t) (c : Change) (small : ReadsCodes c.begun words)
+    (F : Fits (codes_in t) (waiting_in t) c) where
   cut_codes : take c.cut t.branch ≡ take c.cut (codes_in t)
   cut_codes =
       sym (take-take c.cut t.len t.branch (omega (arith, F.cut, length-take t.len t.branch)))
@@ -281,7 +281,7 @@ module _ (words : List ℕ) (small : (i : ℕ) → get_or words i 0 < code_limit
             All-append HasRoom (take c.kept (waiting_in t)) (reverse begun)
             (All-take HasRoom c.kept (waiting_in t) w.waiting.places)
             (All-permutation HasRoom begun (reverse begun) (IsPermutation-reverse begun)
-            (begun_room words small c.cut c.begun F.begun));
+            (begun_room words c.cut c.begun small F.begun));
       }
 
   pub stored : (t' : Tree) → t'.len ≡ c.cut + c.adds.count → t'.count ≡ c.kept + begun_count c.begun

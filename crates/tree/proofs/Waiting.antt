@@ -17,7 +17,7 @@ use Rattle.tableau.specs.Reply.{max_clause_lines}
 use Rattle.clauses.specs.Held.{codes_at}
 use Rattle.tree.specs.State.{codes_of, AtMost, one_code, packed, packed_one, cut_of, unpacked}
 use Rattle.tree.specs.State.{HasRoom, waiting_of}
-use Rattle.tree.specs.Change.{begun_of, begun_count, MayBegin, each_alone}
+use Rattle.tree.specs.Change.{begun_of, begun_count, MayBegin, ReadsCodes, each_alone}
 
 -- the third code is not packed
 short : (n x y z z' : ℕ) → n ≤ 2 → take n (x ∷ y ∷ z ∷ []) ≡ take n (x ∷ y ∷ z' ∷ [])
@@ -151,10 +151,17 @@ each_room words small cut h i zero = All-nil HasRoom
 each_room words small cut h i (suc n) =
     All-cons HasRoom _ _ (one_packed words small cut h i) (each_room words small cut h (suc i) n)
 
-pub begun_room : (words : List ℕ) → ((i : ℕ) → get_or words i 0 < code_limit)
-    → (cut : ℕ) (b : Begun) → MayBegin cut b → All HasRoom (begun_of words cut b)
-begun_room words small cut Begun.Nothing m = All-nil HasRoom
-begun_room words small cut (Begun.One w) m = All-cons HasRoom w [] m (All-nil HasRoom)
-begun_room words small cut (Begun.Two v w) m =
+pub reads_codes : (words : List ℕ) → ((i : ℕ) → get_or words i 0 < code_limit) → (b : Begun)
+    → ReadsCodes b words
+reads_codes words small Begun.Nothing = tt
+reads_codes words small (Begun.One w) = tt
+reads_codes words small (Begun.Two v w) = tt
+reads_codes words small (Begun.Each s) = small
+
+pub begun_room : (words : List ℕ) (cut : ℕ) (b : Begun) → ReadsCodes b words → MayBegin cut b
+    → All HasRoom (begun_of words cut b)
+begun_room words cut Begun.Nothing small m = All-nil HasRoom
+begun_room words cut (Begun.One w) small m = All-cons HasRoom w [] m (All-nil HasRoom)
+begun_room words cut (Begun.Two v w) small m =
     All-cons HasRoom v (w ∷ []) m.0 (All-cons HasRoom w [] m.1 (All-nil HasRoom))
-begun_room words small cut (Begun.Each s) m = each_room words small cut m.1 s.from s.count
+begun_room words cut (Begun.Each s) small m = each_room words small cut m.1 s.from s.count

@@ -1,12 +1,13 @@
 -- What a step makes of a tree, worked out from the codes of its branch and the packed alternatives
 -- that wait.
-use Rattle.std.specs.Prelude.{◌≡◌, Option, Some, None, Result, Ok, Err, IfOk, IfSome, List, [], ◌∷◌, ◌++◌, map, ℕ, ◌+◌, ◌≤◌, ◌<◌, length, take, reverse, if◌then◌else◌, nat_lt, ⊤}
+use Rattle.std.specs.Prelude.{◌≡◌, Option, Some, None, Result, Ok, Err, IfOk, IfSome, List, [], ◌∷◌, ◌++◌, map, ℕ, ◌+◌, ◌≤◌, ◌<◌, length, take, reverse, get_or, if◌then◌else◌, nat_lt, ⊤}
 use Rattle.tableau.specs.declared.Reason.{Reason}
 use Rattle.tableau.specs.Terms.{Literal}
 use Rattle.tableau.specs.Tree as specification
 use Rattle.tableau.specs.Tree.{Checked, refused, passed, Status, is_open, is_closed, close, grown}
 use Rattle.tableau.specs.Tree.{max_places, max_waiting}
 use Rattle.tableau.specs.Reply.{max_clause_lines}
+use Rattle.packing.specs.Packing.{code_limit}
 use Rattle.clauses.specs.Held.{codes_at}
 use Rattle.tree.specs.declared.Alternative.{Alternative}
 use Rattle.tree.specs.declared.Begun.{Begun}
@@ -35,6 +36,13 @@ MayBegin cut Begun.Nothing = ⊤
 MayBegin cut (Begun.One w) = HasRoom w
 MayBegin cut (Begun.Two v w) = HasRoom v × HasRoom w
 MayBegin cut (Begun.Each s) = (s.from + s.count ≤ max_clause_lines) × (cut < max_places)
+
+-- the literals that begin to wait are codes; where none do, the array may hold anything
+abbrev pub ReadsCodes : Begun → List ℕ → Type 0
+ReadsCodes Begun.Nothing words = ⊤
+ReadsCodes (Begun.One w) words = ⊤
+ReadsCodes (Begun.Two v w) words = ⊤
+ReadsCodes (Begun.Each s) words = (i : ℕ) → get_or words i 0 < code_limit
 
 -- A CHANGE: the tree that it makes of a tree, and what is so of one that the arrays have room for.
 abbrev pub codes_after : List ℕ → Change → List ℕ

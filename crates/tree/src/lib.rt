@@ -12,7 +12,7 @@ ghost use Rattle.tree.specs.State.{codes_of, AtMost, one_code, packed, cut_of, u
 ghost use Rattle.tree.specs.State.{AreCodes, HasPlace, IsAt, HasRoom, InLimits};
 ghost use Rattle.tree.specs.State.{codes_in, waiting_in, tree_of, Within};
 ghost use Rattle.tree.specs.Change.{no_literals, split_into, room_for, begun_of, begun_count};
-ghost use Rattle.tree.specs.Change.{MayBegin, Fits, Splits, Closes, Stored};
+ghost use Rattle.tree.specs.Change.{MayBegin, ReadsCodes, Fits, Splits, Closes, Stored};
 
 use clauses::Span;
 use tableau::{Place, Reason};
@@ -281,7 +281,7 @@ impl Tree {
     pub fn apply(&mut self, change: Change, literals: &[u32; clauses::WORDS])
         requires within { Within self.old }
         requires fits { Fits (codes_in self.old) (waiting_in self.old) change }
-        requires literals { (i : ℕ) → get_or literals.now i 0 < code_limit }
+        requires literals { ReadsCodes change.begun literals.now }
         ensures { Stored literals.now self.old change self.new }
     {
         self.len = Self::append(&mut self.branch, change.cut, change.adds);
@@ -295,7 +295,7 @@ impl Tree {
     }
 
     // The result is the new length.
-    fn append(branch: &mut [u32; Tree::PLACES], len: usize, a: Alternative) -> usize
+    pub fn append(branch: &mut [u32; Tree::PLACES], len: usize, a: Alternative) -> usize
         requires { AtMost 3 a × (len + a.count ≤ max_places) }
         ensures count { result ≡ len + a.count }
         ensures after { take result branch.new ≡ take len branch.old ++ codes_of a }
@@ -319,7 +319,7 @@ impl Tree {
     }
 
     // What begins to wait where the branch has `cut` literals. The result is the new count.
-    fn push(
+    pub fn push(
         waiting: &mut [u64; Tree::WAITING],
         kept: usize,
         cut: usize,
@@ -327,7 +327,7 @@ impl Tree {
         literals: &[u32; clauses::WORDS],
     ) -> usize
         requires room { (kept + begun_count begun ≤ max_waiting) × MayBegin cut begun }
-        requires bounded { (i : ℕ) → get_or literals.now i 0 < code_limit }
+        requires bounded { ReadsCodes begun literals.now }
         ensures count { result ≡ kept + begun_count begun }
         ensures after { take result waiting.new
             ≡ take kept waiting.old ++ reverse (begun_of literals.now cut begun) }

@@ -7,6 +7,7 @@ use Rattle.lines.proofs.FileSteps.{ahead_here, no_line_behind}
 use Rattle.terms.specs.Arrays.{arrays}
 use Rattle.freshness.specs.Prefixes.{PrefixRows}
 use Rattle.tree.specs.State.{codes_in, waiting_in}
+use Rattle.tree.proofs.Waiting.{reads_codes}
 use Rattle.line_checks.specs.Checks.{LineDone}
 use Rattle.line_checks.proofs.Results.{none_or}
 use Rattle.running.proofs.Lines.{check_fields, line_here}
@@ -72,7 +73,8 @@ pub apply-requires-clause-fits : goal.apply-requires-clause-fits
 apply-requires-clause-fits c = (done (goal.at.apply-requires-clause-fits c).In_ok-effect).done.follows.fits c.loop-at.invariant.within.waiting
 
 pub apply-requires-clause-literals : goal.apply-requires-clause-literals
-apply-requires-clause-literals c = (done (goal.at.apply-requires-clause-literals c).In_ok-effect).held.clauses.bounded
+apply-requires-clause-literals c =
+    reads_codes _ (done (goal.at.apply-requires-clause-literals c).In_ok-effect).held.clauses.bounded _
 
 pub loop-at-smaller : goal.loop-at-smaller
 loop-at-smaller c =

@@ -3,7 +3,7 @@ use Rattle.std.proofs.Common.{◌≡◌, ap, subst, ◌+◌, ◌-◌, ◌<◌, l
 use Rattle.std.proofs.lemmas.List.{take_more_set, append_assoc}
 use Rattle.clauses.proofs.Arrays.{all_set}
 use Rattle.tree.specs.State.{HasRoom}
-use Rattle.tree.specs.Change.{begun_count, MayBegin}
+use Rattle.tree.specs.Change.{begun_count, MayBegin, ReadsCodes}
 use Rattle.tree.proofs.Waiting.{each_more, one_packed}
 use Rattle.tree.proofs.Tree.push.Goals as goal
 
@@ -14,6 +14,7 @@ loop-i-preserved c =
     let end = c.in-Each.span.from + c.in-Each.span.count in
     let n : begun_count c.args.begun ≡ c.in-Each.span.count = ap begun_count c.in-Each.is in
     let begins = subst (MayBegin c.args.cut) c.in-Each.is c.requires.room.1 in
+    let codes = subst (λ b. ReadsCodes b c.args.literals.now) c.in-Each.is c.requires.bounded in
     let room : c.loop-i.count < length c.loop-i.waiting = omega arith in
     record {
       from = omega arith;
@@ -30,7 +31,7 @@ loop-i-preserved c =
           );
       stack = λ h k. all_set HasRoom c.loop-i.waiting c.loop-i.count c.pack.result (v.stack h)
           (rw (c.pack.ensures, c.one.ensures.1)
-          (one_packed c.args.literals.now c.requires.bounded c.args.cut begins.1 (i - 1))) k;
+          (one_packed c.args.literals.now codes c.args.cut begins.1 (i - 1))) k;
     }
 
 pub returns-after-loop-i-clause-count : goal.returns-after-loop-i-clause-count
