@@ -1,6 +1,7 @@
 -- What the blocks and rows come to: how literals and rounds change them, and what they say where
 -- nothing changes any more.
-use Rattle.std.specs.Prelude.{◌≡◌, Bool, true, false, List, ℕ, ◌+◌, ◌≤◌, eqb, length, map, Option, None, Some, is_none, IfSome}
+use Rattle.std.specs.Prelude.{◌≡◌, Bool, true, false, List, ℕ, ◌+◌, ◌≤◌, eqb, length, Option, None, Some, is_none}
+use Rattle.std.specs.Prelude.{map, IfSome}
 use Rattle.std.specs.List.{list_any}
 use Rattle.tableau.specs.declared.Relation.{Relation}
 use Rattle.tableau.specs.Terms.{TermNo, Table, Literal, literal}

@@ -1,6 +1,7 @@
 -- What a step makes of a tree, worked out from the codes of its branch and the packed alternatives
 -- that wait.
-use Rattle.std.specs.Prelude.{◌≡◌, Option, Some, None, Result, Ok, Err, IfOk, IfSome, List, [], ◌∷◌, ◌++◌, map, ℕ, ◌+◌, ◌≤◌, ◌<◌, length, take, reverse, get_or, if◌then◌else◌, nat_lt, ⊤}
+use Rattle.std.specs.Prelude.{◌≡◌, Option, Some, None, Result, Ok, Err, IfOk, IfSome, List, [], ◌∷◌, ◌++◌, map, ℕ, ◌+◌, ◌≤◌, ◌<◌, length, take, reverse, if◌then◌else◌, nat_lt, ⊤}
+use Rattle.std.specs.Prelude.{get_or}
 use Rattle.tableau.specs.declared.Reason.{Reason}
 use Rattle.tableau.specs.Terms.{Literal}
 use Rattle.tableau.specs.Tree as specification
@@ -37,7 +38,7 @@ MayBegin cut (Begun.One w) = HasRoom w
 MayBegin cut (Begun.Two v w) = HasRoom v × HasRoom w
 MayBegin cut (Begun.Each s) = (s.from + s.count ≤ max_clause_lines) × (cut < max_places)
 
--- the literals that begin to wait are codes; where none do, the array may hold anything
+-- where a span of the array begins to wait, its literals are codes; else it may hold anything
 abbrev pub ReadsCodes : Begun → List ℕ → Type 0
 ReadsCodes Begun.Nothing words = ⊤
 ReadsCodes (Begun.One w) words = ⊤

@@ -294,7 +294,8 @@ impl Tree {
         );
     }
 
-    // The result is the new length.
+    // The result is the new length. Code by code: a copy of a slice would make the library for C need
+    // memcpy from outside.
     pub fn append(branch: &mut [u32; Tree::PLACES], len: usize, a: Alternative) -> usize
         requires { AtMost 3 a × (len + a.count ≤ max_places) }
         ensures count { result ≡ len + a.count }

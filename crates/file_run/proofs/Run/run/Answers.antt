@@ -74,7 +74,8 @@ apply-requires-clause-fits c = (done (goal.at.apply-requires-clause-fits c).In_o
 
 pub apply-requires-clause-literals : goal.apply-requires-clause-literals
 apply-requires-clause-literals c =
-    reads_codes _ (done (goal.at.apply-requires-clause-literals c).In_ok-effect).held.clauses.bounded _
+    let after = done (goal.at.apply-requires-clause-literals c).In_ok-effect in
+    reads_codes _ after.held.clauses.bounded _
 
 pub loop-at-smaller : goal.loop-at-smaller
 loop-at-smaller c =
